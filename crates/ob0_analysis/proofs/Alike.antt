@@ -1,4 +1,5 @@
--- If two lists correspond item by item, they still do when each is extended by one corresponding item.
+-- Proves that two lists that correspond item by item still do after each is extended by one
+-- corresponding item.
 use Rattle.std.proofs.Common.{◌≡◌, ◌<◌, ◌+◌, ℕ, List, [], ◌∷◌, ◌++◌, length, take, get_or, map, add-one}
 use Rattle.std.proofs.lemmas.List.{map-append}
 use Rattle.std.proofs.Math.Seq.{take-suc}

@@ -1,10 +1,10 @@
--- If a changed text has lexical faults, the old tokens are returned, and all results for the old text still hold for
--- them.
+-- Proves that if a changed text has lexical faults, all results for the old text still hold for the
+-- old tokens, which are returned.
 use Rattle.std.proofs.Common.{ℕ, IfSome, List, Option, subst, sym}
-use Rattle.ob0_scan.specs.ScanRefusals.{IsRightRescanRefusal}
+use Rattle.ob0_scan.specs.ScanRefusals.{IsRightRescanFailure}
 use Rattle.ob0_scan.specs.TextWithTokens.{TextWithTokens}
-use Rattle.ob0_scan.specs.declared.incremental_scan.RescanRefusal.{RescanRefusal}
-use Rattle.ob0_scan.specs.declared.incremental_scan.RescanRefusal.TheVariants as rescanned
+use Rattle.ob0_scan.specs.declared.incremental_scan.RescanFailure.{RescanFailure}
+use Rattle.ob0_scan.specs.declared.incremental_scan.RescanFailure.TheVariants as rescanned
 use Rattle.ob0_parse.specs.KeptTreeTokens.{KeptTreesMatchTokens}
 use Rattle.ob0_parse.specs.declared.kept_trees.KeptTrees.{KeptTrees}
 use Rattle.ob0_parse_descent.specs.declared.refusal.ParseRefusal.{ParseRefusal}
@@ -20,7 +20,7 @@ use Rattle.ob0_analysis.specs.AnalysisInvariants.{IsRefusedByParser}
 use Rattle.ob0_analysis.specs.LastModule.{IsLastModuleOf}
 use Rattle.ob0_analysis.specs.declared.last_module.LastModule.{LastModule}
 
-pub refusal_given_back : (old : TextWithTokens) (text : List ℕ) (refusal : ParseRefusal) (kept : KeptTrees) (last : Option LastModule) (unread : RescanRefusal) → IsRightRescanRefusal old text unread
+pub refusal_given_back : (old : TextWithTokens) (text : List ℕ) (refusal : ParseRefusal) (kept : KeptTrees) (last : Option LastModule) (unread : RescanFailure) → IsRightRescanFailure old text unread
     → IsRefusedByParser old refusal → KeptTreesMatchTokens old.tokens kept → IfSome last (IsLastModuleOf old) → IsRightScanFailureAfterRefusal text refusal kept last unread
 refusal_given_back old text refusal kept last (rescanned.Faults faults tokens) by r k l = (
   by.0,
@@ -31,7 +31,7 @@ refusal_given_back old text refusal kept last (rescanned.Faults faults tokens) b
 )
 refusal_given_back old text refusal kept last rescanned.Memory by r k l = tt
 
-pub module_given_back : (old : TextWithTokens) (text : List ℕ) (tree : ModuleTree) (b : Bindings) (types : CheckResult) (unread : RescanRefusal) → IsRightRescanRefusal old text unread
+pub module_given_back : (old : TextWithTokens) (text : List ℕ) (tree : ModuleTree) (b : Bindings) (types : CheckResult) (unread : RescanFailure) → IsRightRescanFailure old text unread
     → TreeMatchesText (parsed_module old tree) → IsResolution (resolution_with_bindings (parsed_module old tree) b) → IsCheckResultOfModule (resolution_with_bindings (parsed_module old tree) b) types → IsRightScanFailureAfterModule text tree b types unread
 module_given_back old text tree b types (rescanned.Faults faults tokens) by p r t = (
   by.0,

@@ -1,4 +1,5 @@
--- The last text that was a module is still the last module after a further change of the text.
+-- Proves that the kept names and types of the last module are still right after a further change of
+-- the text.
 use Rattle.std.proofs.Common.{◌≡◌, ◌≤◌, ◌+◌, ◌-◌, ℕ, List, Some, take, drop, length, sym, ap, ◌∙◌, arith, length-drop}
 use Rattle.std.proofs.lemmas.List.{drop-drop, length-map, take-take}
 use Rattle.ob0_scan.specs.declared.lexeme.Token.{Token}

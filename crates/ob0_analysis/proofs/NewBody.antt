@@ -1,5 +1,5 @@
--- If a text differs from the previous one in one body, the rest of its module is the same. The
--- reason is that only one tree has this spelling.
+-- Proves that if a text differs from the previous text in only one body, the rest of its module is
+-- the same. The reason is that no two trees have the same spelling.
 use Rattle.std.proofs.Common.{◌≡◌, ◌<◌, ◌≤◌, ◌+◌, ◌-◌, ℕ, zero, suc, Bool, true, false, nat_lt, if◌then◌else◌, Option, Some, List, [], ◌∷◌, ◌++◌, map, take, drop, length, slice_get, refl, sym, ap, ◌∙◌, subst, arith, append_assoc, length-append, ⊎_elim}
 use Rattle.std.proofs.lemmas.List.{append_cancel_right, drop-drop, drop_at, map-append, take-take, take_at}
 use Rattle.std.proofs.lemmas.Bool.{le-ltb}

@@ -1,5 +1,5 @@
--- The spelling of statements, expressions and types contains no BEGIN. So the last BEGIN before a
--- token of a body belongs to that body.
+-- Proves that the spelling of statements, expressions and types contains no BEGIN. So the last
+-- BEGIN before a token of a body belongs to that body.
 use Rattle.std.proofs.Common.{◌≡◌, Bool, true, false, ◌||◌, Option, Some, None, List, [], ◌∷◌, ◌++◌, refl, sym, ap, ◌∙◌}
 use Rattle.ob0_scan.specs.declared.lexeme.TokenKind.{TokenKind}
 use Rattle.ob0_scan.specs.declared.lexeme.TokenKind.TheVariants as kind

@@ -1,5 +1,5 @@
--- If a text differs from the previous one in only one body, the old bindings and the old results for types can be
--- reused.
+-- Proves that the bindings and types of the previous text can be reused if the text differs from it
+-- in only one body.
 use Rattle.std.proofs.Common.{◌≡◌, ◌<◌, ◌≤◌, ℕ, zero, suc, ◌+◌, ◌-◌, ◌||◌, Bool, true, false, nat_le, nat_lt, List, [], ◌∷◌, length, take, drop, slice_get, refl, sym, ap, ◌∙◌, arith, length-drop}
 use Rattle.std.proofs.lemmas.Bool.Decides.{nat_tests}
 use Rattle.std.proofs.lemmas.List.{length-map}

@@ -1,4 +1,5 @@
--- Extending a known common prefix or suffix of two texts by one equal piece gives a longer one.
+-- Proves that extending a common prefix or suffix of two texts by one equal piece gives a longer
+-- common prefix or suffix.
 use Rattle.std.proofs.Common.{◌≡◌, ◌∙◌, ◌+◌, ◌-◌, ◌≤◌, ℕ, zero, suc, List, [], ◌∷◌, ◌++◌, length, take, drop, refl, sym, ap, arith}
 use Rattle.std.proofs.lemmas.List.{take-append-drop, drop-drop}
 

@@ -1,4 +1,5 @@
--- A text has only one refusal by the parser and only one report of it.
+-- Proves that the parser refuses a text in only one way, and that its refusal is reported in only
+-- one way.
 use Rattle.std.proofs.Common.{◌≡◌, ℕ, [], ◌∷◌, sym, ◌∙◌, ap, subst}
 use Rattle.ob0_scan.specs.TextWithTokens.{TextWithTokens}
 use Rattle.ob0_parse_descent.specs.Descent.{DescentEndIsUnique, Expects, TooDeepAt}

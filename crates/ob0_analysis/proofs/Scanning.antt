@@ -1,4 +1,5 @@
--- A text is a well-typed module, or has errors, according to what the scanner, the parser and the checks found.
+-- Proves that a text is a well-typed module or has errors, from the results of the scanner, the
+-- parser and the checks.
 use Rattle.std.proofs.Common.{◌≡◌, ◌⊎◌, ◌<◌, ◌∙◌, ◌+◌, ◌++◌, ◌∷◌, ℕ, List, [], length, drop, map, encode_utf8_all, inl, inr, refl, sym, ap, subst, arith}
 use Rattle.std.proofs.lemmas.List.{take-append-drop}
 use Rattle.std.specs.Str.{chars, IsUtf8}
@@ -17,7 +18,7 @@ use Rattle.ob0_tree.specs.ParsedModule.{ParsedModule, named_tree_of}
 use Rattle.ob0_types.specs.CheckedModules.{CheckedModule, IsCorrectlyChecked, IsWellTyped}
 use Rattle.ob0_language_types.specs.WellTyped.{WellTyped}
 use Rattle.ob0_analysis.specs.AnalysisAnswers.{IsResolvedWellTypedModule}
-use Rattle.ob0_analysis.specs.AnalysisInvariants.{IsNotLackOfMemory}
+use Rattle.ob0_analysis.specs.AnalysisInvariants.{IsNotMemoryRefusal}
 use Rattle.ob0_analysis.specs.ReportedErrors.{ReportedDiagnosis, IsWellTypedModule, IsDiagnosisOfRefusal, ReportsErrorsOf, ReportsErrorsOfInvalidText, reported_diagnosis_of_fault}
 use Rattle.ob0_analysis.specs.TextBytes.{utf8}
 
@@ -51,7 +52,7 @@ unformed s i one scan h w =
 pub no_lexemes_is_none : (text : List ℕ) → (IsScannable text → ⊥) → IsWellTypedModule text → ⊥
 no_lexemes_is_none text bad w = bad (scannable text w)
 
-pub refused_is_none : (s : TextWithTokens) (refusal : ParseRefusal) → OneScan → IsScan s → IsRightParseRefusal s refusal → IsNotLackOfMemory refusal → IsWellTypedModule s.text → ⊥
+pub refused_is_none : (s : TextWithTokens) (refusal : ParseRefusal) → OneScan → IsScan s → IsRightParseRefusal s refusal → IsNotMemoryRefusal refusal → IsWellTypedModule s.text → ⊥
 refused_is_none s (Syntax i expected) one scan by decided = unformed s i one scan by.1
 refused_is_none s (TooDeep i) one scan by decided = unformed s i one scan by.1
 refused_is_none s Memory one scan by decided = absurd decided

@@ -1,4 +1,5 @@
--- The tokens around a body to which a way leads. The way is unchanged if the body is left out or if tokens are moved.
+-- Proves which tokens are around the body at a path. Also proves that the path is unchanged if the
+-- body is left out or if tokens are moved.
 use Rattle.std.proofs.Common.{◌≡◌, ℕ, zero, suc, nat_lt, if◌then◌else◌, List, [], ◌∷◌, ◌++◌, refl, sym, ap, ◌∙◌, append_assoc}
 use Rattle.ob0_scan.specs.declared.lexeme.TokenKind.TheVariants as kind
 use Rattle.ob0_scan.specs.declared.lexeme.ReservedWord.TheVariants as reserved

@@ -16,15 +16,15 @@ use Rattle.ob0_analysis.specs.declared.scanned_text.ParseOutcome.{ParseOutcome}
 use Rattle.ob0_analysis.specs.declared.scanned_text.ParseOutcome.TheVariants.{NoTree, Module}
 
 -- States that the refusal isn't `Memory`, a failed allocation.
-abbrev pub IsNotLackOfMemory : ParseRefusal → Type 0
-IsNotLackOfMemory (Syntax token expected) = Unit {0}
-IsNotLackOfMemory (TooDeep token) = Unit {0}
-IsNotLackOfMemory Memory = ⊥
+abbrev pub IsNotMemoryRefusal : ParseRefusal → Type 0
+IsNotMemoryRefusal (Syntax token expected) = Unit {0}
+IsNotMemoryRefusal (TooDeep token) = Unit {0}
+IsNotMemoryRefusal Memory = ⊥
 
 -- States that the parser refuses these tokens with this refusal, and that the refusal isn't
 -- `Memory`, a failed allocation.
 abbrev pub IsRefusedByParser : TextWithTokens → ParseRefusal → Type 0
-IsRefusedByParser tokens refusal = IsRightParseRefusal tokens refusal × IsNotLackOfMemory refusal
+IsRefusedByParser tokens refusal = IsRightParseRefusal tokens refusal × IsNotMemoryRefusal refusal
 
 -- Returns the text that was parsed.
 abbrev pub text_of_parse_outcome : ParseOutcome → List ℕ

@@ -6,10 +6,10 @@ use Rattle.ob0_scan.specs.declared.tokens.CommonPrefixAndSuffix.{CommonPrefixAnd
 use Rattle.ob0_scope_table.specs.declared.one_body.BodyBounds.{BodyBounds}
 
 -- States that two bodies are the same body. One is in the earlier module, with the bounds `was`.
--- The other is in the current module, with the bounds `now`. `s` determines which tokens may
--- differ. The body's first identifier is at the same token index in both modules, before the tokens
--- that may differ. The closing name of its block is at the same distance after these tokens in both
--- modules. This is false if `now` is None.
+-- The other is in the current module, with the bounds `now`. `s` says which tokens may differ. The
+-- body's first identifier is at the same token index in both modules, before the tokens that may
+-- differ. The closing name of its block is at the same distance after these tokens in both modules.
+-- If `now` is None, this is false.
 pub record IsSameBody (was : BodyBounds) (now : Option BodyBounds) (s : CommonPrefixAndSuffix) : Type 0 where
   pub place : BodyBounds
   pub is : now ≡ Some place

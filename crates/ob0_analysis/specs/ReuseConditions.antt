@@ -6,8 +6,8 @@ use Rattle.ob0_scan.specs.ScanRefusals.{AreFaultsOfRefusedText}
 use Rattle.ob0_scan.specs.ReusedLexemes.{token_kinds_without_values, spellings_of_identifiers_in, words_of_tokens}
 use Rattle.ob0_scan.specs.SamePrefixAndSuffix.{PrefixAndSuffixHaveSameKinds, PrefixAndSuffixHaveSameWords}
 use Rattle.ob0_scan.specs.TextWithTokens.{IsScan, IsScannable, TextWithTokens}
-use Rattle.ob0_scan.specs.declared.incremental_scan.RescanRefusal.{RescanRefusal}
-use Rattle.ob0_scan.specs.declared.incremental_scan.RescanRefusal.TheVariants as rescanned
+use Rattle.ob0_scan.specs.declared.incremental_scan.RescanFailure.{RescanFailure}
+use Rattle.ob0_scan.specs.declared.incremental_scan.RescanFailure.TheVariants as rescanned
 use Rattle.ob0_scan.specs.declared.tokens.RescanWithComparison.{RescanWithComparison}
 use Rattle.ob0_tree.specs.declared.tree.ModuleTree.{ModuleTree}
 use Rattle.ob0_tree.specs.ParsedModule.{TreeMatchesText, parsed_module}
@@ -60,7 +60,7 @@ abbrev pub IsRightScanFailureAfterRefusal : List ℕ
     → ParseRefusal
     → KeptTrees
     → Option LastModule
-    → RescanRefusal
+    → RescanFailure
     → Type 0
 IsRightScanFailureAfterRefusal text refusal kept_trees last (rescanned.Faults faults tokens) =
     (IsScannable text → ⊥)
@@ -78,7 +78,7 @@ abbrev pub IsRightScanFailureAfterModule : List ℕ
     → ModuleTree
     → Bindings
     → CheckResult
-    → RescanRefusal
+    → RescanFailure
     → Type 0
 IsRightScanFailureAfterModule text tree b types (rescanned.Faults faults tokens) =
     (IsScannable text → ⊥)

@@ -6,10 +6,10 @@
 //! - For a text with lexical faults, an `UnscannableTextAnalysis`. It has the text, its faults and,
 //!   if it is kept, the `ScannedTextAnalysis` of the last text without lexical faults.
 //!
-//! In contracts, the value of an `Analysis` is only the text. Its invariant says that the analysis
-//! is right for that text (`IsValidAnalysisResult`, `IsValidParseOutcome`). So `analyse_text` and
-//! `reanalyse` have the same `ensures` clause, which doesn't mention the results that are reused.
-//! The crates that use an `Analysis` don't depend on how much is reused.
+//! In contracts, the value of an `Analysis` is only the text. The invariant of `Analysis` says that
+//! the analysis is right for that text (`IsValidAnalysisResult`, `IsValidParseOutcome`). So
+//! `analyse_text` and `reanalyse` have the same `ensures` clause, which doesn't mention the results
+//! that are reused. The crates that use an `Analysis` don't depend on how much is reused.
 //!
 //! `reanalyse` finds the common beginning and end of the old and the new text
 //! (`TextDifference::between`). It scans only the rest, and replaces the old tokens there
@@ -34,14 +34,14 @@
 //! If all tokens have the same spelling (`words_of_tokens`), for example after a change of blanks,
 //! line endings or comments, everything is kept. The tree has the same names and numbers, and the
 //! places of the kept faults are token indexes (`bindings_depend_only_on_spellings` of `ob0_scope`,
-//! `check_result_depends_only_on_spellings` of `ob0_types`). Faults get their spans only when they
-//! are asked for.
+//! `check_result_depends_only_on_spellings` of `ob0_types`). The faults get their spans only when
+//! the errors of the text are requested.
 //!
 //! If a new text has lexical faults, all results for the last text without lexical faults are kept.
-//! This is possible because a failing scan returns the old tokens (`IsRightRescanRefusal`). The
+//! This is possible because a failing scan returns the old tokens (`IsRightRescanFailure`). The
 //! next successful scan starts from these tokens, after any number of texts with lexical faults. So
-//! if a bad character is typed and removed, nothing is lost. If the previous text or an earlier one
-//! was much longer than the new one (`MAX_SPARE_BYTES`, `room`), nothing is kept.
+//! if a bad character is typed and removed, nothing is lost. If the new text is much shorter than
+//! the previous text or an earlier one (`MAX_SPARE_BYTES`, `room`), nothing is kept.
 
 ghost use Rattle.std.specs.Prelude.{◌≡◌, ◌≤◌, IfErr, IfOk, MatchOption, length, map};
 ghost use Rattle.std.specs.Str.{IsUtf8};
@@ -57,8 +57,8 @@ use ob0_scan::{Fault, ScanRefusal, scan};
 use std::alloc::{AllocError, Global};
 use std::marker::Model;
 
-/// An old analysis is dropped if its lists have room for much more than the new text: if half of
-/// `Analysis::room` exceeds the new text's length by more than this number of bytes.
+/// Limits the spare room, in bytes, of an old analysis. If half of its `room` exceeds the new
+/// text's length by more than this number, the analysis is dropped and nothing of it is reused.
 const MAX_SPARE_BYTES: usize = 4096;
 
 /// The analysis of a text with lexical faults: the text, its lexical faults, and the analysis of
@@ -83,9 +83,9 @@ pub(crate) enum AnalysisResult {
 /// earlier results answers like one from scratch.
 pub struct Analysis {
     outcome: AnalysisResult,
-    /// The number of bytes of text for which the lists of this analysis may have room. It is the
-    /// length of the longest text, among this text and earlier ones, for which these lists were
-    /// used. (Reused lists keep their capacity.) If the analysis has no such lists, `room` is 0.
+    /// The length, in bytes, of the longest text for which the lists of this analysis were used:
+    /// this text or an earlier one. The lists may have room for that much text, because reused
+    /// lists keep their capacity. If a text with lexical faults has no kept analysis, `room` is 0.
     room: usize,
 }
 
@@ -142,7 +142,7 @@ impl Analysis {
     /// Analyses the changed text `text`, and reuses results for the parts that the old and the new
     /// text have in common (`ScannedTextAnalysis::reanalyse`). If the new text has lexical faults,
     /// the results for the last text without lexical faults are kept. If an earlier text was much
-    /// longer than the new text, nothing is reused or kept.
+    /// longer than the new text, nothing is reused or kept. Fails only if an allocation fails.
     pub fn reanalyse(self, alloc: Global, text: &str) -> Result<Analysis, AllocError>
         ensures { IfOk result (λ a. a ≡ text.now) }
     {
@@ -242,7 +242,8 @@ impl Analysis {
         }
     }
 
-    /// Returns the errors of the text. There are none exactly if the text is a well-typed module.
+    /// Returns the errors of the text. The list is empty exactly if the text is a well-typed
+    /// module.
     /// - If the text has lexical faults, the errors are the first hundred lexical faults, in text
     ///   order.
     /// - If the text has no lexical faults and the parser refuses it, the only error is the

@@ -20,10 +20,10 @@ impl TextDifference {
         ensures { ReplacesRange old.now new.now result.start result.removed result.added }
     {
         let (old, new) = (old.as_bytes(), new.as_bytes());
-        let known = extend_common_prefix(old, new, 0, COMPARISON_BLOCK_SIZE);
+        let known = extend_common_prefix(old, new, 0, COMPARISON_BLOCK_BYTES);
         let start = extend_common_prefix(old, new, known, 1);
         let most = (old.len() - start).min(new.len() - start);
-        let known = extend_common_suffix(old, new, most, 0, COMPARISON_BLOCK_SIZE);
+        let known = extend_common_suffix(old, new, most, 0, COMPARISON_BLOCK_BYTES);
         let following = extend_common_suffix(old, new, most, known, 1);
         TextDifference {
             start,
@@ -35,7 +35,7 @@ impl TextDifference {
 
 /// The size, in bytes, of the pieces in which two texts are compared. The first piece that differs
 /// or isn't full is compared byte by byte.
-const COMPARISON_BLOCK_SIZE: usize = 256;
+const COMPARISON_BLOCK_BYTES: usize = 256;
 
 /// Extends a common prefix of two texts, which has `known` bytes, by as many equal pieces of `size`
 /// bytes as possible. Returns the length of the extended prefix, in bytes.

@@ -102,7 +102,8 @@ impl LastModule {
 /// Extends the range of tokens that may differ (`same.prefix..same.old_suffix`) to the whole body
 /// `body` of the old text. The extended range begins after the body's first identifier and ends
 /// before the END of its block. Returns None if a token that may differ lies outside the extended
-/// range, or if this range would end after the current text's `count` tokens.
+/// range. Also returns None if, in the current text, the extended range would end after the last of
+/// the `count` tokens.
 fn widen_difference_to_body(
     same: CommonPrefixAndSuffix,
     body: BodyBounds,

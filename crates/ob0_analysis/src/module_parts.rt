@@ -1,11 +1,11 @@
 //! Keeps a module with all results of its analysis.
 //!
 //! A *view* (`Module`, `Resolved`, `Checked`) has one part of the results and a reference to the
-//! view of the layer below. The view's invariant says that the part is right for the layer below.
-//! A view's constructors require this invariant. `Module` and `Resolved` have `new`, which owns the
-//! part. Each view has `from_parts`, which borrows the part. Only the one of `Checked` allocates: it
-//! makes a list of the faults with their spans. In contracts, a `ModuleParts` has the same value as
-//! its `Resolved` view.
+//! view of the layer below. The view's invariant says that the part is right for the layer below. A
+//! view's constructors require this invariant. `Module` and `Resolved` have a constructor `new`,
+//! which takes ownership of the part. Each view has a constructor `from_parts`, which borrows the
+//! part. Only `Checked::from_parts` allocates: it makes a list of the faults with their spans. In
+//! contracts, a `ModuleParts` has the same value as its `Resolved` view.
 
 ghost use Rattle.std.specs.Prelude.{◌≡◌, IfOk};
 ghost use Rattle.ob0_tree.specs.ParsedModule.{TreeMatchesText, parsed_module};

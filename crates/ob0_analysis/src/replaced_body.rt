@@ -44,8 +44,8 @@ pub(crate) fn reuse_last_module(
     if !is_same_body(place, now, same) {
         return ModuleParts::bind_and_check(alloc, tokens, tree);
     }
-    let names = bind_new_body(alloc, &tokens, &tree, bindings, same)?;
-    let types = check_new_body(alloc, &tokens, &tree, &names, types, same)?;
+    let names = bind_names_in_new_body(alloc, &tokens, &tree, bindings, same)?;
+    let types = check_types_in_new_body(alloc, &tokens, &tree, &names, types, same)?;
     Ok(ModuleParts::from_parts(tokens, tree, names, types))
 }
 
@@ -77,7 +77,7 @@ fn is_same_body(was: BodyBounds, now: Option<BodyBounds>, same: CommonPrefixAndS
 /// Binds the names of the body that contains all differences from the earlier module. Reuses the
 /// bindings of all other names from the earlier module (`bindings`). `same` describes the tokens
 /// that both modules share. Fails only if an allocation fails.
-fn bind_new_body(
+fn bind_names_in_new_body(
     alloc: Global,
     tokens: &Tokens,
     tree: &ModuleTree,
@@ -97,7 +97,7 @@ fn bind_new_body(
 /// Checks the types of the body that contains all differences from the earlier module. Reuses all
 /// other types from the earlier module (`types`). `same` describes the tokens that both modules
 /// share. Fails only if an allocation fails.
-fn check_new_body(
+fn check_types_in_new_body(
     alloc: Global,
     tokens: &Tokens,
     tree: &ModuleTree,

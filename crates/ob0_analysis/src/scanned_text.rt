@@ -28,7 +28,7 @@ use ob0_parse::{KeptTrees, reparse_tree};
 use ob0_parse_descent::ParseRefusal;
 use ob0_scan::laws::scan_is_unique;
 use ob0_scan::{
-    CommonPrefixAndSuffix, Fault, RescanRefusal, RescanWithComparison, Tokens, rescan_in_place,
+    CommonPrefixAndSuffix, Fault, RescanFailure, RescanWithComparison, Tokens, rescan_in_place,
 };
 use ob0_scope::laws::{bindings_depend_only_on_names, bindings_depend_only_on_spellings};
 use ob0_scope_table::Bindings;
@@ -149,11 +149,12 @@ impl ScannedTextAnalysis {
     }
 
     /// Analyses the changed text `text`. These results for the previous text are reused:
-    /// - always the tokens and the trees of procedures that both texts have in common;
-    /// - if all tokens have the same kinds as before, the tree or the parser's refusal;
-    /// - if also all identifiers have the same spelling and no name has a fault, the bindings;
-    /// - if all differences lie in one body, the bindings and types outside this body;
-    /// - if all tokens have the same spelling, everything.
+    /// - always: the tokens and the trees of procedures that both texts have in common;
+    /// - if all tokens have the same kinds as before: the tree or the parser's refusal;
+    /// - if in addition all identifiers have the same spelling and no name has a fault: the
+    ///   bindings;
+    /// - if all differences lie in one body: the bindings and types outside this body;
+    /// - if all tokens have the same spelling: everything.
     ///
     /// If the new text has lexical faults, the error has these faults and the analysis of the
     /// previous text.
@@ -211,7 +212,7 @@ impl ScannedTextAnalysis {
     /// text. If the reason is lexical faults, the error also has the analysis of the previous text.
     fn reanalysis_failure_after_refusal(
         _text: &str,
-        unread: RescanRefusal,
+        unread: RescanFailure,
         refusal: ParseRefusal,
         kept: KeptTrees,
         last: Option<LastModule>,
@@ -220,7 +221,7 @@ impl ScannedTextAnalysis {
         ensures { IsRightReanalysisFailure _text.now result }
     {
         match unread {
-            RescanRefusal::Faults(faults, tokens) => {
+            RescanFailure::Faults(faults, tokens) => {
                 let before = ScannedTextAnalysis {
                     parse_outcome: ParseOutcome::NoTree(UnparsableText {
                         tokens,
@@ -231,7 +232,7 @@ impl ScannedTextAnalysis {
                 };
                 ReanalysisFailure::Faults(faults, before)
             }
-            RescanRefusal::Memory => ReanalysisFailure::Memory,
+            RescanFailure::Memory => ReanalysisFailure::Memory,
         }
     }
 
@@ -309,7 +310,7 @@ impl ScannedTextAnalysis {
     /// If the reason is lexical faults, the error also has the analysis of that module.
     fn reanalysis_failure_after_module(
         _text: &str,
-        unread: RescanRefusal,
+        unread: RescanFailure,
         tree: ModuleTree,
         bindings: Bindings,
         types: CheckResult,
@@ -318,11 +319,11 @@ impl ScannedTextAnalysis {
         ensures { IsRightReanalysisFailure _text.now result }
     {
         match unread {
-            RescanRefusal::Faults(faults, tokens) => {
+            RescanFailure::Faults(faults, tokens) => {
                 let last = ModuleParts::from_parts(tokens, tree, bindings, types);
                 ReanalysisFailure::Faults(faults, ScannedTextAnalysis::from_module(last))
             }
-            RescanRefusal::Memory => ReanalysisFailure::Memory,
+            RescanFailure::Memory => ReanalysisFailure::Memory,
         }
     }
 

@@ -1,4 +1,5 @@
--- Proves that the needs of a subcommand follow from its name, because the names differ.
+-- Proves which values a subcommand needs, given its name. The proof uses that the names of the
+-- subcommands differ.
 use Rattle.std.proofs.Common.{◌≡◌, ◌∙◌, ℕ, List, false, true, length, get_or, codes, sym, ap, inl, inr, arith}
 use Rattle.std.specs.Str.{bytes_eq}
 use Rattle.std.proofs.lemmas.Slice.Eq.{bytes_eq-Decides}

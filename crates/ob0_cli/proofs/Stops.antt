@@ -1,4 +1,5 @@
--- Proves that a walk without a fault never stops at `help`, if `help` is a subcommand.
+-- Proves that clap's walk over words without a fault never stops at `help`, if `help` is a
+-- subcommand.
 use Rattle.std.proofs.Common.{◌≡◌, ◌&&◌, Bool, true, false, not, List, [], ◌∷◌, ℕ, is_some, Option, Some, None, codes, refl}
 use Rattle.std.specs.Prelude.{fold, if◌then◌else◌}
 use Rattle.std.specs.Str.{bytes_eq}

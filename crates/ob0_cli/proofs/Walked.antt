@@ -1,5 +1,5 @@
--- Proves laws about the rows that a walk without a fault leaves for the arguments of a simple
--- command.
+-- Proves laws about the rows that clap's walk over words without a fault leaves for the arguments
+-- of a simple command.
 use Rattle.std.proofs.Common.{zero, suc, ◌≡◌, ◌&&◌, ℕ, Bool, true, false, List, [], ◌∷◌, length, is_some, Option, Some, None, refl}
 use Rattle.std.specs.Prelude.{find, fold, if◌then◌else◌, drop, encode_utf8, slice_get}
 use Rattle.std.specs.Option.{option_map_or}

@@ -178,8 +178,8 @@ pub enum CommandFault {
     Memory,
 }
 
-/// Returns the command that is requested by the words of a command line, or the reason why they
-/// request no command. The first word is the program's name.
+/// Returns the command that the words of a command line request, or the reason why they request no
+/// command. The first word is the program's name.
 pub fn command<'a>(alloc: Global, words: &'a [&'a str]) -> Result<CommandLine<'a>, CommandFault>
     ensures gives { IfOk result (SpellsCommand (map (λ w. w.now) words.entry.now)) }
     ensures refuses { IfErr result (MayBeRefusedWithFault (map (λ w. w.now) words.entry.now)) }

@@ -1,5 +1,6 @@
--- Proves the loop that reads numbers: the numbers read so far, followed by the numbers of the rest, are the numbers of
--- the text. The rest is a list of numbers if the text is one.
+-- Proves the invariant of the loop that reads numbers: the numbers read so far, followed by the
+-- numbers of the rest, are the numbers of the text. If the text is a list of numbers, the rest is
+-- also one.
 use Rattle.std.proofs.Common.{◌≡◌, ◌∙◌, ℕ, ◌+◌, ◌-◌, ◌<◌, ◌≤◌, suc, Bool, true, false, List, [], ◌∷◌, ◌++◌, ℤ, length, drop, take, refl, sym, ap, subst, append_assoc, append-nil, arith, IsTrue, slice_index}
 use Rattle.std.specs.List.{position_or_len, slice_range}
 use Rattle.std.proofs.Math.Seq.{drop-cons}

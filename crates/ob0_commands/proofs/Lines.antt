@@ -1,4 +1,5 @@
--- Proves laws about lines that are made from a list of diagnostics and a list of positions.
+-- Proves that the loop over diagnostics and their positions makes the lines that report these
+-- diagnostics.
 use Rattle.std.proofs.Common.{◌≡◌, ℕ, ◌<◌, zero, suc, min, List, [], ◌∷◌, ◌++◌, codes, length, drop, map, get_or, refl, ap, ap₂, sym, ◌∙◌, arith, append_assoc, append-nil}
 use Rattle.std.specs.Fmt.{digits}
 use Rattle.std.specs.Str.{chars}

@@ -1,5 +1,5 @@
--- Proves that a text is printed only if the edits put the name into the file's text. If the name is refused, no text is
--- printed.
+-- Proves that `rename` prints a text only if the edits put the new name into the file's text. If
+-- the renaming is refused, no text is printed.
 use Rattle.std.proofs.Common.{◌≡◌, ◌∙◌, ◌≤◌, ℕ, List, Option, Some, Result, Ok, Err, Vec, Global, length, subst}
 use Rattle.std.proofs.lemmas.Str.{encodes-chars}
 use Rattle.std.specs.Str.{IsUtf8, chars}
@@ -11,7 +11,7 @@ use Rattle.ob0_text.specs.declared.refusals.EditRefusal.{EditRefusal}
 use Rattle.ob0_scan.specs.TextWithTokens.{IsScanOf, TextWithTokens, max_text_length}
 use Rattle.ob0_analysis.specs.TextBytes.{utf8}
 use Rattle.ob0_edits.specs.Renamings.{IsOptionalRenameResult}
-use Rattle.ob0_commands.specs.RenameOutput.{IsErrAndPrintsRefusal, IsOkAndPrintsPatchedText, PrintsRenamedText, RefusesName}
+use Rattle.ob0_commands.specs.RenameOutput.{IsErrAndPrintsRefusal, IsOkAndPrintsPatchedText, PrintsRenamedText, RefusesRenaming}
 use Rattle.ob0_commands.specs.Statuses.{IsTextFile}
 
 -- A scanned text isn't too long.
@@ -38,6 +38,6 @@ prints_renamed text place new (Ok edits) before after u h p = record { has_text 
 prints_renamed text place new (Err refusal) before after u h p = absurd p
 
 pub refuses_name : (text : List ℕ) (place : Position) (new : List ℕ) (outcome : Result (Vec Edit Global) EditRefusal) (before after : Option (List ℕ))
-    → IsUtf8 text → IsOptionalRenameResult Utf16 (chars text) place new (Some outcome) → (IsPrintedOnStderr : Option (List ℕ) → Type 0) → IsErrAndPrintsRefusal outcome IsPrintedOnStderr → after ≡ before → RefusesName text place new before after IsPrintedOnStderr
+    → IsUtf8 text → IsOptionalRenameResult Utf16 (chars text) place new (Some outcome) → (IsPrintedOnStderr : Option (List ℕ) → Type 0) → IsErrAndPrintsRefusal outcome IsPrintedOnStderr → after ≡ before → RefusesRenaming text place new before after IsPrintedOnStderr
 refuses_name text place new (Ok edits) before after u h IsPrintedOnStderr p e = absurd p
 refuses_name text place new (Err refusal) before after u h IsPrintedOnStderr p e = record { has_text = text_file text h.names.module_read.source u h.read.scan; refusal = refusal; refused = h; nothing = e; said = p }

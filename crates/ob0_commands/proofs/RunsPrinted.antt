@@ -1,5 +1,5 @@
--- Proves that the output printed for the run of a text is the output for the run of the file with
--- that text.
+-- Proves that if the run of a file's text is printed, the run of the file is printed. Also proves
+-- which end of the run each status means.
 use Rattle.std.proofs.Common.{◌≡◌, ◌≢◌, ℕ, ℤ, Bool, List, Option, None, Result, Ok, Err, IfOk, IfSome, OnOk, inl, inr, refl, subst, arith}
 use Rattle.std.specs.Io.KnownBytes.{Appends}
 use Rattle.ob0_analysis.specs.ReportedErrors.{IsWellTypedModule}

@@ -1,4 +1,4 @@
--- Proves laws about how much is read from a reader.
+-- Proves an upper bound for the number of bytes that two reads, one after the other, consume.
 use Rattle.std.proofs.Common.{◌≤◌, ℕ, ◌+◌, List, ◌++◌, Option, length, length-append, arith}
 use Rattle.std.specs.Io.KnownBytes.{Consumes}
 use Rattle.std.proofs.KnownBytes.{Consumes-trans}

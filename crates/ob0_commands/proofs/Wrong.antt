@@ -1,4 +1,5 @@
--- Proves that the lines printed for a text are the lines for its file.
+-- Proves that if a text has the bytes of a file, the error lines printed for the text are the error
+-- lines of the file.
 use Rattle.std.proofs.Common.{◌≡◌, ◌∙◌, ℕ, List, [], ◌∷◌, Option, false, nat_eq, length, map, encode_utf8_all, inl, inr, ap, subst}
 use Rattle.std.proofs.lemmas.Str.{encodes-chars}
 use Rattle.std.specs.Io.KnownBytes.{Appends}

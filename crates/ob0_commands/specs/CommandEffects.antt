@@ -10,7 +10,7 @@ use Rattle.ob0_cli.specs.declared.line.CommandLine.{CommandLine}
 use Rattle.ob0_cli.specs.declared.line.CommandLine.TheVariants.{Serve, Check, Run, Rename}
 use Rattle.ob0_commands.specs.CommandEndings.{EndsByFault, EndsWithoutFault}
 use Rattle.ob0_commands.specs.InputReaders.{ConsumesAtMost}
-use Rattle.ob0_commands.specs.InputNumbers.{max_input_length}
+use Rattle.ob0_commands.specs.InputNumbers.{max_input_bytes}
 use Rattle.ob0_commands.specs.PrintedTexts.{PrintsDiagnostics}
 use Rattle.ob0_commands.specs.RenameOutput.{RenameEndsWithoutFault}
 use Rattle.ob0_commands.specs.Statuses.{IsShortNonUtf8File, KeepsInputFailureUnlessInputFault, FaultMayStopCommandOnFile, FaultMayStopRun}
@@ -63,7 +63,7 @@ RunsFile contents is_flushed has_failed before after IsPrintedOnStderr file rema
 
 -- States that `rename` ends with this status. With status 0, the file's text is printed, with the
 -- declaration or field at `position` renamed to `new`. With status 1, the file's errors are printed
--- or the new name is refused. With any other status, a fault ended the command (`EndsByFault`).
+-- or the renaming is refused. With any other status, a fault ended the command (`EndsByFault`).
 abbrev pub RenamesInFile : {O : Type 0}
     → (contents : O → Option (List ℕ))
     → (is_flushed has_failed : O → Bool)
@@ -83,7 +83,7 @@ RenamesInFile contents is_flushed has_failed before after IsPrintedOnStderr file
 -- States that the command of this command line ends with this status and has the effect that
 -- `ChecksFile`, `RunsFile` or `RenamesInFile` describes. `input` and `input_after` are the input
 -- before and after the command. Only `run` reads from the input, and it reads at most
--- `max_input_length` + 1 bytes. If the file isn't a well-typed module, `run` reads nothing. For
+-- `max_input_bytes` + 1 bytes. If the file isn't a well-typed module, `run` reads nothing. For
 -- `serve`, which isn't a command on a file, this never holds.
 abbrev pub PerformsCommandOnFile : {O I : Type 0}
     → (contents : O → Option (List ℕ))
@@ -103,7 +103,7 @@ PerformsCommandOnFile contents is_flushed has_failed before after IsPrintedOnStd
     ChecksFile contents is_flushed has_failed before after IsPrintedOnStderr file status × (input_after ≡ input)
 PerformsCommandOnFile contents is_flushed has_failed before after IsPrintedOnStderr file remaining input_failed input input_after (Run path c t) status =
     RunsFile contents is_flushed has_failed before after IsPrintedOnStderr file remaining input_failed input input_after c t status
-    × ConsumesAtMost (suc max_input_length) (remaining input) (remaining input_after)
+    × ConsumesAtMost (suc max_input_bytes) (remaining input) (remaining input_after)
     × (¬ IsWellTypedModule file → input_after ≡ input)
 PerformsCommandOnFile contents is_flushed has_failed before after IsPrintedOnStderr file remaining input_failed input input_after (Rename path position new) status =
     RenamesInFile contents is_flushed has_failed before after IsPrintedOnStderr file position new.now status

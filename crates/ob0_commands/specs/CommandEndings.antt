@@ -10,7 +10,7 @@
 -- Rule: docs/PROTOCOL.md, The program 5 to 8.
 use Rattle.std.specs.Prelude.{◌≡◌, ◌≤◌, ℕ, List, Option, Some, Bool}
 use Rattle.ob0_commands.specs.PrintedTexts.{fault_line}
-use Rattle.ob0_commands.specs.Statuses.{MemoryFaultImpliesShortFile, OutputFailureMatchesFault, PrintsNothingUnlessWriteFault, status_of}
+use Rattle.ob0_commands.specs.Statuses.{MemoryFaultImpliesShortFile, OutputFailureMatchesFault, PrintsNothingUnlessWriteFault, exit_status_of_fault}
 use Rattle.ob0_commands.specs.declared.faults.FileCommandFault.{FileCommandFault}
 
 -- States that no fault stops the command: it ends with status 0 or 1. The parameter `Good` holds
@@ -29,7 +29,7 @@ pub record EndsWithoutFault (Good Other Both : Type 0) (status : ℕ) : Type 0 w
 pub record EndsByFault {O : Type 0} (has_failed : O → Bool) (before after : O) (file : List ℕ)
     (Stops : FileCommandFault → Type 0) (IsPrintedOnStderr : Option (List ℕ) → Type 0) (status : ℕ) : Type 0 where
   pub ending_fault : FileCommandFault
-  pub is : status ≡ status_of ending_fault
+  pub is : status ≡ exit_status_of_fault ending_fault
   pub stops : Stops ending_fault
   pub failed : OutputFailureMatchesFault (has_failed before) (has_failed after) ending_fault
   pub kept : PrintsNothingUnlessWriteFault before after ending_fault

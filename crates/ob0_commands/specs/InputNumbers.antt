@@ -36,13 +36,13 @@ abbrev pub IsListOfNumbers : List ℕ → Type 0
 IsListOfNumbers text = (ns : List ℤ) × SpellsNumberList text ns
 
 -- The greatest length in bytes of the input of `run`.
-abbrev pub max_input_length : ℕ
-max_input_length = 16777216
+abbrev pub max_input_bytes : ℕ
+max_input_bytes = 16777216
 
 -- States that the text spells the numbers `ns`, and that it has at most 16,777,216 bytes
--- (`max_input_length`).
+-- (`max_input_bytes`).
 pub record IsValidInputTextOfNumbers (ns : List ℤ) (text : List ℕ) : Type 0 where
-  pub short : length text ≤ max_input_length
+  pub short : length text ≤ max_input_bytes
   pub writes : SpellsNumberList text ns
 
 -- States that the text isn't a valid input: it is too long, or isn't a list of numbers.

@@ -61,7 +61,7 @@ pub record PrintsRenamedText (file : List ℕ) (position : Position) (new : List
 -- States that the file's bytes are a text (`IsTextFile`), but that renaming the declaration or
 -- field at `position` to `new` is refused. The refusal is printed on standard error, and the output
 -- is unchanged.
-pub record RefusesName (file : List ℕ) (position : Position) (new : List ℕ)
+pub record RefusesRenaming (file : List ℕ) (position : Position) (new : List ℕ)
     (before after : Option (List ℕ)) (IsPrintedOnStderr : Option (List ℕ) → Type 0) : Type 0 where
   pub has_text : IsTextFile file
   pub refusal : EditRefusal
@@ -70,7 +70,7 @@ pub record RefusesName (file : List ℕ) (position : Position) (new : List ℕ)
   pub said : IsPrintedOnStderr (Some (refusal_line refusal))
 
 -- States that one of two cases applies. Either the file's errors are printed on the output, and
--- nothing is printed on standard error. Or the new name is refused (`RefusesName`).
+-- nothing is printed on standard error. Or the renaming is refused (`RefusesRenaming`).
 abbrev pub PrintsErrorsOrRefusal : List ℕ
     → Position
     → List ℕ
@@ -80,11 +80,11 @@ abbrev pub PrintsErrorsOrRefusal : List ℕ
     → Type 0
 PrintsErrorsOrRefusal file position new before after IsPrintedOnStderr =
     (PrintsDiagnostics file before after × IsPrintedOnStderr None)
-    ⊎ RefusesName file position new before after IsPrintedOnStderr
+    ⊎ RefusesRenaming file position new before after IsPrintedOnStderr
 
 -- States that `rename` ends with this status and that no fault stops it. With status 0, the renamed
 -- text is printed and flushed, and nothing is printed on standard error. With status 1, the file's
--- errors are printed or the new name is refused, and the output is flushed or unchanged. With
+-- errors are printed or the renaming is refused, and the output is flushed or unchanged. With
 -- either status, `Both` holds.
 abbrev pub RenameEndsWithoutFault : {O : Type 0}
     → (contents : O → Option (List ℕ))

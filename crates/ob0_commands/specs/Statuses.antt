@@ -11,12 +11,12 @@ use Rattle.ob0_commands.specs.declared.faults.FileCommandFault.TheVariants as fa
 use Rattle.ob0_commands.specs.InputNumbers.{IsUnusableInput}
 
 -- Returns the exit status of a fault: 5 if an allocation failed, otherwise 4.
-abbrev pub status_of : FileCommandFault → ℕ
-status_of fault.File = 4
-status_of fault.Utf8 = 4
-status_of fault.Input = 4
-status_of fault.Write = 4
-status_of fault.Memory = 5
+abbrev pub exit_status_of_fault : FileCommandFault → ℕ
+exit_status_of_fault fault.File = 4
+exit_status_of_fault fault.Utf8 = 4
+exit_status_of_fault fault.Input = 4
+exit_status_of_fault fault.Write = 4
+exit_status_of_fault fault.Memory = 5
 
 -- States that the fault is `Write` or `Memory`: the output can't be written, or an allocation
 -- failed.

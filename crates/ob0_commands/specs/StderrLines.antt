@@ -1,5 +1,5 @@
 -- Defines the lines that the commands print on standard error, in bytes of UTF-8, and states when a
--- line is printed there (`PrintsOptionalLine`). `EndsByFault`, `PrintsStoppedRun` and `RefusesName`
+-- line is printed there (`PrintsOptionalLine`). `EndsByFault`, `PrintsStoppedRun` and `RefusesRenaming`
 -- have a parameter `IsPrintedOnStderr`. The contracts pass `PrintsOptionalLine` for this parameter.
 -- So each of the three can state that the line on standard error and the output are about the same
 -- fault, run or refusal.

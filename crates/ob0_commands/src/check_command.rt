@@ -1,7 +1,7 @@
 //! Prints the errors of a file.
 //!
-//! A file that has more bytes than a text may have is reported as too long. Whether such a file is
-//! UTF-8 isn't checked. The positions of all diagnostics are found in one pass over the text.
+//! If a file has more bytes than a text may have, it is reported as too long, and its bytes aren't
+//! checked for UTF-8. The positions of all diagnostics are found in one pass over the text.
 
 ghost use Rattle.std.specs.Prelude.{◌≡◌, ◌≢◌, ◌<◌, ◌≤◌, [], true, IfOk, IfNone, IfSome, MatchOption, OnOk, IfErr, length, map, string_bytes};
 ghost use Rattle.std.specs.Io.KnownBytes.{Appends};
@@ -16,7 +16,7 @@ ghost use Rattle.ob0_analysis.specs.ReportedErrors.{ReportsErrorsOf, reported_di
 
 use crate::faults::{FileCommandFault, print_fault};
 use crate::tracked_input::MAX_FILE_BYTES_READ;
-use crate::tracked_output::{TrackedOutput, print};
+use crate::tracked_output::{TrackedOutput, write_and_flush};
 use ob0_analysis::{Analysis, Diagnosis};
 use ob0_text::{Lines, Position, TextStore};
 use std::alloc::{AllocError, Global};
@@ -25,9 +25,9 @@ use std::mem::ManuallyDrop;
 /// Prints one line `L:C: FaultCode: message` to `out` for each diagnostic of a file, and returns
 /// the program's exit status. `L` and `C` are the line and the UTF-16 unit at which the diagnostic
 /// starts, counted from 0. `file` holds all bytes of the file, or the first 1,048,577 if the file
-/// has more. The status is 0 if there are no diagnostics and 1 if there are some. If the bytes
-/// aren't UTF-8 or a write fails, the status is 4. If an allocation fails, it is 5. With status 4
-/// or 5, the line `fault: NAME` is printed to `err`.
+/// has more. The status is 0 if there are no diagnostics and 1 if there are some. If a file that
+/// isn't too long isn't UTF-8, or if a write fails, the status is 4. If an allocation fails, it is
+/// 5. With status 4 or 5, the line `fault: NAME` is printed to `err`.
 pub fn check_text<O: TrackedOutput, E: TrackedOutput>(
     alloc: Global,
     file: &[u8],
@@ -85,8 +85,8 @@ fn diagnose(alloc: Global, text: &str) -> Result<Vec<Diagnosis>, AllocError>
     analysis.diagnoses(alloc)
 }
 
-/// Returns the analysis of a text. The analysis is never dropped. The process ends soon and frees
-/// all memory at once, which is faster than freeing the analysis part by part.
+/// Returns the analysis of a text. The analysis is never dropped, because the process ends soon and
+/// then frees all memory at once. This is faster than freeing the analysis part by part.
 pub fn analyse_without_drop(alloc: Global, text: &str) -> Result<ManuallyDrop<Analysis>, AllocError>
     ensures { IfOk result (λ analysis. manually_drop_value analysis ≡ text.now) }
 {
@@ -116,7 +116,7 @@ pub fn decode_or_print_too_long_line<'f, O: TrackedOutput>(
     ensures kept { IfErr result (PrintsNothingUnlessWriteFault out.old out.new) }
 {
     if file.len() >= MAX_FILE_BYTES_READ {
-        print(out, "0:0: TooLong: text too long\n")?;
+        write_and_flush(out, "0:0: TooLong: text too long\n")?;
         return Ok(None);
     }
     match str::from_utf8(file) {
@@ -142,7 +142,7 @@ pub fn print_diagnoses<O: TrackedOutput>(
         (OutputFailureMatchesFault (O.has_failed out.old) (O.has_failed out.new)) }
     ensures kept { IfErr result (PrintsNothingUnlessWriteFault out.old out.new) }
 {
-    print(out, all_diagnosis_lines(alloc, text, reported)?.as_str())
+    write_and_flush(out, all_diagnosis_lines(alloc, text, reported)?.as_str())
 }
 
 /// Returns the lines that report the diagnostics of a text, in order.

@@ -4,9 +4,9 @@
 ghost use Rattle.std.specs.Prelude.{◌≡◌, ◌≤◌, Some};
 ghost use Rattle.ob0_commands.specs.PrintedTexts.{fault_line};
 ghost use Rattle.ob0_commands.specs.StderrLines.{PrintsOptionalLine};
-ghost use Rattle.ob0_commands.specs.Statuses.{status_of};
+ghost use Rattle.ob0_commands.specs.Statuses.{exit_status_of_fault};
 
-use crate::tracked_output::{TrackedOutput, print};
+use crate::tracked_output::{TrackedOutput, write_and_flush};
 use std::alloc::{AllocError, AllocFailed};
 use thiserror::Error;
 
@@ -28,8 +28,8 @@ pub enum FileCommandFault {
 
 impl FileCommandFault {
     /// Returns the program's exit status for this fault: 5 for `Memory`, otherwise 4.
-    pub fn status(self) -> u8
-        ensures status { result ≡ status_of self }
+    pub fn exit_status(self) -> u8
+        ensures status { result ≡ exit_status_of_fault self }
         ensures fails { 4 ≤ result }
     {
         match self {
@@ -78,11 +78,11 @@ impl<T: Drop> From<AllocFailed<T>> for FileCommandFault {
 /// Prints the line of a fault to `err`, and returns the fault's exit status, even if the line can't
 /// be written.
 pub fn print_fault<E: TrackedOutput>(fault: FileCommandFault, err: &mut E) -> u8
-    ensures status { result ≡ status_of fault }
+    ensures status { result ≡ exit_status_of_fault fault }
     ensures fails { 4 ≤ result }
     ensures said { PrintsOptionalLine E.contents E.is_flushed E.has_failed err.old err.new
         (Some (fault_line fault)) }
 {
-    let _ = print(err, fault.fault_line());
-    fault.status()
+    let _ = write_and_flush(err, fault.fault_line());
+    fault.exit_status()
 }

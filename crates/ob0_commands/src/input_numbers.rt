@@ -13,7 +13,7 @@ ghost use Rattle.std.specs.Prelude.{◌≡◌, ◌≤◌, ℤ, IfOk, OnOk, IfErr
 ghost use Rattle.std.specs.List.{position_or_len};
 ghost use Rattle.ob0_scan.specs.LexemeClasses.{is_white_space};
 ghost use Rattle.ob0_commands.specs.InputReaders.{ConsumesAtMost};
-ghost use Rattle.ob0_commands.specs.InputNumbers.{IsUnusableInput, IsValidInputTextOfNumbers, IsListOfNumbers, SpellsNumber, SpellsNumberList, max_input_length};
+ghost use Rattle.ob0_commands.specs.InputNumbers.{IsUnusableInput, IsValidInputTextOfNumbers, IsListOfNumbers, SpellsNumber, SpellsNumberList, max_input_bytes};
 ghost use Rattle.ob0_commands.specs.Statuses.{IsFaultForReasonOrMemory};
 ghost use Rattle.ob0_commands.specs.declared.faults.FileCommandFault.TheVariants as faults;
 
@@ -24,14 +24,15 @@ use std::alloc::{AllocError, Global};
 
 /// Reads the whole input and returns its numbers, in order. The input consists of words, separated
 /// by white space. Each word has to be a 32-bit number in decimal digits, optionally after a `-`.
-/// The fault is `Input` if a read fails, the input is too long, or a word isn't such a number.
+/// The fault is `Input` if a read fails, the input is too long, or a word isn't a number of this
+/// form. If an allocation fails, the fault is `Memory`.
 pub fn read_numbers<R: TrackedInput>(
     alloc: Global,
     input: &mut R,
 ) -> Result<Vec<i32>, FileCommandFault>
     ensures numbers { IfOk result
         (λ numbers. IfSome (R.remaining input.old) (IsValidInputTextOfNumbers numbers.items)) }
-    ensures limit { ConsumesAtMost (suc max_input_length) (R.remaining input.old)
+    ensures limit { ConsumesAtMost (suc max_input_bytes) (R.remaining input.old)
         (R.remaining input.new) }
     ensures unfailed { OnOk result (R.has_failed input.new ≡ R.has_failed input.old) }
     ensures fault { IfErr result

@@ -18,18 +18,18 @@ ghost use Rattle.ob0_commands.specs.Statuses.{MemoryFaultImpliesShortFile, IsSho
 
 use crate::check_command::{analyse_without_drop, decode_or_print_too_long_line, print_diagnoses};
 use crate::faults::{FileCommandFault, print_fault};
-use crate::tracked_output::{TrackedOutput, print};
+use crate::tracked_output::{TrackedOutput, write_and_flush};
 use ob0_edits::renaming_edits;
 use ob0_text::{Edit, EditRefusal, Lines, Position, TextStore, patch};
 use std::alloc::Global;
 
 /// Prints a file's text to `out`, with the declaration or field at a position renamed to `new`, and
 /// returns the program's exit status. The position's line and UTF-16 unit are counted from 0. If
-/// the name is refused, `refused: TEXT` is printed to `err`. If the file isn't a well-typed module,
-/// its diagnostics are printed as `check_text` prints them. The status is 0 if the text is printed,
-/// and 1 for a refusal or diagnostics. If the bytes aren't UTF-8 or a write to `out` fails, the
-/// status is 4. If an allocation fails, it is 5. With status 4 or 5, the line `fault: NAME` is
-/// printed to `err`.
+/// the renaming is refused, `refused: TEXT` is printed to `err`. If the file isn't a well-typed
+/// module, its diagnostics are printed as `check_text` prints them. The status is 0 if the text is
+/// printed, and 1 for a refusal or diagnostics. If a file that isn't too long isn't UTF-8, or if a
+/// write to `out` fails, the status is 4. If an allocation fails, it is 5. With status 4 or 5, the
+/// line `fault: NAME` is printed to `err`.
 pub fn rename_text<O: TrackedOutput, E: TrackedOutput>(
     alloc: Global,
     file: &[u8],
@@ -48,8 +48,7 @@ pub fn rename_text<O: TrackedOutput, E: TrackedOutput>(
     }
 }
 
-/// Does the work of `rename_text`, but returns a fault instead of printing the line `fault: NAME`
-/// for the fault.
+/// Does the work of `rename_text`, but returns a fault instead of printing its line `fault: NAME`.
 fn try_rename_text<O: TrackedOutput, E: TrackedOutput>(
     alloc: Global,
     file: &[u8],
@@ -75,8 +74,8 @@ fn try_rename_text<O: TrackedOutput, E: TrackedOutput>(
 }
 
 /// Prints a text with the declaration or field at a position renamed to `new`, or prints the
-/// refusal of the name `new`. If the text isn't a well-typed module, prints its diagnostics
-/// instead. Returns the program's exit status: 0 for the renamed text, otherwise 1.
+/// refusal of this renaming. If the text isn't a well-typed module, prints its diagnostics instead.
+/// Returns the program's exit status: 0 for the renamed text, otherwise 1.
 fn rename_utf8_text<O: TrackedOutput, E: TrackedOutput>(
     alloc: Global,
     text: &str,
@@ -132,7 +131,7 @@ pub fn print_rename_outcome<T: TextStore, O: TrackedOutput, E: TrackedOutput>(
     match edits {
         Ok(edits) => match patch(alloc, store, edits.as_slice()) {
             Ok(text) => {
-                print(out, text.as_str())?;
+                write_and_flush(out, text.as_str())?;
                 Ok(0)
             }
             Err(_) => Err(FileCommandFault::Memory),
@@ -142,7 +141,7 @@ pub fn print_rename_outcome<T: TextStore, O: TrackedOutput, E: TrackedOutput>(
             let text = refusal.text(alloc)?;
             let name = text.as_str();
             let line = format!(in alloc; "refused: {name}\n")?;
-            let _ = print(err, line.as_str());
+            let _ = write_and_flush(err, line.as_str());
             Ok(1)
         }
     }

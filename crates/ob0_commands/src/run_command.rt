@@ -3,15 +3,15 @@
 //! `run_text` analyses the text once and lowers it to a program (`LoweringQuestion`). If the text
 //! isn't a well-typed module, the diagnostics are printed. Otherwise the analysis is dropped, the
 //! input is read, and the program is executed. `ProgramRunsAsText` states that the program runs
-//! like the text's module. From this fact, the contract of `execute` concludes that the outcome is
-//! a run of the module.
+//! like the text's module. From this fact and the contract of `execute` it follows that the outcome
+//! is a run of the module.
 //!
-//! The output is written in pieces of at most `IO_BUFFER_SIZE` bytes (`print_output_items`), so the
+//! The output is written in pieces of at most `IO_BUFFER_BYTES` bytes (`print_output_items`), so the
 //! whole text of the output is never stored. `IsWrittenExceptLastPart` separates the written text
 //! from the piece that isn't written yet. A piece is an `ArrayString`: it is on the stack and
-//! doesn't grow. It is written if the next item might not fit. So nothing is allocated after the
-//! first byte is printed. (A `String` could allocate between pieces, because its contract allows
-//! that.)
+//! doesn't grow. The piece is written when the next item might not fit. So nothing is allocated
+//! after the first byte is printed. (A `String` could allocate between pieces, because its contract
+//! allows that.)
 
 ghost use Rattle.std.specs.Prelude.{◌≡◌, ◌+◌, ◌≤◌, ◌++◌, true, IfOk, IfErr, IfNone, MatchOption, OnOk, OnErr, option_map, suc};
 ghost use Rattle.std.specs.Io.KnownBytes.{Appends};
@@ -21,7 +21,7 @@ ghost use Rattle.ob0_analysis.specs.ReportedErrors.{IsWellTypedModule};
 ghost use Rattle.ob0_run.specs.Outcomes.{item_of, output_items, run_of};
 ghost use Rattle.ob0_run.specs.Programs as lowered;
 ghost use Rattle.ob0_commands.specs.InputReaders.{ConsumesAtMost};
-ghost use Rattle.ob0_commands.specs.InputNumbers.{max_input_length};
+ghost use Rattle.ob0_commands.specs.InputNumbers.{max_input_bytes};
 ghost use Rattle.ob0_commands.specs.CommandEffects.{RunsFile};
 ghost use Rattle.ob0_commands.specs.PrintedTexts.{IsWrittenExceptLastPart, PrintsDiagnostics, run_end_line, output_text, output_item_text};
 ghost use Rattle.ob0_commands.specs.StderrLines.{PrintsOptionalLine};
@@ -33,7 +33,7 @@ use crate::check_command::{decode_or_print_too_long_line, print_diagnoses};
 use crate::faults::{FileCommandFault, print_fault};
 use crate::input_numbers::read_numbers;
 use crate::tracked_input::TrackedInput;
-use crate::tracked_output::{IO_BUFFER_SIZE, TrackedOutput, print, write_without_flush};
+use crate::tracked_output::{IO_BUFFER_BYTES, TrackedOutput, write_and_flush, write_without_flush};
 use arrayvec::ArrayString;
 use itoa::Buffer;
 use ob0_analysis::{Analysis, Question, WellTyped, ask};
@@ -60,8 +60,8 @@ impl Question for LoweringQuestion {
 /// If the file isn't a well-typed module, its diagnostics are printed as `check_text` prints them,
 /// and the input isn't read. The status is 0 for `Done`, and 1 for another end or diagnostics. If
 /// the input can't be read, is too long or isn't a list of numbers, the status is 4. It is also 4
-/// if the file's bytes aren't UTF-8 or a write to `out` fails. If an allocation fails, it is 5.
-/// With status 4 or 5, the fault is also printed to `err` as `fault: NAME`.
+/// if a file that isn't too long isn't UTF-8, or if a write to `out` fails. If an allocation fails,
+/// it is 5. With status 4 or 5, the fault is also printed to `err` as `fault: NAME`.
 pub fn run_text<R: TrackedInput, O: TrackedOutput, E: TrackedOutput>(
     alloc: Global,
     file: &[u8],
@@ -74,7 +74,7 @@ pub fn run_text<R: TrackedInput, O: TrackedOutput, E: TrackedOutput>(
     ensures ends { RunsFile O.contents O.is_flushed O.has_failed out.old out.new
         (PrintsOptionalLine E.contents E.is_flushed E.has_failed err.old err.new) file.now
         R.remaining R.has_failed input.old input.new calls turns result }
-    ensures limit { ConsumesAtMost (suc max_input_length) (R.remaining input.old)
+    ensures limit { ConsumesAtMost (suc max_input_bytes) (R.remaining input.old)
         (R.remaining input.new) }
     ensures unread { ¬ IsWellTypedModule file.now → input.new ≡ input.old }
 {
@@ -84,8 +84,7 @@ pub fn run_text<R: TrackedInput, O: TrackedOutput, E: TrackedOutput>(
     }
 }
 
-/// Does the work of `run_text`, but returns a fault instead of printing the line `fault: NAME` for
-/// the fault.
+/// Does the work of `run_text`, but returns a fault instead of printing its line `fault: NAME`.
 fn try_run_text<R: TrackedInput, O: TrackedOutput, E: TrackedOutput>(
     alloc: Global,
     file: &[u8],
@@ -100,7 +99,7 @@ fn try_run_text<R: TrackedInput, O: TrackedOutput, E: TrackedOutput>(
         (R.remaining input.old) calls turns
         (¬ IsShortNonUtf8File file.now × (O.has_failed out.new ≡ O.has_failed out.old)
         × (R.has_failed input.new ≡ R.has_failed input.old))) }
-    ensures limit { ConsumesAtMost (suc max_input_length) (R.remaining input.old)
+    ensures limit { ConsumesAtMost (suc max_input_bytes) (R.remaining input.old)
         (R.remaining input.new) }
     ensures read { IfErr result (KeepsInputFailureUnlessInputFault (R.has_failed input.old)
         (R.has_failed input.new)) }
@@ -210,7 +209,7 @@ pub fn print_run_outcome<O: TrackedOutput, E: TrackedOutput>(
     print_output_items(output, out)?;
     match run_end_line_of(end) {
         Some(line) => {
-            let _ = print(err, line);
+            let _ = write_and_flush(err, line);
             Ok(1)
         }
         None => Ok(0),
@@ -219,7 +218,7 @@ pub fn print_run_outcome<O: TrackedOutput, E: TrackedOutput>(
 
 /// The greatest length in bytes of an output item's text. The longest text is a space, a sign and
 /// ten digits.
-const MAX_ITEM_TEXT_LENGTH: usize = 12;
+const MAX_ITEM_TEXT_BYTES: usize = 12;
 
 /// Prints the items of a run's output, and flushes. Their text is collected in pieces on the stack,
 /// so the whole text is never stored and nothing is allocated.
@@ -234,19 +233,19 @@ fn print_output_items<O: TrackedOutput>(
     ensures fault { IfErr result (λ fault. fault ≡ faults.Write) }
     ensures failed { OnErr result (O.has_failed out.new ≡ true) }
 {
-    let mut text = ArrayString::<IO_BUFFER_SIZE>::new();
+    let mut text = ArrayString::<IO_BUFFER_BYTES>::new();
     let mut digits = Buffer::new();
     for item in output {
-        append_item_writing_if_full(&mut text, &mut digits, *item, out)?;
+        append_item_making_room(&mut text, &mut digits, *item, out)?;
     }
-    print(out, text.as_str())
+    write_and_flush(out, text.as_str())
 }
 
 /// Appends an output item to `text`, the collected text that isn't written yet. If the item might
 /// not fit, `text` is first written and cleared. `digits` is the buffer in which a number is
 /// formatted.
-fn append_item_writing_if_full<O: TrackedOutput>(
-    text: &mut ArrayString<IO_BUFFER_SIZE>,
+fn append_item_making_room<O: TrackedOutput>(
+    text: &mut ArrayString<IO_BUFFER_BYTES>,
     digits: &mut Buffer,
     item: Item,
     out: &mut O,
@@ -257,7 +256,7 @@ fn append_item_writing_if_full<O: TrackedOutput>(
     ensures fault { IfErr result (λ fault. fault ≡ faults.Write) }
     ensures failed { OnErr result (O.has_failed out.new ≡ true) }
 {
-    if text.remaining_capacity() < MAX_ITEM_TEXT_LENGTH {
+    if text.remaining_capacity() < MAX_ITEM_TEXT_BYTES {
         write_without_flush(out, text.as_str())?;
         text.clear();
     }
@@ -268,7 +267,7 @@ fn append_item_writing_if_full<O: TrackedOutput>(
 /// Appends an output item to a text. A number becomes a space and the number in decimal, and a line
 /// end becomes a line feed. `digits` is the buffer in which a number is formatted. `text` must have
 /// at least 12 bytes of free capacity.
-fn append_item_text(text: &mut ArrayString<IO_BUFFER_SIZE>, digits: &mut Buffer, item: Item)
+fn append_item_text(text: &mut ArrayString<IO_BUFFER_BYTES>, digits: &mut Buffer, item: Item)
     requires { array_string_len text.old + 12 ≤ 8192 }
     ensures { text.new.bytes ≡ text.old.bytes ++ output_item_text (item_of item) }
 {

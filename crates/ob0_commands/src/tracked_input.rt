@@ -11,12 +11,12 @@ ghost use Rattle.std.specs.Io.{ReadsAtMost};
 ghost use Rattle.std.specs.Io.KnownBytes.{Consumes, IsAtEnd, ReadConsumes};
 ghost use Rattle.ob0_scan.specs.TextWithTokens.{max_text_length};
 ghost use Rattle.ob0_commands.specs.InputReaders.{ConsumesAtMost, wrapped_reader, has_input_failed};
-ghost use Rattle.ob0_commands.specs.InputNumbers.{max_input_length};
+ghost use Rattle.ob0_commands.specs.InputNumbers.{max_input_bytes};
 ghost use Rattle.ob0_commands.specs.Statuses.{IsFaultForReasonOrMemory};
 ghost use Rattle.ob0_commands.specs.declared.faults.FileCommandFault.TheVariants as faults;
 
 use crate::faults::FileCommandFault;
-use crate::tracked_output::IO_BUFFER_SIZE;
+use crate::tracked_output::IO_BUFFER_BYTES;
 use ob0_scan::MAX_TEXT_LENGTH;
 use std::alloc::Global;
 use std::io::{self, Read};
@@ -25,7 +25,7 @@ use std::io::{self, Read};
 pub const MAX_FILE_BYTES_READ: usize = MAX_TEXT_LENGTH + 1;
 
 /// The greatest length of the input of a run, in bytes.
-const MAX_INPUT_LENGTH: usize = 16_777_216;
+const MAX_INPUT_BYTES: usize = 16_777_216;
 
 /// A reader that remembers whether one of its reads has failed.
 pub trait TrackedInput: Read {
@@ -90,7 +90,7 @@ impl<R: Read> TrackedInput for TrackedReader<R> {
 }
 
 /// Returns all bytes of a file, or the first 1,048,577 if the file has more. If a read fails, the
-/// fault is `File`.
+/// fault is `File`. If an allocation fails, it is `Memory`.
 pub fn read_file<R: TrackedInput>(alloc: Global, file: &mut R) -> Result<Vec<u8>, FileCommandFault>
     ensures bound { IfOk result (λ bytes. length bytes.items ≤ suc max_text_length) }
     ensures taken { IfOk result
@@ -108,30 +108,31 @@ pub fn read_file<R: TrackedInput>(alloc: Global, file: &mut R) -> Result<Vec<u8>
 
 /// Returns all bytes of the input. If a read fails, the fault is `Input`. If the input has more
 /// than 16,777,216 bytes, the fault is also `Input`. In that case one byte over the limit is read.
+/// If an allocation fails, the fault is `Memory`.
 pub fn read_input<R: TrackedInput>(
     alloc: Global,
     input: &mut R,
 ) -> Result<Vec<u8>, FileCommandFault>
-    ensures bound { IfOk result (λ bytes. length bytes.items ≤ max_input_length) }
+    ensures bound { IfOk result (λ bytes. length bytes.items ≤ max_input_bytes) }
     ensures taken { IfOk result
         (λ bytes. Consumes (R.remaining input.old) (R.remaining input.new) bytes.items) }
     ensures end { IfOk result (λ bytes. IsAtEnd (R.remaining input.new)) }
-    ensures limit { ConsumesAtMost (suc max_input_length) (R.remaining input.old)
+    ensures limit { ConsumesAtMost (suc max_input_bytes) (R.remaining input.old)
         (R.remaining input.new) }
     ensures unfailed { OnOk result (R.has_failed input.new ≡ R.has_failed input.old) }
     ensures fault { IfErr result (IsFaultForReasonOrMemory faults.Input ((R.has_failed input.new ≡ true)
-        ⊎ IfSome (R.remaining input.old) (λ text. max_input_length < length text))
+        ⊎ IfSome (R.remaining input.old) (λ text. max_input_bytes < length text))
         (R.has_failed input.new ≡ R.has_failed input.old)) }
 {
-    let bytes = read_up_to_limit(alloc, input, MAX_INPUT_LENGTH + 1, FileCommandFault::Input)?;
-    if bytes.len() > MAX_INPUT_LENGTH {
+    let bytes = read_up_to_limit(alloc, input, MAX_INPUT_BYTES + 1, FileCommandFault::Input)?;
+    if bytes.len() > MAX_INPUT_BYTES {
         return Err(FileCommandFault::Input);
     }
     Ok(bytes)
 }
 
 /// Returns all remaining bytes of the reader, or the first `most` if there are more. If a read
-/// fails, returns `fault`.
+/// fails, returns `fault`. If an allocation fails, the fault is `Memory`.
 fn read_up_to_limit<R: TrackedInput>(
     alloc: Global,
     reader: &mut R,
@@ -149,9 +150,9 @@ fn read_up_to_limit<R: TrackedInput>(
         (R.has_failed reader.new ≡ R.has_failed reader.old)) }
 {
     let mut bytes = Vec::new(alloc);
-    let mut piece = [0u8; IO_BUFFER_SIZE];
+    let mut piece = [0u8; IO_BUFFER_BYTES];
     while bytes.len() < most {
-        let wanted = (most - bytes.len()).min(IO_BUFFER_SIZE);
+        let wanted = (most - bytes.len()).min(IO_BUFFER_BYTES);
         let Ok(count) = reader.read_noting_failure(&mut piece[..wanted]) else {
             return Err(fault);
         };

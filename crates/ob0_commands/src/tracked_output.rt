@@ -2,14 +2,14 @@
 //!
 //! The commands print through the trait `TrackedOutput`: a writer that remembers whether it has
 //! been flushed since the last write, and whether it has failed. std's contracts of `Write` mention
-//! neither fact, but the contract of `print` needs both. `TrackedWriter` implements this trait for
+//! neither fact, but the contract of `write_and_flush` needs both. `TrackedWriter` implements this trait for
 //! any writer, including the writer for standard error. A writer's `contents` are the bytes that it
 //! has written, or None if these bytes aren't known. For None, the contracts say nothing about the
 //! bytes.
 //!
-//! Each command flushes its output after it has printed. If `rename` refuses a name, nothing is
-//! printed to the output, so the output may still be unflushed (`IsFlushedOrUnchanged`). `check`
-//! and `rename` print only once, so their contracts follow from one call of `print`. After a failed
+//! Each command flushes its output after it has printed. If `rename` refuses the renaming, nothing
+//! is printed to the output, so the output may still be unflushed (`IsFlushedOrUnchanged`). `check`
+//! and `rename` print only once, so their contracts follow from one call of `write_and_flush`. After a failed
 //! write, the contracts say nothing about the written bytes, because the contract of std's
 //! `write_all` says nothing about them.
 
@@ -23,9 +23,9 @@ ghost use Rattle.ob0_commands.specs.StderrLines.{PrintsOptionalLine};
 use crate::faults::FileCommandFault;
 use std::io::{self, Write};
 
-/// The size in bytes of two buffers. Files and inputs are read through one of them. The output of a
-/// run is collected in the other before it is written.
-pub(crate) const IO_BUFFER_SIZE: usize = 8192;
+/// The size, in bytes, of the buffer through which files and inputs are read, and of the buffer in
+/// which the output of a run is collected.
+pub(crate) const IO_BUFFER_BYTES: usize = 8192;
 
 /// A writer that remembers whether it has been flushed since the last write, and whether a call of
 /// `write_all_noting_failure` or `flush_noting_result` has failed.
@@ -149,7 +149,7 @@ pub(crate) fn write_without_flush<W: TrackedOutput>(
 }
 
 /// Writes a whole text, and flushes. If the write or the flush fails, the fault is `Write`.
-pub fn print<W: TrackedOutput>(out: &mut W, text: &str) -> Result<(), FileCommandFault>
+pub fn write_and_flush<W: TrackedOutput>(out: &mut W, text: &str) -> Result<(), FileCommandFault>
     ensures printed { OnOk result (Appends (W.contents out.old) (W.contents out.new) text.now) }
     ensures flushed { OnOk result (W.is_flushed out.new ≡ true) }
     ensures unfailed { OnOk result (W.has_failed out.new ≡ W.has_failed out.old) }

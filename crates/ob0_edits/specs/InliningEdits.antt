@@ -19,8 +19,8 @@ use Rattle.ob0_edits.specs.declared.inline_question.InliningKind.{InliningKind}
 use Rattle.ob0_edits.specs.declared.inline_question.InliningKind.TheVariants.{OneUse, Everywhere}
 use Rattle.ob0_edits.specs.declared.inline_question.InliningEdits as found_inlinings
 
--- States that `answer` (edits or a refusal) is the right answer to a request for this kind of
--- inlining at a byte offset of the module. `ob0_inline` defines the right answers.
+-- States that `answer`, edits or a refusal, is right for a request for this kind of inlining at a
+-- byte offset of the module. `ob0_inline` defines which answers are right.
 abbrev pub AnswersInlining : InliningKind
     → Unit
     → List ℕ
@@ -60,8 +60,8 @@ pub record IsInliningRefusedInText (how : InliningKind) (unit : Unit) (text : Li
 
 -- ---- answers to inlining at a byte offset of a text: edits or None
 
--- States that `answer` has these edits. None means that `answer` is a refusal other than `Memory`
--- (a failed allocation).
+-- States that `answer` consists of these edits (Some). None means that `answer` is a refusal other
+-- than `Memory` (a failed allocation).
 abbrev pub AreEditsUnlessRefused : Result (Vec Edit Global) EditRefusal → Option (Vec Edit Global) → Type 0
 AreEditsUnlessRefused answer (Some edits) = answer ≡ Ok edits
 AreEditsUnlessRefused answer None = (refusal : EditRefusal) × ¬ (refusal ≡ Memory) × (answer ≡ Err refusal)

@@ -1,4 +1,4 @@
--- Proves which words are left if the words at some indexes change.
+-- Proves which words result if the words at given indexes change.
 use Rattle.std.proofs.Common.{◌≡◌, ℕ, suc, ◌+◌, ◌<◌, ◌≤◌, ◌==◌, false, ◌&&◌, ◌||◌, List, [], ◌∷◌, ◌++◌, length, refl, sym, ap, ap₂, ◌∙◌, arith, append_assoc, eqb-true, eq-eqb, le-leb}
 use Rattle.std.specs.Prelude.{nat_le, if◌then◌else◌, Some, None}
 use Rattle.std.proofs.Math.Bool.{and-false}

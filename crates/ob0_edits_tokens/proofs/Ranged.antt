@@ -1,4 +1,4 @@
--- Proves that the loops find the ranges of spans one after another.
+-- Proves that the loops over spans find the range of each span, in order.
 use Rattle.std.proofs.Common.{◌≡◌, ℕ, zero, suc, ◌+◌, ◌*◌, ◌<◌, ◌≤◌, List, [], ◌∷◌, ◌++◌, length, drop, map, take, get_or, refl, sym, ap, ◌∙◌, arith, add-one, append_assoc, length-append}
 use Rattle.std.proofs.lemmas.List.{get_or-map, length-drop, length-map, length-take-le, map-append, map_more}
 use Rattle.std.proofs.lemmas.Simd.{map-map}

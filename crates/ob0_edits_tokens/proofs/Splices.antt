@@ -1,4 +1,4 @@
--- Proves which lexemes are left if identifiers of a text are replaced, and if a declaration before
+-- Proves which lexemes result if identifiers of a text are replaced, and if a declaration before
 -- them is removed.
 use Rattle.std.proofs.Common.{◌≡◌, ℕ, suc, ◌+◌, true, List, [], ◌∷◌, ◌++◌, length, get_or, map, sym, ap, ap₂, ◌∙◌, subst, arith, append_assoc, length-append, ⊎_elim}
 use Rattle.std.specs.Str.{IsUtf8}
@@ -17,7 +17,7 @@ use Rattle.ob0_scan.specs.TextWithTokens.{Word, words_of_one_lexeme, words_of_le
 use Rattle.ob0_scan.proofs.Cuts.{nonempty}
 use Rattle.ob0_scan.proofs.Reusing.{joined_append}
 use Rattle.ob0_scan.proofs.Runs.{letter_or_digit}
-use Rattle.ob0_text.specs.Patches.{Cut, text_from_place_with_cuts}
+use Rattle.ob0_text.specs.Patches.{Cut, text_after_cuts_from_offset}
 use Rattle.ob0_edits_tokens.specs.WordReplacements.{WordChanges, changed_words, changes_at_indexes}
 use Rattle.ob0_edits_tokens.specs.Removals.{changes_with_removal, MayBeConstantDeclaration, removal_cut}
 use Rattle.ob0_edits_tokens.specs.Replacements.{AreIdentifierIndexes, MayReplaceIdentifier, replacement_cut, token_at_or_empty}
@@ -39,7 +39,7 @@ module _ (text : List ℕ) (u : IsUtf8 text) (tokens : List Token) (new : List �
   -- a name. The text is the one starting at an offset, with the lexemes `ls`.
   pub record Leaves (at k : ℕ) (ls : List Lexeme) (cs : List Cut) (changes : List Word → WordChanges) : Type 0 where
     pub cuts : AreCuts text at cs
-    pub left : (ws : List Word) → MayReplaceIdentifier new ws → IsSpelled (text_from_place_with_cuts text at cs) (changed_words (changes ws) k (words_of_lexemes ls))
+    pub left : (ws : List Word) → MayReplaceIdentifier new ws → IsSpelled (text_after_cuts_from_offset text at cs) (changed_words (changes ws) k (words_of_lexemes ls))
 
   abbrev cuts_at : List ℕ → List Cut
   cuts_at = map (replacement_cut tokens new)
@@ -51,7 +51,7 @@ module _ (text : List ℕ) (u : IsUtf8 text) (tokens : List Token) (new : List �
     pub fits : (ws : List Word) (may : MayReplaceIdentifier new ws) → IsInPlaceOf ls (leaves.left ws may).lexemes
 
   -- The text before a token doesn't change if all cuts are after it.
-  front_kept : (at k : ℕ) (ls : List Lexeme) (p : ℕ) (cs : List Cut) → AreAt text u tokens at k ls → (t : HasToken text u tokens at k ls p) → AreCuts text t.start cs → text_from_place_with_cuts text at cs ≡ text_of_lexemes t.before ++ text_from_place_with_cuts text t.start cs
+  front_kept : (at k : ℕ) (ls : List Lexeme) (p : ℕ) (cs : List Cut) → AreAt text u tokens at k ls → (t : HasToken text u tokens at k ls p) → AreCuts text t.start cs → text_after_cuts_from_offset text at cs ≡ text_of_lexemes t.before ++ text_after_cuts_from_offset text t.start cs
   front_kept at k ls p cs r t are =
       pieced_kept text at t.start (text_of_lexemes t.before) (text_of_lexemes (t.here ∷ t.after)) cs (r.rest.whole ∙ ap text_of_lexemes t.whole ∙ joined_append t.before (t.here ∷ t.after)) t.start_is are
 

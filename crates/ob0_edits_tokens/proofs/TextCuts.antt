@@ -1,4 +1,4 @@
--- Proves which text the edits at ascending places of a text leave, in bytes and in characters.
+-- Proves which text results from edits at ascending places of a text, in bytes and in characters.
 use Rattle.std.proofs.Common.{◌≡◌, ℕ, ◌+◌, ◌-◌, ◌≤◌, true, false, List, [], ◌∷◌, ◌++◌, length, get_or, take, drop, map, min, max, refl, sym, ap, ap₂, ◌∙◌, subst, arith, append_assoc, length-append, length-drop, get_or-append-add, le-leb}
 use Rattle.std.specs.Prelude.{if◌then◌else◌, Some, None, encode_utf8_all}
 use Rattle.std.specs.List.{list_all}
@@ -13,10 +13,10 @@ use Rattle.ob0_text.specs.declared.position_types.Range.{Range}
 use Rattle.ob0_text.specs.declared.position_types.Unit as counting
 use Rattle.ob0_text.specs.Units.{width_of}
 use Rattle.ob0_text.specs.Texts.{CR, LF, text_before, position_of, byte_len, IsBetweenCrAndLf}
-use Rattle.ob0_text.specs.Patches.{Cut, char_count_before_position, cut_of_range, are_disjoint, are_all_disjoint, is_cut_before, insert_cut_in_order, cuts_in_text_order, text_from_place_with_cuts, text_patched_by_cuts, patched_text}
+use Rattle.ob0_text.specs.Patches.{Cut, char_count_before_position, cut_of_range, are_disjoint, are_all_disjoint, is_cut_before, insert_cut_in_order, cuts_in_text_order, text_after_cuts_from_offset, text_patched_by_cuts, patched_text}
 use Rattle.ob0_text.proofs.Widths.{wide}
 use Rattle.ob0_text.proofs.RoundTrip.{places_go_back}
-use Rattle.ob0_edits_tokens.specs.ByteCuts.{edit_of_cut, length_from_place_with_cuts}
+use Rattle.ob0_edits_tokens.specs.ByteCuts.{edit_of_cut, length_after_cuts_from_offset}
 use Rattle.ob0_edits_tokens.specs.Replacements.{range_and_text}
 use Rattle.ob0_edits_tokens.proofs.Borders.{IsBorder, IsEnding}
 
@@ -45,14 +45,14 @@ two_parts text a b c h k =
     ∙ ap (λ xs. take (b - a) (drop a text) ++ take (c - b) xs) (drop-drop (b - a) a text ∙ ap (λ n. drop n text) there)
 
 -- If the first cut begins at the place, the text begins with the cut's new text.
-pub pieced_here : (text : List ℕ) (at : ℕ) (c : Cut) (end : ℕ) (cs : List Cut) → c.from ≡ at → c.to ≡ end → text_from_place_with_cuts text at (c ∷ cs) ≡ c.new ++ text_from_place_with_cuts text end cs
-unfolding text_from_place_with_cuts
+pub pieced_here : (text : List ℕ) (at : ℕ) (c : Cut) (end : ℕ) (cs : List Cut) → c.from ≡ at → c.to ≡ end → text_after_cuts_from_offset text at (c ∷ cs) ≡ c.new ++ text_after_cuts_from_offset text end cs
+unfolding text_after_cuts_from_offset
 pieced_here text at c end cs f t =
     let none : c.from - at ≡ 0 = omega (arith, f) in
-    λ i. take (none i) (drop at text) ++ (c.new ++ text_from_place_with_cuts text (t i) cs)
+    λ i. take (none i) (drop at text) ++ (c.new ++ text_after_cuts_from_offset text (t i) cs)
 
-pub pieced_end : (text : List ℕ) (at : ℕ) → drop at text ≡ text_from_place_with_cuts text at []
-unfolding text_from_place_with_cuts
+pub pieced_end : (text : List ℕ) (at : ℕ) → drop at text ≡ text_after_cuts_from_offset text at []
+unfolding text_after_cuts_from_offset
 pieced_end text at = refl
 
 module _ (text : List ℕ) where
@@ -61,33 +61,33 @@ module _ (text : List ℕ) where
   cuts_from at low (c ∷ cs) h are = (record { up = omega (arith, h, are.0.up); ordered = are.0.ordered; start = are.0.start; end = are.0.end; utf8 = are.0.utf8 }, are.1)
 
   -- The text before the first cut is kept.
-  pub pieced_later : (a b : ℕ) (cs : List Cut) → a ≤ b → AreCuts text b cs → text_from_place_with_cuts text a cs ≡ take (b - a) (drop a text) ++ text_from_place_with_cuts text b cs
-  unfolding text_from_place_with_cuts
+  pub pieced_later : (a b : ℕ) (cs : List Cut) → a ≤ b → AreCuts text b cs → text_after_cuts_from_offset text a cs ≡ take (b - a) (drop a text) ++ text_after_cuts_from_offset text b cs
+  unfolding text_after_cuts_from_offset
   pieced_later a b [] h are =
       let there : a + (b - a) ≡ b = omega arith in
       sym (take-append-drop (b - a) (drop a text)) ∙ ap (λ xs. take (b - a) (drop a text) ++ xs) (drop-drop (b - a) a text ∙ ap (λ n. drop n text) there)
   pieced_later a b (c ∷ cs) h are =
-      ap (λ xs. xs ++ (c.new ++ text_from_place_with_cuts text c.to cs)) (two_parts text a b c.from h are.0.up) ∙ append_assoc (take (b - a) (drop a text)) (take (c.from - b) (drop b text)) (c.new ++ text_from_place_with_cuts text c.to cs)
+      ap (λ xs. xs ++ (c.new ++ text_after_cuts_from_offset text c.to cs)) (two_parts text a b c.from h are.0.up) ∙ append_assoc (take (b - a) (drop a text)) (take (c.from - b) (drop b text)) (c.new ++ text_after_cuts_from_offset text c.to cs)
 
-  pub pieced_kept : (at end : ℕ) (front rest : List ℕ) (cs : List Cut) → drop at text ≡ front ++ rest → at + length front ≡ end → AreCuts text end cs → text_from_place_with_cuts text at cs ≡ front ++ text_from_place_with_cuts text end cs
+  pub pieced_kept : (at end : ℕ) (front rest : List ℕ) (cs : List Cut) → drop at text ≡ front ++ rest → at + length front ≡ end → AreCuts text end cs → text_after_cuts_from_offset text at cs ≡ front ++ text_after_cuts_from_offset text end cs
   pieced_kept at end front rest cs e far are =
       let long : length front ≡ end - at = omega (arith, far) in
-      pieced_later at end cs (omega (arith, far)) are ∙ ap (λ xs. xs ++ text_from_place_with_cuts text end cs) (ap (take (end - at)) e ∙ take_at front rest (end - at) long)
+      pieced_later at end cs (omega (arith, far)) are ∙ ap (λ xs. xs ++ text_after_cuts_from_offset text end cs) (ap (take (end - at)) e ∙ take_at front rest (end - at) long)
 
-  pub made_length : (at : ℕ) (cs : List Cut) → AreCuts text at cs → length (text_from_place_with_cuts text at cs) ≡ length_from_place_with_cuts (length text) at cs
-  unfolding text_from_place_with_cuts
+  pub made_length : (at : ℕ) (cs : List Cut) → AreCuts text at cs → length (text_after_cuts_from_offset text at cs) ≡ length_after_cuts_from_offset (length text) at cs
+  unfolding text_after_cuts_from_offset
   made_length at [] are = length-drop at text
   made_length at (c ∷ cs) are =
       let kept : length (take (c.from - at) (drop at text)) ≡ c.from - at = length-take-le (c.from - at) (drop at text) (omega (arith, length-drop at text, are.0.start.place.0, are.0.up)) in
-      length-append (take (c.from - at) (drop at text)) (c.new ++ text_from_place_with_cuts text c.to cs)
-      ∙ ap₂ (λ a b. a + b) kept (length-append c.new (text_from_place_with_cuts text c.to cs) ∙ ap (λ n. length c.new + n) (made_length c.to cs are.1))
+      length-append (take (c.from - at) (drop at text)) (c.new ++ text_after_cuts_from_offset text c.to cs)
+      ∙ ap₂ (λ a b. a + b) kept (length-append c.new (text_after_cuts_from_offset text c.to cs) ∙ ap (λ n. length c.new + n) (made_length c.to cs are.1))
 
-  pub made_utf8 : IsUtf8 text → (at : ℕ) (cs : List Cut) → IsCharBoundary text at → AreCuts text at cs → IsUtf8 (text_from_place_with_cuts text at cs)
-  unfolding text_from_place_with_cuts
+  pub made_utf8 : IsUtf8 text → (at : ℕ) (cs : List Cut) → IsCharBoundary text at → AreCuts text at cs → IsUtf8 (text_after_cuts_from_offset text at cs)
+  unfolding text_after_cuts_from_offset
   made_utf8 u at [] here are = IsUtf8-drop text at u here
   made_utf8 u at (c ∷ cs) here are =
-      IsUtf8-append (take (c.from - at) (drop at text)) (c.new ++ text_from_place_with_cuts text c.to cs) (IsUtf8-between text at c.from u are.0.up here are.0.start.place)
-      (IsUtf8-append c.new (text_from_place_with_cuts text c.to cs) are.0.utf8 (made_utf8 u c.to cs are.0.end.place are.1))
+      IsUtf8-append (take (c.from - at) (drop at text)) (c.new ++ text_after_cuts_from_offset text c.to cs) (IsUtf8-between text at c.from u are.0.up here are.0.start.place)
+      (IsUtf8-append c.new (text_after_cuts_from_offset text c.to cs) are.0.utf8 (made_utf8 u c.to cs are.0.end.place are.1))
 
 -- ---- cuts in text order
 
@@ -118,10 +118,10 @@ unfolding are_all_disjoint
 all_are_apart at [] chain = refl
 all_are_apart at (c ∷ cs) chain = rw (apart_from_later c c.to cs (omega arith) chain.2, all_are_apart c.to cs chain.2) refl
 
-patched_in_order : (text : List ℕ) (at : ℕ) (cs : List Cut) → Chain at cs → text_patched_by_cuts text cs ≡ Some (text_from_place_with_cuts text 0 cs)
+patched_in_order : (text : List ℕ) (at : ℕ) (cs : List Cut) → Chain at cs → text_patched_by_cuts text cs ≡ Some (text_after_cuts_from_offset text 0 cs)
 unfolding text_patched_by_cuts
 patched_in_order text at cs chain =
-    ap (λ b. if b then Some (text_from_place_with_cuts text 0 (cuts_in_text_order cs)) else None) (all_are_apart at cs chain) ∙ ap (λ xs. Some (text_from_place_with_cuts text 0 xs)) (order_stays at cs chain)
+    ap (λ b. if b then Some (text_after_cuts_from_offset text 0 (cuts_in_text_order cs)) else None) (all_are_apart at cs chain) ∙ ap (λ xs. Some (text_after_cuts_from_offset text 0 xs)) (order_stays at cs chain)
 
 -- ---- bytes and characters
 
@@ -215,19 +215,19 @@ module _ (unit : counting.Unit) (text : List ℕ) (u : IsUtf8 text) where
   chain_in_chars at (c ∷ cs) here are =
       (omega (arith, count_on at c.from are.0.up here), omega (arith, count_on c.from c.to are.0.ordered are.0.start.place), chain_in_chars c.to cs are.0.end.place are.1)
 
-  made_in_chars : (at : ℕ) (cs : List Cut) → IsCharBoundary text at → AreCuts text at cs → text_from_place_with_cuts (chars text) (char_count at) (map in_chars cs) ≡ chars (text_from_place_with_cuts text at cs)
-  unfolding text_from_place_with_cuts
+  made_in_chars : (at : ℕ) (cs : List Cut) → IsCharBoundary text at → AreCuts text at cs → text_after_cuts_from_offset (chars text) (char_count at) (map in_chars cs) ≡ chars (text_after_cuts_from_offset text at cs)
+  unfolding text_after_cuts_from_offset
   made_in_chars at [] here are = rest_in_chars at here
   made_in_chars at (c ∷ cs) here are =
       let part : List ℕ = take (c.from - at) (drop at text) in
       (λ i. part_in_chars at c.from are.0.up here are.0.start.place i ++ (chars c.new ++ made_in_chars c.to cs are.0.end.place are.1 i))
-      ∙ sym (chars-append part (c.new ++ text_from_place_with_cuts text c.to cs) (IsUtf8-between text at c.from u are.0.up here are.0.start.place) ∙ ap (λ t. chars part ++ t) (chars-append c.new (text_from_place_with_cuts text c.to cs) are.0.utf8))
+      ∙ sym (chars-append part (c.new ++ text_after_cuts_from_offset text c.to cs) (IsUtf8-between text at c.from u are.0.up here are.0.start.place) ∙ ap (λ t. chars part ++ t) (chars-append c.new (text_after_cuts_from_offset text c.to cs) are.0.utf8))
 
   -- Edits at cuts in bytes leave the text that the cuts leave.
-  pub patched_at_cuts : (edits : List Edit) (cs : List Cut) → AreCuts text 0 cs → map range_and_text edits ≡ map (edit_of_cut unit (chars text)) cs → patched_text (width_of unit) (chars text) edits ≡ Some (chars (text_from_place_with_cuts text 0 cs))
+  pub patched_at_cuts : (edits : List Edit) (cs : List Cut) → AreCuts text 0 cs → map range_and_text edits ≡ map (edit_of_cut unit (chars text)) cs → patched_text (width_of unit) (chars text) edits ≡ Some (chars (text_after_cuts_from_offset text 0 cs))
   patched_at_cuts edits cs are e =
       let start = IsCharBoundary-start text u in
       let none : char_count 0 ≡ 0 = ap length chars-nil in
       ap (text_patched_by_cuts (chars text)) (sym (map-map cut_of range_and_text edits) ∙ ap (map cut_of) e ∙ map-map cut_of (edit_of_cut unit (chars text)) cs ∙ same_cuts 0 cs are)
       ∙ patched_in_order (chars text) (char_count 0) (map in_chars cs) (chain_in_chars 0 cs start are)
-      ∙ ap Some (ap (λ n. text_from_place_with_cuts (chars text) n (map in_chars cs)) (sym none) ∙ made_in_chars 0 cs start are)
+      ∙ ap Some (ap (λ n. text_after_cuts_from_offset (chars text) n (map in_chars cs)) (sym none) ∙ made_in_chars 0 cs start are)

@@ -1,4 +1,4 @@
--- Proves that the values of constants may replace any identifier.
+-- Proves that the text of a constant's value may replace any identifier.
 use Rattle.std.proofs.Common.{◌≡◌, ℕ, suc, ◌+◌, ◌-◌, ◌*◌, ◌/◌, ◌%◌, length-append, ◌<◌, ◌≤◌, ◌^◌, Bool, true, false, List, [], ◌∷◌, ◌++◌, length, get_or, refl, sym, ap, ◌∙◌, arith, append-nil}
 use Rattle.std.specs.Prelude.{codes, decimal, ℤ, pos, negsuc, nat_lt, if◌then◌else◌}
 use Rattle.std.specs.List.{AllPass}

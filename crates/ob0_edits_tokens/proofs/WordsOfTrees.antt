@@ -1,5 +1,5 @@
--- Proves that the words of a text with some of them changed are the tokens of its tree with names
--- changed. If names are replaced only by names, the changed tree spells them.
+-- Proves that if words of a text change, the changed words are the tokens of the text's tree with
+-- the names changed. If names are replaced only by names, the changed tree spells these words.
 use Rattle.std.proofs.Common.{◌≡◌, ℕ, zero, suc, ◌==◌, Bool, true, false, ◌||◌, List, [], ◌∷◌, ◌++◌, length, map, refl, sym, ap, ap₂, ◌∙◌, arith, length-append, append_assoc, eqb-true, Some, None, append-nil}
 use Rattle.std.specs.Prelude.{if◌then◌else◌}
 use Rattle.std.proofs.Math.Seq.{get_or-append_seam}

@@ -17,6 +17,6 @@ edit_of_cut unit text c =
 -- Returns the length in bytes of the rest of a text, from the offset `at` to the end, after all
 -- cuts are applied. `len` is the length of the whole text before the cuts, in bytes. `at` and the
 -- ends of the cuts are byte offsets in the text before the cuts.
-abbrev pub length_from_place_with_cuts : ℕ → ℕ → List Cut → ℕ
-length_from_place_with_cuts len at [] = len - at
-length_from_place_with_cuts len at (c ∷ cs) = (c.from - at) + (length c.new + length_from_place_with_cuts len c.to cs)
+abbrev pub length_after_cuts_from_offset : ℕ → ℕ → List Cut → ℕ
+length_after_cuts_from_offset len at [] = len - at
+length_after_cuts_from_offset len at (c ∷ cs) = (c.from - at) + (length c.new + length_after_cuts_from_offset len c.to cs)

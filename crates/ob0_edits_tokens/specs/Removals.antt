@@ -8,18 +8,19 @@ use Rattle.ob0_scan.specs.declared.lexeme.TokenKind.TheVariants as token
 use Rattle.ob0_scan.specs.declared.lexeme.Span.{Span}
 use Rattle.ob0_scan.specs.declared.lexeme.Token.{Token}
 use Rattle.ob0_scan.specs.TextWithTokens.{TextWithTokens}
-use Rattle.ob0_text.specs.Patches.{Cut, text_from_place_with_cuts}
+use Rattle.ob0_text.specs.Patches.{Cut, text_after_cuts_from_offset}
 use Rattle.ob0_edits_tokens.specs.WordReplacements.{WordChanges}
 use Rattle.ob0_edits_tokens.specs.Replacements.{token_at_or_empty, token_span_or_empty, replacement_cut}
 
--- Returns a change of words that removes the words from the index `first` to the index `last`, both
+-- Returns the change that removes the words from the index `first` to the index `last`, both
 -- included. It changes all other words as `changes` does.
 abbrev pub changes_with_removal : ℕ → ℕ → WordChanges → WordChanges
 changes_with_removal first last changes k = if nat_le first k && nat_le k last then Some [] else changes k
 
 -- States that the tokens from the index `first` to the index `last` may be a declaration in a CONST
--- section. Only three tokens are checked. The first token is an identifier, and the last token is a
--- `;`. If a token precedes the first one, that token is CONST or another `;`.
+-- section. `first` is less than `last`, and both tokens exist. Only three tokens are checked. The
+-- first token is an identifier, and the last token is a `;`. If a token precedes the first one,
+-- that token is CONST or another `;`.
 pub record MayBeConstantDeclaration (tokens : List Token) (first last : ℕ) : Type 0 where
   pub order : first < last
   pub inside : last < length tokens
@@ -46,4 +47,4 @@ removal_cut tokens first last =
 -- text between them are removed. Each token whose index is in `token_indexes` is replaced by `new`.
 abbrev pub text_after_removal_and_replacement : TextWithTokens → ℕ → ℕ → List ℕ → List ℕ → List ℕ
 text_after_removal_and_replacement s first last token_indexes new =
-    text_from_place_with_cuts s.text 0 (removal_cut s.tokens first last ∷ map (replacement_cut s.tokens new) token_indexes)
+    text_after_cuts_from_offset s.text 0 (removal_cut s.tokens first last ∷ map (replacement_cut s.tokens new) token_indexes)

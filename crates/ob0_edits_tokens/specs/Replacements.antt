@@ -15,7 +15,7 @@ use Rattle.ob0_text.specs.declared.edits.Edit.{Edit}
 use Rattle.ob0_text.specs.declared.position_types.Range.{Range}
 use Rattle.ob0_text.specs.declared.position_types.Unit as counting
 use Rattle.ob0_text.specs.Units.{width_of}
-use Rattle.ob0_text.specs.Patches.{Cut, text_from_place_with_cuts, patched_text}
+use Rattle.ob0_text.specs.Patches.{Cut, text_after_cuts_from_offset, patched_text}
 use Rattle.ob0_edits_tokens.specs.WordReplacements.{words_of_text}
 use Rattle.ob0_edits_tokens.specs.Ranges.{range_of}
 
@@ -31,8 +31,8 @@ token_at_or_empty tokens p =
 abbrev pub token_span_or_empty : List Token → ℕ → Span
 token_span_or_empty tokens p = (token_at_or_empty tokens p).span
 
--- States that the given numbers are token indexes of identifiers, in ascending order, and that each
--- is at least `least`.
+-- States that the given numbers are token indexes of identifiers, in strictly ascending order, and
+-- that each is at least `least`.
 abbrev pub AreIdentifierIndexes : List Token → ℕ → List ℕ → Type 0
 AreIdentifierIndexes tokens least [] = Unit {0}
 AreIdentifierIndexes tokens least (p ∷ ps) =
@@ -48,19 +48,19 @@ replacement_cut tokens new p =
 
 -- Returns the text in which each token whose index is in `token_indexes` is replaced by `new`.
 abbrev pub text_after_replacement : TextWithTokens → List ℕ → List ℕ → List ℕ
-text_after_replacement s token_indexes new = text_from_place_with_cuts s.text 0 (map (replacement_cut s.tokens new) token_indexes)
+text_after_replacement s token_indexes new = text_after_cuts_from_offset s.text 0 (map (replacement_cut s.tokens new) token_indexes)
 
--- States that the text of each lexeme belongs to the class of the lexeme's kind, and that the next
--- byte never continues the lexeme. `byte` is the byte after the last lexeme.
+-- States that each lexeme's text belongs to the class of the lexeme's kind, and that the byte after
+-- the lexeme never continues it. `byte` is the byte after the last lexeme.
 abbrev pub LexemesEndBeforeByte : List Lexeme → ℕ → Type 0
 LexemesEndBeforeByte [] byte = Unit {0}
 LexemesEndBeforeByte (l ∷ lexemes) byte =
     EndsBeforeByte l (slice_index (text_of_lexemes lexemes ++ (byte ∷ [])) 0) × LexemesEndBeforeByte lexemes byte
 
--- States that the text `new`, whose words are `ws`, may replace any identifier. If a letter can't
--- continue the lexeme before `new`, the first byte of `new` can't continue that lexeme either. The
--- lexemes of `new` stay separate from one another, and from a following byte that isn't a letter or
--- digit.
+-- States that the text `new`, whose words are `ws`, may replace any identifier. `new` isn't empty.
+-- If a letter can't continue the lexeme before `new`, the first byte of `new` can't continue that
+-- lexeme either. The lexemes of `new` stay separate from one another, and from a following byte
+-- that isn't a letter or digit.
 pub record MayReplaceIdentifier (new : List ℕ) (ws : List Word) : Type 0 where
   pub lexemes : List Lexeme
   pub whole : text_of_lexemes lexemes ≡ new

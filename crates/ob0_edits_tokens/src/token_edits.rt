@@ -9,7 +9,7 @@ ghost use Rattle.ob0_edits_tokens.specs.WordReplacements.{words_of_text, changed
 ghost use Rattle.ob0_edits_tokens.specs.Replacements.{AreIdentifierIndexes, replacement_cut, text_after_replacement, MayReplaceIdentifier, range_and_text, replacement_at_token, EditedTextHasWords};
 ghost use Rattle.ob0_text.specs.Units.{width_of};
 ghost use Rattle.ob0_edits_tokens.specs.Ranges.{range_of};
-ghost use Rattle.ob0_edits_tokens.specs.ByteCuts.{length_from_place_with_cuts};
+ghost use Rattle.ob0_edits_tokens.specs.ByteCuts.{length_after_cuts_from_offset};
 ghost use Rattle.ob0_edits_tokens.specs.Removals.{changes_with_removal, MayBeConstantDeclaration, span_of_tokens, text_after_removal_and_replacement};
 
 use crate::spans_and_ranges::{ranges_of_spans, token_span_or_empty, token_spans};
@@ -155,7 +155,7 @@ fn is_edited_text_too_long(
     new: &str,
 ) -> bool
     ensures { result
-        ≡ nat_lt max_text_length (removed.start + length_from_place_with_cuts (length tokens.now.text) removed.end
+        ≡ nat_lt max_text_length (removed.start + length_after_cuts_from_offset (length tokens.now.text) removed.end
         (map (replacement_cut tokens.now.tokens new.now) token_indexes.now)) }
 {
     let mut length = removed.start as usize;

@@ -16,20 +16,20 @@ pub record FramerState : Type 0 where
   pub waiting : List (List ℕ)
   pub rest : StreamRest
 
--- States what reading a piece of the stream does. Arguments: the rest of the stream before the
--- piece, the piece, the contents of the messages that the piece completes, and the rest after the
--- piece. If no message can begin with the bytes after the last complete message, the rest after the
--- piece is `Broken`. A broken stream remains broken, and no later piece completes a message.
-abbrev pub FeedsStream : StreamRest → List ℕ → List (List ℕ) → StreamRest → Type 0
-FeedsStream (Open rest) piece contents (Open left) = Frames (rest ++ piece) contents left × ¬ (CannotBeginMessage left)
-FeedsStream (Open rest) piece contents Broken =
+-- States what reading a piece of the stream does. The arguments are the rest of the stream before
+-- the piece, the piece, the contents of the messages that the piece completes, and the rest after
+-- the piece. If no message can begin with the bytes after the last complete message, the rest after
+-- the piece is `Broken`. A broken stream remains broken, and no later piece completes a message.
+abbrev pub PieceAdvancesStream : StreamRest → List ℕ → List (List ℕ) → StreamRest → Type 0
+PieceAdvancesStream (Open rest) piece contents (Open left) = Frames (rest ++ piece) contents left × ¬ (CannotBeginMessage left)
+PieceAdvancesStream (Open rest) piece contents Broken =
     (left : List ℕ) × Frames (rest ++ piece) contents left × CannotBeginMessage left
-FeedsStream Broken piece contents (Open left) = ⊥
-FeedsStream Broken piece contents Broken = contents ≡ []
+PieceAdvancesStream Broken piece contents (Open left) = ⊥
+PieceAdvancesStream Broken piece contents Broken = contents ≡ []
 
 -- States that reading a piece changes the state of a framer from `old` to `new`. The contents of
 -- the messages that the piece completes are added after the contents that already wait.
-pub record FeedsFramer (old : FramerState) (piece : List ℕ) (new : FramerState) : Type 0 where
+pub record PieceAdvancesFramer (old : FramerState) (piece : List ℕ) (new : FramerState) : Type 0 where
   pub contents : List (List ℕ)
-  pub feeds : FeedsStream old.rest piece contents new.rest
+  pub feeds : PieceAdvancesStream old.rest piece contents new.rest
   pub appended : new.waiting ≡ old.waiting ++ contents

@@ -1,6 +1,6 @@
--- Proves the answer at a name of a constant.
--- As for uses, `Made` and `IsRefused` carry the facts about the edits over to the module of the
--- contract. If no use is hidden, `all_seen` shows the premise of the law of inlining everywhere.
+-- Proves that the answer to inlining everywhere at the name of a constant is right. `Made` and
+-- `IsRefused` carry the facts about the edits over to the module of the contract. If no use is
+-- shadowed, `all_seen` shows the premise of the law of inlining everywhere.
 use Rattle.std.proofs.Common.{zero, arith, ◌≡◌, ◌⊎◌, ℕ, ℤ, suc, ◌+◌, ◌-◌, ◌<◌, ◌&&◌, ◌||◌, not, Bool, true, false, if◌then◌else◌, Option, Some, None, List, [], ◌∷◌, length, map, refl, sym, ap, ◌∙◌, IsSomeAnd, MatchOption, option_and_then, slice_get, eq-eqb, true≢false}
 use Rattle.std.specs.List.{list_any, range_with_len}
 use Rattle.ob0_text.specs.declared.edits.Edit.{Edit}
@@ -14,7 +14,7 @@ use Rattle.ob0_edits_tokens.specs.Ranges.{range_of}
 use Rattle.ob0_edits_tokens.specs.Removals.{span_of_tokens}
 use Rattle.ob0_edits_tokens.specs.Replacements.{replacement_at_token, range_and_text}
 use Rattle.ob0_language_names.specs.Names.{Label, Name}
-use Rattle.ob0_language_names.specs.Occurrences.{bindings, ordinal_bound_at_occurrence, label_ordinal}
+use Rattle.ob0_language_names.specs.Occurrences.{labels_of_occurrences, ordinal_bound_at_occurrence, label_ordinal}
 use Rattle.ob0_scope_table.specs.Resolution.{Resolution}
 use Rattle.ob0_language_names.specs.Scopes.{same_ordinal}
 use Rattle.ob0_scope.specs.declared.bound_names.BoundName as named
@@ -56,7 +56,7 @@ bound_inside (l ∷ ls) (suc k) d e = let h = bound_inside ls k d e in omega (ar
 module _ (m : Tree Name module_text) (c : DeclaredConstant) (none : has_shadowed_use m c ≡ false) where
   shown_each : (k : ℕ) → ordinal_bound_at_occurrence m k ≡ Some c.ordinal → value_text_keeps_meaning m k c.value ≡ true
   shown_each k e =
-      let here : is_shadowed_use m c k ≡ false = ap (is_shadowed_use m c) (let z : k ≡ 0 + k = omega arith in z) ∙ none_passes (is_shadowed_use m c) 0 (length (bindings m)) k none (bound_inside (bindings m) k c.ordinal e) in
+      let here : is_shadowed_use m c k ≡ false = ap (is_shadowed_use m c) (let z : k ≡ 0 + k = omega arith in z) ∙ none_passes (is_shadowed_use m c) 0 (length (labels_of_occurrences m)) k none (bound_inside (labels_of_occurrences m) k c.ordinal e) in
       one (value_text_keeps_meaning m k c.value) (sym (ap (λ o. same_ordinal o c.ordinal && not (value_text_keeps_meaning m k c.value)) e ∙ ap (λ b. b && not (value_text_keeps_meaning m k c.value)) (eq-eqb c.ordinal c.ordinal refl)) ∙ here)
     where
       one : (b : Bool) → not b ≡ false → b ≡ true
@@ -78,8 +78,8 @@ none_of f (k ∷ ks) = one (f k) ∙ none_of f ks
 
 pub numbers_shown : (m : Tree Name module_text) (c : DeclaredConstant) (n : ℤ) → c.value ≡ scalar.Number n → has_shadowed_use m c ≡ false
 numbers_shown m c n e =
-    (λ i. list_any (λ k. same_ordinal (ordinal_bound_at_occurrence m k) c.ordinal && not (value_text_keeps_meaning m k (e i))) (range_with_len 0 (length (bindings m))))
-    ∙ none_of (λ k. same_ordinal (ordinal_bound_at_occurrence m k) c.ordinal) (range_with_len 0 (length (bindings m)))
+    (λ i. list_any (λ k. same_ordinal (ordinal_bound_at_occurrence m k) c.ordinal && not (value_text_keeps_meaning m k (e i))) (range_with_len 0 (length (labels_of_occurrences m))))
+    ∙ none_of (λ k. same_ordinal (ordinal_bound_at_occurrence m k) c.ordinal) (range_with_len 0 (length (labels_of_occurrences m)))
 
 -- The constant with the name at the place is the constant at the place.
 pub constant_named : (m : ParsedModule) (offset : ℕ) (found : named.BoundName) → Some found ≡ name_at_offset m offset → (o : Option DeclaredConstant) → IsSomeAnd o (λ c. (c.ordinal ≡ found.ordinal) × IsDeclaredConstant m c)

@@ -1,6 +1,5 @@
--- Proves the answer at a use.
--- One `subst` carries the facts about the edits over to the module of the contract, as one record
--- (`Made`, `IsRefused`).
+-- Proves that the answer to inlining at one use is right. One `subst` carries the facts about the
+-- edits over to the module of the contract, as one record (`Made`, `IsRefused`).
 use Rattle.std.proofs.Common.{cond, zero, arith, eq-eqb, ◌≡◌, ◌⊎◌, ℕ, suc, ◌+◌, ◌==◌, Bool, true, false, if◌then◌else◌, Option, Some, None, List, [], ◌∷◌, length, map, refl, sym, ap, ◌∙◌, subst, option_and_then, option_map, slice_get, eqb-true, true≢false}
 use Rattle.std.specs.List.{flat_map, position_from}
 use Rattle.std.proofs.Math.Bool.{or-false}
@@ -14,7 +13,7 @@ use Rattle.ob0_edits_tokens.specs.WordReplacements.{changes_at_indexes, changed_
 use Rattle.ob0_edits_tokens.specs.WordTerminals.{terminal_of_word}
 use Rattle.ob0_edits_tokens.proofs.WordsOfTrees.{all_put, put}
 use Rattle.ob0_edits_tokens.specs.Replacements.{AreIdentifierIndexes, replacement_at_token, range_and_text, text_after_replacement}
-use Rattle.ob0_language_names.specs.Inlining.{single_occurrence}
+use Rattle.ob0_language_names.specs.Inlining.{set_of_one_occurrence}
 use Rattle.ob0_language_names.specs.Names.{Name}
 use Rattle.ob0_language_names.specs.Occurrences.{ordinal_bound_at_occurrence}
 use Rattle.ob0_language_types.proofs.Leaves.{same_ordinal-true}
@@ -100,7 +99,7 @@ module _ (r : Resolution) (is : IsResolution r) (u : ConstantUse) (use_so : IsCo
       let places = u.token ∷ [] in
       let vs = value_words u.value in
       sym (all_put s places vs are_names) ∙ ap (flat_map (put s places vs)) (sym (spelled_by_words r.module_read is.parsed))
-      ∙ uses_spelled r is u.constant (value_factor u.value) places are_bound (single_occurrence u.occurrence)
+      ∙ uses_spelled r is u.constant (value_factor u.value) places are_bound (set_of_one_occurrence u.occurrence)
       (λ j i e. or-false (i == u.token) ∙ one_place 0 (length s.tokens) r.uses j u.occurrence i u.token (uses_ascend r is) e there) alone vs (value_spelled u.value)
 
 module _ (r : Resolution) (well : IsWellTyped r) (u : ConstantUse) (use_so : IsConstantUse r.module_read u) where
@@ -113,7 +112,7 @@ module _ (r : Resolution) (well : IsWellTyped r) (u : ConstantUse) (use_so : IsC
   shown_so : value_text_keeps_meaning (named_tree_of r.module_read) u.occurrence u.value ≡ true → TruthWordMeansPredeclared (named_tree_of r.module_read) u.occurrence (scalar_value u.value)
   shown_so e = shown_is (named_tree_of r.module_read) u.occurrence u.value e
 
-  uses_so : value_text_keeps_meaning (named_tree_of r.module_read) u.occurrence u.value ≡ true → AreInlinableUses (named_tree_of r.module_read) u.constant (scalar_value u.value) (single_occurrence u.occurrence)
+  uses_so : value_text_keeps_meaning (named_tree_of r.module_read) u.occurrence u.value ≡ true → AreInlinableUses (named_tree_of r.module_read) u.constant (scalar_value u.value) (set_of_one_occurrence u.occurrence)
   uses_so e =
       let m = named_tree_of r.module_read in
       record {
@@ -127,7 +126,7 @@ module _ (r : Resolution) (well : IsWellTyped r) (u : ConstantUse) (use_so : IsC
       → EditedTextHasTree unit text edits (tree_with_inlined_use r.module_read u)
       → value_text_keeps_meaning (named_tree_of r.module_read) u.occurrence u.value ≡ true → InlinesUse unit text r.module_read u edits
   inlines law fits_so unit text edits made leaves shown =
-      let kept = law (named_tree_of r.module_read) u.constant (scalar_value u.value) (value_factor u.value) (single_occurrence u.occurrence) (written fits_so) (uses_so shown) well.well_typed in
+      let kept = law (named_tree_of r.module_read) u.constant (scalar_value u.value) (value_factor u.value) (set_of_one_occurrence u.occurrence) (written fits_so) (uses_so shown) well.well_typed in
       record { here = made; leaves = leaves; well_typed = kept.0; same_runs = kept.1 }
 
 -- the facts about a use's edits, or about their refusal, for any reading of the module

@@ -1,5 +1,5 @@
--- Proves that names are bound to earlier declarations: each label of a part is below the first
--- ordinal after the part.
+-- Proves that names are bound to earlier declarations: each ordinal to which a name of a part is
+-- bound is below the first ordinal after the part.
 use Rattle.std.proofs.Common.{ℕ, suc, ◌<◌, ◌≤◌, true, false, Option, Some, None, List, [], ◌∷◌, ◌++◌, map, sym, subst, arith}
 use Rattle.ob0_tree.specs.Tree.{Sort, Tree, block, constant, constants, declares, declares_constant, declares_const_section, declares_procedure, declares_type, declares_type_section, declares_variable, declares_var_section, end, formals, section_after_semicolon, forms_block, item, items, maybe, more, none, occurrences, one, procedure, section, some_formals, semicolon_then_section, type_definition, type_definitions, value_section, variable, variable_section, variables}
 use Rattle.ob0_language_names.specs.Names.{Name, naming_by_spelling, same_name}

@@ -23,7 +23,7 @@ use Rattle.ob0_edits_tokens.specs.Removals.{MayBeConstantDeclaration, changes_wi
 use Rattle.ob0_edits_tokens.specs.Replacements.{AreIdentifierIndexes}
 use Rattle.ob0_edits_tokens.specs.WordTerminals.{terminal_of_word}
 use Rattle.ob0_language_names.specs.Names.{Label, Name, naming_by_spelling, declared, same_ordinal_label}
-use Rattle.ob0_language_names.specs.Occurrences.{bindings}
+use Rattle.ob0_language_names.specs.Occurrences.{labels_of_occurrences}
 use Rattle.ob0_language_names.specs.BlockParts.{module_block}
 use Rattle.ob0_language_types.proofs.Literals.{some_inverse}
 use Rattle.ob0_scope_table.specs.Resolution.{IsResolution, Resolution, declaring_names, label_from_table, ordinal_in, declaration_token}
@@ -71,7 +71,7 @@ uses_by_table r is d =
     ∙ ap (λ ls. map (λ (u : ℕ × Label). u.0) (filter (λ u. same_ordinal_label u.1 (declared d)) (zip (occurrences (tree_of m)) ls))) (sym (bindings_by_table m r.ordinals is.numbering)))
 
 -- There are as many bindings as occurrences.
-pub as_many_bindings : (r : Resolution) → IsResolution r → length r.uses ≡ length (bindings (named_tree_of r.module_read))
+pub as_many_bindings : (r : Resolution) → IsResolution r → length r.uses ≡ length (labels_of_occurrences (named_tree_of r.module_read))
 as_many_bindings r is =
     let m = r.module_read in
     ap length is.occurring ∙ (sym (length-map (label_from_table m.source r.ordinals) (occurrences (tree_of m))) ∙ ap length (sym (bindings_by_table m r.ordinals is.numbering)))

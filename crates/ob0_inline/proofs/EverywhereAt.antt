@@ -1,5 +1,5 @@
--- Proves which uses a constant has, and which words remain after its value replaces them and its
--- declaration is removed.
+-- Proves which uses a constant has. Also proves which words remain after its value replaces them
+-- and its declaration is removed.
 use Rattle.std.proofs.Common.{◌≡◌, ℕ, zero, suc, ◌+◌, ◌<◌, ◌==◌, ◌||◌, ◌&&◌, Bool, true, false, cond, Option, Some, None, List, [], ◌∷◌, map, length, refl, sym, ap, ◌∙◌, arith, slice_get, eqb-true, eq-eqb}
 use Rattle.std.specs.List.{filter}
 use Rattle.ob0_scan.specs.declared.lexeme.Token.{Token}
@@ -13,7 +13,7 @@ use Rattle.ob0_edits_tokens.specs.WordsOfTrees.{indexed_terminals_of_words}
 use Rattle.ob0_edits_tokens.specs.Removals.{changes_with_removal}
 use Rattle.ob0_edits_tokens.specs.Replacements.{AreIdentifierIndexes}
 use Rattle.ob0_edits_tokens.specs.WordTerminals.{terminal_of_word}
-use Rattle.ob0_language_names.specs.Inlining.{occurrences_bound_to_ordinal, inlined_everywhere_and_removed}
+use Rattle.ob0_language_names.specs.Inlining.{occurrences_bound_to_ordinal, module_with_constant_inlined_everywhere}
 use Rattle.ob0_language_names.specs.Names.{Name}
 use Rattle.ob0_language_names.specs.BlockParts.{module_block}
 use Rattle.ob0_language_types.proofs.Leaves.{same_ordinal-true}
@@ -122,7 +122,7 @@ module _ (r : Resolution) (is : IsResolution r) (d : ℕ) (w : Value) (has_value
   pub words_everywhere : (v : Tree Name factor) (vs : List Word) → map terminal_of_word vs ≡ spell v → UsesAreFactors r.module_read d
       → AreIdentifierIndexes r.module_read.source.tokens (suc (last_token late_here.taken)) (bound_tokens r.ordinals d r.uses)
       → map terminal_of_word (changed_words (changes_with_removal (first_bound_token late_here.taken) (last_token late_here.taken) (changes_at_indexes (bound_tokens r.ordinals d r.uses) vs)) 0 (words_of_text r.module_read.source))
-      ≡ spell (inlined_everywhere_and_removed (named_tree_of r.module_read) d v)
+      ≡ spell (module_with_constant_inlined_everywhere (named_tree_of r.module_read) d v)
   words_everywhere v vs same alone are_names =
       let m = r.module_read in
       let places = bound_tokens r.ordinals d r.uses in

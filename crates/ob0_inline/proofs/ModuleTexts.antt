@@ -1,5 +1,5 @@
--- Proves that after a value replaces identifiers of a text, its words are the words of the inlined
--- module.
+-- Proves that if a value replaces identifiers of a text, the words of the new text are the words of
+-- the inlined module.
 use Rattle.std.specs.Prelude.{negsuc}
 use Rattle.std.proofs.Common.{◌≡◌, ℕ, suc, ◌+◌, ◌≤◌, Bool, true, false, if◌then◌else◌, nat_lt, List, [], ◌∷◌, ◌++◌, map, refl, ap, ◌∙◌, arith}
 use Rattle.std.proofs.lemmas.List.{append_cancel_right}

@@ -1,6 +1,6 @@
--- Proves that binary search finds the occurrence at a token, since tokens of occurrences ascend.
--- Binary search finds the same as linear search (`halved`). The occurrence is looked up last, when
--- the name is known to be a constant's.
+-- Proves that binary search finds the occurrence at a token, because the tokens of occurrences
+-- ascend. Binary search finds the same as linear search (`halved`). The occurrence is looked up
+-- last, when the name is known to be a constant's.
 use Rattle.std.proofs.Common.{◌≡◌, ◌≢◌, ℕ, zero, suc, ◌+◌, ◌<◌, ◌≤◌, ◌==◌, Bool, true, false, cond, Some, None, Result, Ok, Err, List, [], ◌∷◌, length, get_or, refl, sym, ap, ◌∙◌, eq-eqb, arith}
 use Rattle.std.specs.Prelude.{nat_lt}
 use Rattle.std.specs.Result.{result_ok}

@@ -1,4 +1,5 @@
--- Proves which refusal is the first, from the facts about edits or about their refusal.
+-- Proves which refusal of an inlining is the first, given the facts about the edits or about their
+-- refusal.
 use Rattle.std.proofs.Common.{◌≡◌, ◌⊎◌, ℕ, ◌<◌, ◌≤◌, if◌then◌else◌, nat_lt, Option, Some, List, length, sym, ap, ◌∙◌, inl, inr}
 use Rattle.std.proofs.lemmas.Bool.{le-ltb, lt-ltb}
 use Rattle.ob0_scan.specs.TextWithTokens.{max_text_length}

@@ -1,8 +1,7 @@
--- Proves how a tree in which a factor replaces uses is spelled: as the tree, with the factor's
--- tokens in place of the uses.
--- The tree is over the indexes of tokens. A name is replaced exactly if it is an occurrence that is
--- a use (`Rest`). Names that aren't looked up aren't replaced (`others`), nor are names that aren't
--- factors by themselves (`apart`).
+-- Proves that a tree in which a factor replaces uses is spelled like the original tree, with the
+-- factor's tokens in place of the uses. The tree's names are token indexes. A name is replaced
+-- exactly if it is an occurrence that is a use (`Rest`). Names that aren't looked up aren't
+-- replaced (`others`), and neither are names that aren't whole factors (`apart`).
 use Rattle.std.proofs.Common.{◌≡◌, ◌≢◌, ℕ, suc, ◌+◌, ◌==◌, Bool, true, false, if◌then◌else◌, Option, None, Some, List, [], ◌∷◌, ◌++◌, length, refl, sym, ap, ◌∙◌, subst, arith, append-nil, add-zero, eqb-true, slice_get}
 use Rattle.std.proofs.lemmas.List.Concat.{flat_map-append}
 use Rattle.std.specs.List.{flat_map}

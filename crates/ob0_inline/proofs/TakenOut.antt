@@ -1,8 +1,7 @@
--- Defines a tree from which the declaration of a constant is removed: the rest, over any names, and
--- the removed tokens.
--- `gone_module` is the module without the declaration, over any names. `Taken` splits the tokens of
--- the tree into three parts: the tokens up to CONST or a semicolon, the declaration from its name
--- to its semicolon, and the rest. The declaration contains no other semicolon.
+-- Defines the tree that remains if the declaration of a constant is removed, over any names, and
+-- the removed tokens. `gone_module` is the module without the declaration. `Taken` splits the
+-- tokens of the tree into three parts: the tokens up to CONST or a semicolon, the declaration from
+-- its name to its semicolon, and the rest. The declaration contains no other semicolon.
 use Rattle.std.proofs.Common.{zero, slice_get, ◌≡◌, ◌≢◌, ◌⊎◌, ℕ, suc, ◌+◌, ◌<◌, ◌≤◌, ◌==◌, Bool, true, false, if◌then◌else◌, Option, Some, None, List, [], ◌∷◌, ◌++◌, length, refl, sym, ap, ◌∙◌, arith, append_assoc, ne_eqb}
 use Rattle.ob0_scan.specs.declared.lexeme.ReservedWord.TheVariants as reserved
 use Rattle.ob0_scan.specs.declared.lexeme.Symbol.TheVariants as symbol

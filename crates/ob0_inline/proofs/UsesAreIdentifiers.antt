@@ -1,5 +1,5 @@
--- Proves that the tokens of occurrences that are bound to a constant are names in text order. With
--- other words in their place, the tokens are the tokens of the inlined tree.
+-- Proves that the occurrences that are bound to a constant are identifiers in text order. If other
+-- words replace them, the tokens of the text are the tokens of the inlined tree.
 use Rattle.std.proofs.Common.{◌≡◌, ◌≢◌, ℕ, zero, suc, ◌+◌, ◌≤◌, ◌==◌, ◌||◌, Bool, true, false, Option, Some, None, List, [], ◌∷◌, map, length, refl, sym, ap, ◌∙◌, subst, arith, slice_get, eqb-true, eq-eqb, true≢false}
 use Rattle.std.specs.List.{All, flat_map}
 use Rattle.std.proofs.lemmas.List.Elements.{All-head, All-tail}

@@ -16,9 +16,9 @@ use Rattle.ob0_edits_tokens.specs.Ranges.{range_of}
 use Rattle.ob0_edits_tokens.specs.Removals.{span_of_tokens, text_after_removal_and_replacement}
 use Rattle.ob0_edits_tokens.specs.Replacements.{replacement_at_token, range_and_text}
 use Rattle.ob0_language_names.specs.NonFactorNames.{non_factor_occurrences}
-use Rattle.ob0_language_names.specs.Inlining.{inlined_everywhere_and_removed}
+use Rattle.ob0_language_names.specs.Inlining.{module_with_constant_inlined_everywhere}
 use Rattle.ob0_language_names.specs.Names.{Name, declared, same_ordinal_label}
-use Rattle.ob0_language_names.specs.Occurrences.{bindings, ordinal_bound_at_occurrence}
+use Rattle.ob0_language_names.specs.Occurrences.{labels_of_occurrences, ordinal_bound_at_occurrence}
 use Rattle.ob0_scope_table.specs.Resolution.{declaring_names, declaration_token}
 use Rattle.ob0_language_names.specs.Scopes.{numbered, same_ordinal}
 use Rattle.ob0_language_values.specs.Scalars.{scalar_value}
@@ -62,32 +62,31 @@ HasNoConstantAtOffset m offset =
 abbrev pub tokens_of_uses : ParsedModule → ℕ → List ℕ
 tokens_of_uses m d =
     map (λ u. u.0) (filter (λ u. same_ordinal_label u.1 (declared d))
-    (zip (occurrences (tree_of m)) (bindings (named_tree_of m))))
+    (zip (occurrences (tree_of m)) (labels_of_occurrences (named_tree_of m))))
 
 -- States that each use of the declaration with the ordinal `d` is a whole factor of an expression:
 -- a name without selectors.
 abbrev pub UsesAreFactors : ParsedModule → ℕ → Type 0
 UsesAreFactors m d = All (λ l. l ≢ declared d) (non_factor_occurrences (numbered (named_tree_of m)))
 
--- Returns the tree of the module after the constant `c` is inlined everywhere: the value of `c`
--- replaces all its uses, and the declaration of `c` is removed.
+-- Returns the module's tree after the constant `c` is inlined everywhere. The value of `c` replaces
+-- all its uses, and the declaration of `c` is removed.
 abbrev pub tree_inlined_everywhere : ParsedModule → DeclaredConstant → Tree Name module_text
-tree_inlined_everywhere m c = inlined_everywhere_and_removed (named_tree_of m) c.ordinal (value_factor c.value)
+tree_inlined_everywhere m c = module_with_constant_inlined_everywhere (named_tree_of m) c.ordinal (value_factor c.value)
 
 -- Returns the module's text, in bytes, after the constant `c` is inlined everywhere.
 abbrev pub text_inlined_everywhere : ParsedModule → DeclaredConstant → List ℕ
 text_inlined_everywhere m c = text_after_removal_and_replacement m.source c.first c.last (tokens_of_uses m c.ordinal) (value_text c.value)
 
--- Returns whether the occurrence with the number `k` is a use of the constant `c` at which the word
--- for the truth value of `c` is shadowed. The word, TRUE or FALSE, is shadowed if it wouldn't refer
--- to the predeclared name there. If the value of `c` is a number, the result is false.
+-- Returns whether the occurrence with the number `k` is a shadowed use of the constant `c`. A use
+-- of `c` is shadowed if TRUE or FALSE, the value of `c`, wouldn't refer to the predeclared name
+-- there. If the value of `c` is a number, the result is false.
 abbrev pub is_shadowed_use : Tree Name module_text → DeclaredConstant → ℕ → Bool
 is_shadowed_use m c k = same_ordinal (ordinal_bound_at_occurrence m k) c.ordinal && not (value_text_keeps_meaning m k c.value)
 
--- Returns whether the word for the truth value of the constant `c`, TRUE or FALSE, is shadowed at
--- some use of `c` (`is_shadowed_use`).
+-- Returns whether the constant `c` has a shadowed use (`is_shadowed_use`).
 abbrev pub has_shadowed_use : Tree Name module_text → DeclaredConstant → Bool
-has_shadowed_use m c = list_any (is_shadowed_use m c) (range_with_len 0 (length (bindings m)))
+has_shadowed_use m c = list_any (is_shadowed_use m c) (range_with_len 0 (length (labels_of_occurrences m)))
 
 -- Returns whether the constant's declaration has a comment between the constant's name and the
 -- declaration's `;`.
@@ -103,7 +102,7 @@ refusal_of_inlining_everywhere m c =
     else if declaration_has_comment m c then Some CommentInside else None)
 
 -- States that the edits inline the constant `c` everywhere. They remove the declaration of `c`,
--- from its name to its `;`, write the value of `c` in place of each use, and change no other
+-- from its name to its `;`, and write the value of `c` in place of each use. They change no other
 -- character. The edited text is the inlined module, which is well-typed and has the same runs as
 -- the module before.
 pub record InlinesEverywhere (unit : counting.Unit) (text : List ℕ) (m : ParsedModule)

@@ -1,5 +1,5 @@
--- Defines the use of a constant at a byte offset, the module after the constant is inlined at that
--- use, and the refusals of this edit.
+-- Defines the use of a constant at a byte offset. Also defines the module after the constant is
+-- inlined at that use, and the refusals of this edit.
 -- Rule: docs/PROTOCOL.md, Requests on documents 9, Refusals of edits.
 use Rattle.std.specs.Prelude.{◌≡◌, ◌⊎◌, ℕ, Bool, true, false, if◌then◌else◌, List, [], ◌∷◌, Option, Some, None, Result, Ok, Err, Vec, map, slice_get}
 use Rattle.std.specs.declared.alloc.Global.{Global}
@@ -11,7 +11,7 @@ use Rattle.ob0_tree.specs.ParsedModule.{ParsedModule, named_tree_of, tree_of}
 use Rattle.ob0_tree.specs.Tree.{Tree, module_text, occurrences}
 use Rattle.ob0_edits_tokens.specs.Replacements.{replacement_at_token, range_and_text, text_after_replacement}
 use Rattle.ob0_edits_tokens.specs.Written.{truth_text}
-use Rattle.ob0_language_names.specs.Inlining.{inlined, single_occurrence}
+use Rattle.ob0_language_names.specs.Inlining.{inlined, set_of_one_occurrence}
 use Rattle.ob0_language_names.specs.Names.{Name}
 use Rattle.ob0_language_names.specs.Occurrences.{ordinal_bound_at_occurrence}
 use Rattle.ob0_language_names.specs.Scopes.{same_ordinal}
@@ -49,8 +49,8 @@ truth_name_ordinal true = 2
 truth_name_ordinal false = 3
 
 -- Returns whether the word for a truth value, TRUE or FALSE, would refer to the predeclared name if
--- it replaced the occurrence with the number `occurrence`. If the value is a number, the result is
--- true.
+-- it replaced an occurrence. `occurrence` is the number of this occurrence. If the value is a
+-- number, the result is true.
 abbrev pub value_text_keeps_meaning : Tree Name module_text → ℕ → Scalar → Bool
 value_text_keeps_meaning m occurrence (scalar.Number n) = true
 value_text_keeps_meaning m occurrence (scalar.Truth b) =
@@ -59,7 +59,7 @@ value_text_keeps_meaning m occurrence (scalar.Truth b) =
 -- Returns the tree of the module after the constant is inlined at the use `u`: the constant's value
 -- replaces that use.
 abbrev pub tree_with_inlined_use : ParsedModule → ConstantUse → Tree Name module_text
-tree_with_inlined_use m u = inlined (named_tree_of m) (single_occurrence u.occurrence) (value_factor u.value)
+tree_with_inlined_use m u = inlined (named_tree_of m) (set_of_one_occurrence u.occurrence) (value_factor u.value)
 
 -- Returns the first refusal that applies to inlining the constant at the use `u`, or None if no
 -- refusal applies.

@@ -48,12 +48,12 @@ pub(crate) fn constant_use_at(module: &WellTyped, offset: usize) -> Option<Const
 }
 
 /// Returns the number of the occurrence whose token has the index `token`, counted from 0. Returns
-/// None if that token isn't an occurrence. The function can use a binary search, because the token
+/// None if that token isn't an occurrence. A binary search finds the number, because the token
 /// indexes of occurrences ascend.
 fn occurrence_number_of_token(names: &Resolved, token: usize) -> Option<usize>
     ensures { result ≡ position_from (λ other. other == token) 0 names.now.uses }
 {
-    // The proof needs the contract of this call.
+    // The proof needs `IsResolution` of the names, which the contract of this call states.
     let _module = names.module();
     names.occurrences().binary_search(&token).ok()
 }

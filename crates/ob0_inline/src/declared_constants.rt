@@ -36,7 +36,7 @@ pub(crate) fn constant_at(module: &WellTyped, offset: usize) -> Option<DeclaredC
     let names = module.resolved();
     match name_at_offset(names, offset) {
         Some(found) => match module.constant(found.ordinal) {
-            Some(value) => constant_with_tokens(names, found.ordinal, value),
+            Some(value) => constant_with_declaration_tokens(names, found.ordinal, value),
             None => None,
         },
         None => None,
@@ -45,13 +45,17 @@ pub(crate) fn constant_at(module: &WellTyped, offset: usize) -> Option<DeclaredC
 
 /// Returns the constant with this ordinal and value, together with the token indexes of its name
 /// and of its declaration's `;`. The contract promises that the result isn't None.
-fn constant_with_tokens(names: &Resolved, ordinal: usize, value: Scalar) -> Option<DeclaredConstant>
+fn constant_with_declaration_tokens(
+    names: &Resolved,
+    ordinal: usize,
+    value: Scalar,
+) -> Option<DeclaredConstant>
     requires has_value { constant_value_in_module (named_tree_of names.now.module_read) ordinal
         ≡ Some (scalar_value value) }
     ensures { IsSomeAnd result (λ c. (c.ordinal ≡ ordinal)
         × IsDeclaredConstant names.now.module_read c) }
 {
-    // The proof needs the contract of this call.
+    // The proof needs `IsResolution` of the names, which the contract of this call states.
     let _module = names.module();
     match names.declaring_token(ordinal) {
         Some(first) => match end_of_declaration(names.tokens().tokens(), first) {

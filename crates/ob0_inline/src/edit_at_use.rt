@@ -21,7 +21,8 @@ use ob0_text::{Edit, EditRefusal, TextStore};
 use std::alloc::Global;
 
 /// Returns the edit that writes a constant's value in place of the use `found`. If the edited text
-/// is too long, the refusal is `TooLong`. If it is nested too deep, the refusal is `TooDeep`.
+/// is too long, the refusal is `TooLong`. If it is nested too deep, the refusal is `TooDeep`. If an
+/// allocation fails, it is `Memory`.
 pub(crate) fn edits_to_inline_use<T: TextStore>(
     alloc: Global,
     store: &T,

@@ -34,7 +34,8 @@ use std::alloc::{AllocError, Global};
 /// Returns the edits that inline the constant whose name is at `place`. The edits write the
 /// constant's value in place of all its uses, and remove its declaration, from its name to its `;`.
 /// The first edit removes the declaration, and the other edits follow in text order. If `place`
-/// isn't on the name of a constant, the refusal is `NoName`.
+/// isn't on the name of a constant, the refusal is `NoName`. Otherwise the first refusal that
+/// applies is returned (`refusal_of_inlining_everywhere`), or `Memory` if an allocation fails.
 pub fn inline_all<T: TextStore>(
     alloc: Global,
     store: &T,
@@ -85,7 +86,7 @@ fn inline_constant<T: TextStore>(
 /// Returns the edits that inline `constant` everywhere. The first edit removes the constant's
 /// declaration. Each further edit writes the value in place of one use, in text order. If the
 /// edited text is too long, the refusal is `TooLong`. If it is nested too deep, the refusal is
-/// `TooDeep`.
+/// `TooDeep`. If an allocation fails, it is `Memory`.
 fn edits_to_inline_everywhere<T: TextStore>(
     alloc: Global,
     store: &T,
@@ -146,7 +147,7 @@ fn tokens_of_uses(
 ) -> Result<Vec<usize>, AllocError>
     ensures { IfOk result (λ uses. uses.items ≡ tokens_of_uses names.now.module_read constant) }
 {
-    // The proof needs the contract of this call.
+    // The proof needs `IsResolution` of the names, which the contract of this call states.
     let _module = names.module();
     let mut uses = Vec::new(alloc);
     for token in names.occurrences() {

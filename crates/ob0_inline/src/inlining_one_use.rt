@@ -17,7 +17,8 @@ use ob0_types::WellTyped;
 use std::alloc::Global;
 
 /// Returns the edit that writes a constant's value in place of the use at `place`. If `place` isn't
-/// on a use of a constant, the refusal is `NoName`.
+/// on a use of a constant, the refusal is `NoName`. Otherwise the first refusal that applies is
+/// returned (`refusal_of_inlining_use`), or `Memory` if an allocation fails.
 pub fn inline_here<T: TextStore>(
     alloc: Global,
     store: &T,

@@ -1,6 +1,6 @@
-//! Inlines a constant, at one use or at all its uses. The result is the edits that write the
-//! constant's value in place of its name, or a refusal (docs/PROTOCOL.md, Requests on documents and
-//! Refusals of edits).
+//! Inlines a constant, at one use or at all its uses. Returns the edits that write the constant's
+//! value in place of its name, or a refusal (docs/PROTOCOL.md, Requests on documents and Refusals
+//! of edits). If all uses are inlined, the edits also remove the constant's declaration.
 #![tactic(auto)]
 
 mod constant_uses;

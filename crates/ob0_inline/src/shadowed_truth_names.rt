@@ -1,10 +1,10 @@
-//! Tests whether TRUE or FALSE, written in place of an occurrence, would refer to the predeclared
-//! name. An occurrence is a name in the text that is looked up to find its declaration.
+//! Tests whether TRUE or FALSE would refer to the predeclared name if it were written in place of
+//! an occurrence. An occurrence is a name in the text that is looked up to find its declaration.
 
 ghost use Rattle.std.specs.Prelude.{◌≡◌, IfOk, ◌==◌, ◌&&◌, not, length, option_and_then, slice_get};
 ghost use Rattle.std.specs.List.{list_any, range_with_len};
 ghost use Rattle.ob0_tree.specs.ParsedModule.{named_tree_of};
-ghost use Rattle.ob0_language_names.specs.Occurrences.{bindings, ordinal_bound_at_occurrence};
+ghost use Rattle.ob0_language_names.specs.Occurrences.{labels_of_occurrences, ordinal_bound_at_occurrence};
 ghost use Rattle.ob0_language_names.specs.Scopes.{same_ordinal};
 ghost use Rattle.ob0_language_names.specs.OccurrenceLookup.{resolve_name_at_occurrence};
 ghost use Rattle.ob0_inline.specs.Everywhere.{has_shadowed_use};
@@ -39,8 +39,8 @@ pub(crate) fn value_text_keeps_meaning(
     }
 }
 
-/// Returns whether `name`, written in place of the occurrence with the number `occurrence`, would
-/// be bound to the declaration with the ordinal `ordinal`. Occurrences are numbered from 0 in text
+/// Returns whether `name` would be bound to the declaration with the ordinal `ordinal` if it
+/// replaced the occurrence with the number `occurrence`. Occurrences are numbered from 0 in text
 /// order.
 fn name_would_be_bound_to_ordinal(
     alloc: Global,
@@ -69,9 +69,9 @@ fn is_bound_to_ordinal(bound: &[Option<usize>], occurrence: usize, ordinal: usiz
     }
 }
 
-/// Returns whether the word for the constant's truth value, TRUE or FALSE, is shadowed at some use
-/// of the constant. The word is shadowed at a use if it wouldn't refer to the predeclared name
-/// there. If the value is a number, the result is false.
+/// Returns whether the constant has a shadowed use. A use is shadowed if TRUE or FALSE, the
+/// constant's value, wouldn't refer to the predeclared name there. If the value is a number, the
+/// result is false.
 pub(crate) fn has_shadowed_use(
     alloc: Global,
     names: &Resolved,
@@ -101,8 +101,8 @@ pub(crate) fn has_shadowed_use(
 }
 
 /// Returns whether `name` is shadowed at some use of the constant with the ordinal `constant`. The
-/// name is shadowed at a use if, written in place of the use, it wouldn't be bound to the
-/// declaration with the ordinal `ordinal`.
+/// name is shadowed at a use if, in place of that use, it wouldn't be bound to the declaration with
+/// the ordinal `ordinal`.
 fn is_name_shadowed_at_some_use(
     alloc: Global,
     names: &Resolved,
@@ -114,18 +114,18 @@ fn is_name_shadowed_at_some_use(
         hidden
         ≡ list_any (λ k. same_ordinal (ordinal_bound_at_occurrence (named_tree_of names.now.module_read) k) constant
         && not (same_ordinal (resolve_name_at_occurrence (named_tree_of names.now.module_read) k name.now) ordinal))
-        (range_with_len 0 (length (bindings (named_tree_of names.now.module_read))))) }
+        (range_with_len 0 (length (labels_of_occurrences (named_tree_of names.now.module_read))))) }
 {
-    // The proof needs the contract of this call.
+    // The proof needs `IsResolution` of the names, which the contract of this call states.
     let _module = names.module();
     let bound = resolve_name_at_each_occurrence(alloc, names, name)?;
-    Ok(has_use_with_other_binding(names, &bound, constant, ordinal))
+    Ok(has_use_with_shadowed_name(names, &bound, constant, ordinal))
 }
 
 /// Returns whether the constant with the ordinal `constant` has a use whose item in `bound` isn't
 /// `ordinal`. `bound` has an item for each occurrence, in text order: the ordinal of a declaration,
 /// or None.
-fn has_use_with_other_binding(
+fn has_use_with_shadowed_name(
     names: &Resolved,
     bound: &[Option<usize>],
     constant: usize,
@@ -137,7 +137,7 @@ fn has_use_with_other_binding(
         (range_with_len 0 (length names.now.uses)) }
 {
     for occurrence in 0..names.occurrences().len() {
-        if is_use_with_other_binding(names, bound, occurrence, constant, ordinal) {
+        if is_use_with_shadowed_name(names, bound, occurrence, constant, ordinal) {
             return true;
         }
     }
@@ -147,7 +147,7 @@ fn has_use_with_other_binding(
 /// Returns whether the occurrence with the number `occurrence` is a use of the constant with the
 /// ordinal `constant`, and its item in `bound` isn't `ordinal`. `bound` has an item for each
 /// occurrence, in text order: the ordinal of a declaration, or None.
-fn is_use_with_other_binding(
+fn is_use_with_shadowed_name(
     names: &Resolved,
     bound: &[Option<usize>],
     occurrence: usize,

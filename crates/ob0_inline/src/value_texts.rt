@@ -42,13 +42,13 @@ fn number_text(alloc: Global, number: i32) -> Result<String, AllocError>
     format!(in alloc; "{number}")
 }
 
-/// Proves that the text of a 32-bit number may replace any identifier (`MayReplaceIdentifier`). The
-/// function has no effect.
+/// Proves that the text of the 32-bit number `number` may replace any identifier
+/// (`MayReplaceIdentifier`). The function has no effect.
 fn number_text_may_replace_identifier(number: i32)
     ensures { MayReplaceIdentifier (number_text number) (number_words number) }
 {}
 
-/// Proves that each `Scalar` is a 32-bit number or a truth value. The function has no effect.
+/// Proves that the scalar `value` is a 32-bit number or a truth value. The function has no effect.
 pub(crate) fn scalar_fits_in_32_bits(value: Scalar)
     ensures { Is32BitScalar (scalar_value value) }
 {

@@ -1,4 +1,5 @@
--- Makes the edits, as values of the code, that replace tokens of a text or remove a declaration. Counts them.
+-- Makes the edits that replace tokens of a text or remove a declaration, as values of the code, and
+-- counts these edits.
 use Rattle.std.proofs.Common.{◌≡◌, ◌+◌, ◌≤◌, ℕ, suc, List, [], ◌∷◌, String, map, length, refl, ap, arith}
 use Rattle.std.proofs.lemmas.Str.{IsUtf8-nil}
 use Rattle.std.specs.Str.{IsUtf8}

@@ -21,12 +21,12 @@ use Rattle.ob0_language_names.specs.Scopes.{ordinal_after_names, ordinal_after_p
 use Rattle.ob0_language_values.specs.declared.scalar.Scalar.{Scalar}
 use Rattle.ob0_language_values.specs.declared.scalar.Scalar.TheVariants as scalar
 use Rattle.ob0_language_values.specs.Scalars.{scalar_value}
-use Rattle.ob0_language_values.specs.Values.{Outcome, Overflow, Place, PathStep, Value, add, add_operator_short_circuits, apply_sign, at_field, at_index, value_at_path, checked_division, division_outcome, elements, ends_run_with, fits_in_32_bits, succeeds_with, checked_number, members, multiply, multiply_operator_short_circuits, negate, number, result_or_stuck, quotient, apply_relation, remainder, truth, ◌>>=◌}
+use Rattle.ob0_language_values.specs.Values.{Outcome, Overflow, Place, PathStep, Value, apply_add_operator, add_operator_short_circuits, apply_sign, at_field, at_index, value_at_path, checked_division, division_outcome, elements, ends_run_with, fits_in_32_bits, succeeds_with, checked_number, members, apply_multiply_operator, multiply_operator_short_circuits, apply_not, number, result_or_stuck, quotient, apply_relation, remainder, truth, ◌>>=◌}
 use Rattle.ob0_language_types.specs.ConstantValues.{ConstantEnvironment, non_constant_placeholder, predeclared_constants, constant_value_in_section, constant_value_in_block, constant_value_in_procedure, constant_value_in_procedure_list, constant_value_in_module}
 use Rattle.ob0_language_types.specs.Declarations.{declare_constants}
 use Rattle.ob0_language_types.specs.EditLaws.{Is32BitScalar}
 use Rattle.ob0_language_types.specs.Environments.{suffix_from_newest_binding, meanings, newest_object}
-use Rattle.ob0_language_types.specs.Expressions.{Meanings, Object, a_constant, a_procedure, a_standard_procedure, a_type, a_variable, evaluate, evaluate_addends, evaluate_factor, evaluate_multipliers, evaluate_simple_expression, evaluate_term, evaluate_selectors, object_value}
+use Rattle.ob0_language_types.specs.Expressions.{Meanings, Object, a_constant, a_procedure, a_standard_procedure, a_type, a_variable, evaluate_expression, evaluate_addends, evaluate_factor, evaluate_multipliers, evaluate_simple_expression, evaluate_term, evaluate_selectors, object_value}
 use Rattle.ob0_language_types.specs.Typing.{value_of_constant_object, constant_expression_value, meanings_in_constant_expressions, outcome_value, type_of_expression}
 use Rattle.ob0_language_types.specs.WellTyped.{bind_names}
 use Rattle.ob0_language_types.proofs.Literals.{some_inverse}
@@ -55,13 +55,13 @@ checked_division-scalar : (result : Option ℤ) → GivesScalar (division_outcom
 checked_division-scalar None = tt
 checked_division-scalar (Some n) = checked_number-scalar n
 
-add-scalar : (o : AddOperator) (v w : Value) → GivesScalar (add o v w)
+add-scalar : (o : AddOperator) (v w : Value) → GivesScalar (apply_add_operator o v w)
 add-scalar add_operator.Add (number a) (number b) = checked_number-scalar (a +ℤ b)
 add-scalar add_operator.Subtract (number a) (number b) = checked_number-scalar (a -ℤ b)
 add-scalar add_operator.Or (truth a) (truth b) = tt
 add-scalar _ _ _ = tt
 
-multiply-scalar : (o : MultiplyOperator) (v w : Value) → GivesScalar (multiply o v w)
+multiply-scalar : (o : MultiplyOperator) (v w : Value) → GivesScalar (apply_multiply_operator o v w)
 multiply-scalar multiply_operator.Multiply (number a) (number b) = checked_number-scalar (a *ℤ b)
 multiply-scalar multiply_operator.Divide (number a) (number b) = checked_division-scalar (checked_division quotient a b)
 multiply-scalar multiply_operator.Modulo (number a) (number b) = checked_division-scalar (checked_division remainder a b)
@@ -80,7 +80,7 @@ sign-scalar (Some sign.Plus) (number a) h = checked_number-scalar a
 sign-scalar (Some sign.Minus) (number a) h = checked_number-scalar (neg_ℤ a)
 sign-scalar (Some _) _ h = tt
 
-negate-scalar : (v : Value) → GivesScalar (negate v)
+negate-scalar : (v : Value) → GivesScalar (apply_not v)
 negate-scalar (truth b) = tt
 negate-scalar _ = tt
 
@@ -123,9 +123,9 @@ small-scalar n low = lt-ltb n 2147483648 (omega (arith, low))
 module _ (f : ℕ → Name) (g : ℕ → ℕ) (small : (i : ℕ) → g i ≤ 2147483647) where
   module _ (meaning : Meanings Name Place (Unit {0})) (known : (x : Name) → HasScalar (meaning.object_for x)) where
     mutual
-      unfolding evaluate
+      unfolding evaluate_expression
 
-      expression-scalar : (e : Tree ℕ expression) → GivesScalar (evaluate meaning [] (mapped_tree f g e))
+      expression-scalar : (e : Tree ℕ expression) → GivesScalar (evaluate_expression meaning [] (mapped_tree f g e))
       expression-scalar (compares a none) = simple-scalar a
       expression-scalar (compares a (one (relates r b))) =
           scalar-then (evaluate_simple_expression meaning [] (mapped_tree f g a)) (λ x. evaluate_simple_expression meaning [] (mapped_tree f g b) >>= apply_relation r x) (simple-scalar a)
@@ -139,8 +139,8 @@ module _ (f : ℕ → Name) (g : ℕ → ℕ) (small : (i : ℕ) → g i ≤ 214
       addends-scalar : (x : Value) → Is32BitScalar x → (a : Tree ℕ (items addend)) → GivesScalar (evaluate_addends meaning [] x (mapped_tree f g a))
       addends-scalar x h end = h
       addends-scalar x h (more (adds o t) rest) =
-          scalar-then (elim (add_operator_short_circuits o x) [ true ↦ succeeds_with x | false ↦ evaluate_term meaning [] (mapped_tree f g t) >>= add o x ]) (λ y. evaluate_addends meaning [] y (mapped_tree f g rest))
-          (settled-scalar (add_operator_short_circuits o x) x (evaluate_term meaning [] (mapped_tree f g t) >>= add o x) h (scalar-then (evaluate_term meaning [] (mapped_tree f g t)) (add o x) (term-scalar t) (λ y k. add-scalar o x y)))
+          scalar-then (elim (add_operator_short_circuits o x) [ true ↦ succeeds_with x | false ↦ evaluate_term meaning [] (mapped_tree f g t) >>= apply_add_operator o x ]) (λ y. evaluate_addends meaning [] y (mapped_tree f g rest))
+          (settled-scalar (add_operator_short_circuits o x) x (evaluate_term meaning [] (mapped_tree f g t) >>= apply_add_operator o x) h (scalar-then (evaluate_term meaning [] (mapped_tree f g t)) (apply_add_operator o x) (term-scalar t) (λ y k. add-scalar o x y)))
           (λ y k. addends-scalar y k rest)
 
       term-scalar : (t : Tree ℕ term) → GivesScalar (evaluate_term meaning [] (mapped_tree f g t))
@@ -150,8 +150,8 @@ module _ (f : ℕ → Name) (g : ℕ → ℕ) (small : (i : ℕ) → g i ≤ 214
       multipliers-scalar : (x : Value) → Is32BitScalar x → (a : Tree ℕ (items multiplier)) → GivesScalar (evaluate_multipliers meaning [] x (mapped_tree f g a))
       multipliers-scalar x h end = h
       multipliers-scalar x h (more (multiplies o a) rest) =
-          scalar-then (elim (multiply_operator_short_circuits o x) [ true ↦ succeeds_with x | false ↦ evaluate_factor meaning [] (mapped_tree f g a) >>= multiply o x ]) (λ y. evaluate_multipliers meaning [] y (mapped_tree f g rest))
-          (settled-scalar (multiply_operator_short_circuits o x) x (evaluate_factor meaning [] (mapped_tree f g a) >>= multiply o x) h (scalar-then (evaluate_factor meaning [] (mapped_tree f g a)) (multiply o x) (factor-scalar a) (λ y k. multiply-scalar o x y)))
+          scalar-then (elim (multiply_operator_short_circuits o x) [ true ↦ succeeds_with x | false ↦ evaluate_factor meaning [] (mapped_tree f g a) >>= apply_multiply_operator o x ]) (λ y. evaluate_multipliers meaning [] y (mapped_tree f g rest))
+          (settled-scalar (multiply_operator_short_circuits o x) x (evaluate_factor meaning [] (mapped_tree f g a) >>= apply_multiply_operator o x) h (scalar-then (evaluate_factor meaning [] (mapped_tree f g a)) (apply_multiply_operator o x) (factor-scalar a) (λ y k. multiply-scalar o x y)))
           (λ y k. multipliers-scalar y k rest)
 
       factor-scalar : (a : Tree ℕ factor) → GivesScalar (evaluate_factor meaning [] (mapped_tree f g a))
@@ -160,7 +160,7 @@ module _ (f : ℕ → Name) (g : ℕ → ℕ) (small : (i : ℕ) → g i ≤ 214
           (λ v h. any-then (evaluate_selectors meaning [] v (mapped_tree f g path)) (λ steps. result_or_stuck (value_at_path steps v)) (λ steps. path-scalar steps v h))
       factor-scalar (integer n) = small-scalar (g n) (small n)
       factor-scalar (parenthesised e) = expression-scalar e
-      factor-scalar (negation a) = scalar-then (evaluate_factor meaning [] (mapped_tree f g a)) negate (factor-scalar a) (λ v h. negate-scalar v)
+      factor-scalar (negation a) = scalar-then (evaluate_factor meaning [] (mapped_tree f g a)) apply_not (factor-scalar a) (λ v h. negate-scalar v)
 
   -- ---- declarations
 
@@ -198,8 +198,8 @@ module _ (f : ℕ → Name) (g : ℕ → ℕ) (small : (i : ℕ) → g i ≤ 214
   unfolding constant_expression_value
   constant-scalar known h e v q =
       let meaning : Meanings Name Place (Unit {0}) = meanings_in_constant_expressions (meanings naming_by_spelling known) in
-      let found = then_some (type_of_expression {P = Unit {0}} (meanings_in_constant_expressions (meanings naming_by_spelling known)) (mapped_tree f g e)) (λ s. outcome_value (evaluate {P = Unit {0}} (meanings_in_constant_expressions (meanings naming_by_spelling known)) [] (mapped_tree f g e))) v q in
-      given-scalar (evaluate meaning [] (mapped_tree f g e)) v (expression-scalar meaning (looked-up known h) e) found.2
+      let found = then_some (type_of_expression {P = Unit {0}} (meanings_in_constant_expressions (meanings naming_by_spelling known)) (mapped_tree f g e)) (λ s. outcome_value (evaluate_expression {P = Unit {0}} (meanings_in_constant_expressions (meanings naming_by_spelling known)) [] (mapped_tree f g e))) v q in
+      given-scalar (evaluate_expression meaning [] (mapped_tree f g e)) v (expression-scalar meaning (looked-up known h) e) found.2
 
   bound-scalar : (xs : List Name) (known : ConstantEnvironment) → AllScalar known → AllScalar (bind_names xs non_constant_placeholder known)
   bound-scalar [] known h = h

@@ -1,5 +1,5 @@
--- States that a request to inline a constant always has an answer: for each text, some list of
--- edits, possibly empty, is right. The statement rests on an assumption about well-typed texts
+-- States that a request to inline a constant has an answer for each text: some list of edits,
+-- possibly empty, is right. The premise is an assumption about well-typed texts
 -- (`WellTypedTextsCanBeParsed`).
 -- Rule: docs/PROTOCOL.md, Requests on documents 9.
 use Rattle.std.specs.Prelude.{ℕ, List}

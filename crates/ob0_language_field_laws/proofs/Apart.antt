@@ -1,4 +1,5 @@
--- If fields get other names, only these names change in the types of expressions and in the meanings of names.
+-- If fields are renamed, only the names of fields change in the types of expressions and in the
+-- meanings of names.
 use Rattle.std.proofs.Common.{◌≡◌, ℕ, suc, ◌+◌, ◌*◌, max, Bool, true, false, ◌&&◌, List, [], ◌∷◌, map, if◌then◌else◌, nat_le, ◌==◌, Some, None, Option, option_map, option_and_then, refl, ap, ◌∙◌, subst}
 use Rattle.ob0_tree.specs.declared.tree.Relation.{Relation}
 use Rattle.ob0_tree.specs.declared.tree.Relation.TheVariants as relation
@@ -10,7 +11,7 @@ use Rattle.ob0_tree.specs.declared.tree.MultiplyOperator.{MultiplyOperator}
 use Rattle.ob0_tree.specs.declared.tree.MultiplyOperator.TheVariants as multiply_operator
 use Rattle.ob0_language_names.specs.Names.{Name, same_name}
 use Rattle.ob0_language_types.specs.Expressions.{Object, a_constant, a_procedure, a_standard_procedure, a_type, a_variable, read_procedure}
-use Rattle.ob0_language_types.specs.Typing.{addition_type, negation_type, value_of_constant_object, depth, deepest_field_depth, scalar_count_of_fields, field_type, multiplication_type, type_of_variable_or_constant, relation_type, scalars, named_field_shape, signed_operand_type, type_of_type_object, value_type, prepend_fields, type_within_limits}
+use Rattle.ob0_language_types.specs.Typing.{addition_type, negation_type, value_of_constant_object, depth, deepest_field_depth, scalar_count_of_fields, field_type, multiplication_type, type_of_variable_or_constant, relation_type, scalar_count, named_field_shape, signed_operand_type, type_of_type_object, value_type, prepend_fields, type_if_within_limits}
 use Rattle.ob0_language_types.specs.WellTyped.{FormalParameter, Signature, TypeMeanings, same_known_shape, same_fields, same_shape, signature_of}
 use Rattle.ob0_language_values.specs.Values.{FieldShapes, Shape, Value, array_shape, boolean_shape, integer_shape, next_field_shape, no_field_shape, number, record_shape}
 use Rattle.ob0_language_fields.specs.RenamedFields.{FieldRenaming, record_ordinal}
@@ -96,7 +97,7 @@ prepend_fields-by l k (x ∷ xs) s rest = λ i. next_field_shape (l (Some k) x) 
 -- A type with its fields under other names has the same number of scalars and the same depth.
 
 mutual
-  pub scalars-by : (l : FieldRenaming) (s : Shape) → scalars (shape_by l s) ≡ scalars s
+  pub scalars-by : (l : FieldRenaming) (s : Shape) → scalar_count (shape_by l s) ≡ scalar_count s
   scalars-by l (array_shape k n s) = λ i. n * scalars-by l s i
   scalars-by l (record_shape k fs) = λ i. max 1 (scalar_count_of_fields-by l k fs i)
   scalars-by l _ = refl
@@ -115,10 +116,10 @@ mutual
   deepest_field_depth-by l k no_field_shape = refl
   deepest_field_depth-by l k (next_field_shape x s rest) = λ i. max (depth-by l s i) (deepest_field_depth-by l k rest i)
 
-pub type_within_limits-by : (l : FieldRenaming) (s : Shape) → type_within_limits (shape_by l s) ≡ option_map (shape_by l) (type_within_limits s)
-type_within_limits-by l s =
+pub type_if_within_limits-by : (l : FieldRenaming) (s : Shape) → type_if_within_limits (shape_by l s) ≡ option_map (shape_by l) (type_if_within_limits s)
+type_if_within_limits-by l s =
     (λ i. if nat_le (scalars-by l s i) 65536 && nat_le (depth-by l s i) 100 then Some (shape_by l s) else None)
-    ∙ choose_by_truth-map (shape_by l) (nat_le (scalars s) 65536 && nat_le (depth s) 100) s None
+    ∙ choose_by_truth-map (shape_by l) (nat_le (scalar_count s) 65536 && nat_le (depth s) 100) s None
 
 -- Two types are the same exactly if they are the same with their fields under other names.
 

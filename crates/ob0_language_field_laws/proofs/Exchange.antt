@@ -1,7 +1,8 @@
--- Renaming a field to a free name gives the same module as exchanging the two names. Renaming isn't injective: both the
--- field and the new name become the new name. The exchange keeps all names different. If the new name is free, both
--- agree on every field that a record of the module declares. A well-typed module is the same under two namings that
--- agree on these fields.
+-- Renaming a field to a free name gives the same module as exchanging the two names. The renaming
+-- isn't injective: both the field's name and the new name become the new name. The exchange keeps
+-- different names different. If the new name is free, the renaming and the exchange agree on every
+-- field that a record of the module declares. Two renamings that agree on these fields give the
+-- same module, if the module is well-typed.
 use Rattle.std.proofs.Common.{◌≡◌, ℕ, Bool, true, false, not, ◌&&◌, ◌||◌, List, [], ◌∷◌, if◌then◌else◌, ◌==◌, sym, refl, ap, ◌∙◌, subst}
 use Rattle.std.specs.List.{list_any}
 use Rattle.std.proofs.lemmas.Slice.Eq.{bytes_eq-Decides}

@@ -1,4 +1,5 @@
--- Declarations do the same in two runs: one with tagged fields, the other with fields under other names.
+-- Declarations with renamed fields add the same variables and procedures to a run as with tagged
+-- fields.
 use Rattle.std.proofs.Common.{◌≡◌, ℕ, zero, suc, ◌+◌, true, false, List, [], ◌∷◌, ◌++◌, map, length, Some, None, Option, option_map, option_and_then, sym, refl, ap, ◌∙◌, subst₂}
 use Rattle.std.proofs.lemmas.List.{length-map, map-append}
 use Rattle.ob0_tree.specs.Tree.{Tree, block, body, constant, constants, declares, declares_constant, declares_type, declares_variable, end, expression, section_after_semicolon, forms_block, item, items, maybe, more, procedure, semicolon_then_section, type_definition, type_definitions, variable, variables, written_type}
@@ -10,7 +11,7 @@ use Rattle.ob0_language_types.specs.Expressions.{Object, a_constant, a_procedure
 use Rattle.ob0_language_types.specs.Typing.{value_of_constant_object, constant_expression_value, constructor_count, denoted_type, type_of_type_object}
 use Rattle.ob0_language_types.specs.WellTyped.{ParameterMode, TypeEnvironment, bind_typed_parameters, by_place, by_value}
 use Rattle.ob0_language_values.specs.Values.{FieldShapes, Shape, Store, Value, array_shape, copies, elements, initial_value, initial_members, members, next_field_shape, next_member, next_value, no_field_shape, record_shape}
-use Rattle.ob0_language_runs.specs.Runs.{RunEnvironment, ProcedureText, Frame, Parameter, add_variables_to_frame, bind_parameter, bind_parameters, declare_block_in_frame, declare_procedures, declare_variables, formal_parameter_modes, parameters, object_for_statements, meanings_for_statements, declare_procedures_in_frame}
+use Rattle.ob0_language_runs.specs.Runs.{RunEnvironment, ProcedureText, Frame, Parameter, add_variables_to_frame, bind_parameter, bind_parameters, declare_block_in_frame, declare_procedures, declare_variables, formal_parameter_modes, formal_parameters_in_sections, object_for_statements, meanings_for_statements, declare_procedures_in_frame}
 use Rattle.ob0_language_fields.specs.RenamedFields.{FieldRenaming, environment_after_heading, environment_after_variables, typed_parameters_of_procedure, rename_fields_in_block, rename_fields_in_procedure, rename_fields_in_procedure_list, rename_fields_in_further_parameter_sections, rename_fields_in_type, rename_fields_in_type_definitions, rename_fields_in_variables}
 use Rattle.ob0_language_fields.proofs.MeaningsByName.{named}
 use Rattle.ob0_language_field_laws.proofs.Apart.{fields_by, shape_by}
@@ -281,7 +282,7 @@ declare_block_in_frame-both l checked k (forms_block (declares cs ts vs ps) stat
 
 -- Binding parameters to arguments does the same in both runs.
 
-pub parameters-rename_selected_fields : (l : FieldRenaming) (k : ℕ) (fs : Tree Name (items section_after_semicolon)) → parameters (rename_fields_in_further_parameter_sections l k fs) ≡ parameters fs
+pub parameters-rename_selected_fields : (l : FieldRenaming) (k : ℕ) (fs : Tree Name (items section_after_semicolon)) → formal_parameters_in_sections (rename_fields_in_further_parameter_sections l k fs) ≡ formal_parameters_in_sections fs
 parameters-rename_selected_fields l k end = refl
 parameters-rename_selected_fields l k (more (semicolon_then_section f) fs) = λ i. map (λ x. record { mode = parameter_section_mode-rename_selected_fields l k f i; name = x }) (parameter_section_names-rename_selected_fields l k f i) ++ parameters-rename_selected_fields l (k + constructor_count (parameter_section_type f)) fs i
 

@@ -1,13 +1,14 @@
--- A statement does the same in two runs: one with tagged fields, the other with fields under other names.
+-- A statement with renamed fields does the same as with tagged fields, unless the run with tagged
+-- fields gets stuck.
 use Rattle.std.proofs.Common.{◌≡◌, ℕ, zero, suc, ◌-◌, List, [], ◌∷◌, map, ℤ, ◌⊎◌, inl, inr, true, false, Some, None, Option, option_map, sym, refl, ap, subst₂}
 use Rattle.ob0_tree.specs.Tree.{Tree, assigns, branches, calls, else_branch, else_part, elsif_branch, elsif_part, empty, end, expression, statement_after_semicolon, items, maybe, more, none, one, repeat_loop, runs, selector, sequence, statement, semicolon_then_statement, while_loop}
 use Rattle.ob0_language_names.specs.Names.{Name}
 use Rattle.ob0_language_types.specs.Arguments.{call_arguments}
-use Rattle.ob0_language_types.specs.Expressions.{designated_place, evaluate, read_procedure, write_procedure, write_line_procedure}
+use Rattle.ob0_language_types.specs.Expressions.{designated_place, evaluate_expression, read_procedure, write_procedure, write_line_procedure}
 use Rattle.ob0_language_types.specs.Typing.{lone_designator, type_of_variable_or_constant}
 use Rattle.ob0_language_types.specs.WellTyped.{ParameterMode, TypeMeanings, by_place, by_value}
 use Rattle.ob0_language_values.specs.Values.{Outcome, Store, Stuck, TurnBound, Value, ends_run_with, succeeds_with, number, result_or_stuck, truth, write_place, ◌>>=◌}
-use Rattle.ob0_language_runs.specs.Runs.{Argument, CallFunction, Progress, State, choose_by_truth_value, evaluate_argument, evaluate_arguments, execute, execute_sequence, execute_else, execute_elsifs, execute_further_statements, continue_if_running, printed_line_end, argument_modes_of, printed_number, perform_call, place_argument, append_output, read_number, running, stopped, store_value_at_place, execute_while, execute_repeat, continue_with_result, value_argument}
+use Rattle.ob0_language_runs.specs.Runs.{Argument, CallFunction, Progress, State, choose_by_truth_value, evaluate_argument, evaluate_arguments, execute_statement, execute_sequence, execute_else, execute_elsifs, execute_further_statements, continue_if_running, printed_line_end, argument_modes_of, printed_number, perform_call, place_argument, append_output, read_number, running, stopped, store_value_at_place, execute_while, execute_repeat, continue_with_result, value_argument}
 use Rattle.ob0_language_fields.specs.RenamedFields.{FieldRenaming, rename_selected_fields}
 use Rattle.ob0_language_field_laws.specs.FieldLaws.{KeepsFieldsDistinct}
 use Rattle.ob0_language_field_laws.proofs.Outcomes.{Follows, ValuesFollow, follows-then, result_or_stuck-follows}
@@ -167,14 +168,14 @@ perform_call-goes l apart _ e₁ e₂ enters _ s = inl refl
 -- Statements do the same in both runs.
 
 mutual
-  unfolding execute
+  unfolding execute_statement
 
   pub execute-alike : (l : FieldRenaming) → KeepsFieldsDistinct l → (things : Things Modes) (checked : TypeMeanings Name) (e₁ e₂ : CallFunction Name) → CallsAlike l e₁ e₂ → (t : ℕ) (a : Tree Name statement)
-      → Alike l (execute (active tagged things) e₁ t (rename_selected_fields tagged checked None a)) (execute (active l things) e₂ t (rename_selected_fields l checked None a))
+      → Alike l (execute_statement (active tagged things) e₁ t (rename_selected_fields tagged checked None a)) (execute_statement (active l things) e₂ t (rename_selected_fields l checked None a))
   execute-alike l apart things checked e₁ e₂ calls-alike t empty s = (s, refl, refl)
   execute-alike l apart things checked e₁ e₂ calls-alike t (assigns x path e) s =
       continue_with_result-goes l (place_by tagged) (place_by l) s _ _
-      (λ p. continue_with_result (state_by tagged s) (evaluate (active tagged things) (store_by tagged s.store) (rename_selected_fields tagged checked None e)) (store_value_at_place (state_by tagged s) p)) (λ p. continue_with_result (state_by l s) (evaluate (active l things) (store_by l s.store) (rename_selected_fields l checked None e)) (store_value_at_place (state_by l s) p))
+      (λ p. continue_with_result (state_by tagged s) (evaluate_expression (active tagged things) (store_by tagged s.store) (rename_selected_fields tagged checked None e)) (store_value_at_place (state_by tagged s) p)) (λ p. continue_with_result (state_by l s) (evaluate_expression (active l things) (store_by l s.store) (rename_selected_fields l checked None e)) (store_value_at_place (state_by l s) p))
       (designated_place-follows l apart things checked s.store (type_of_variable_or_constant (checked.object_for x)) x path)
       (λ p. continue_with_result-goes l (value_by tagged) (value_by l) s _ _ (store_value_at_place (state_by tagged s) (place_by tagged p)) (store_value_at_place (state_by l s) (place_by l p)) (evaluate-follows l apart things checked s.store e) (store_value_at_place-goes l apart s p))
   execute-alike l apart things checked e₁ e₂ calls-alike t (calls x es) s =
@@ -196,10 +197,10 @@ mutual
       (λ v. choose_by_truth_value-goes l s v _ _ _ _ (execute_sequence-alike l apart things checked e₁ e₂ calls-alike t statements)
       (execute_elsifs-alike l apart things checked e₁ e₂ calls-alike t rest _ _ (execute_else-alike l apart things checked e₁ e₂ calls-alike t last)))
   execute-alike l apart things checked e₁ e₂ calls-alike t (while_loop e statements) s =
-      execute_while-alike l t (λ s'. evaluate (active tagged things) s'.store (rename_selected_fields tagged checked None e)) (λ s'. evaluate (active l things) s'.store (rename_selected_fields l checked None e)) _ _
+      execute_while-alike l t (λ s'. evaluate_expression (active tagged things) s'.store (rename_selected_fields tagged checked None e)) (λ s'. evaluate_expression (active l things) s'.store (rename_selected_fields l checked None e)) _ _
       (λ s'. evaluate-follows l apart things checked s'.store e) (execute_sequence-alike l apart things checked e₁ e₂ calls-alike t statements) s
   execute-alike l apart things checked e₁ e₂ calls-alike t (repeat_loop statements e) s =
-      execute_repeat-alike l (t - 1) (λ s'. evaluate (active tagged things) s'.store (rename_selected_fields tagged checked None e)) (λ s'. evaluate (active l things) s'.store (rename_selected_fields l checked None e)) _ _
+      execute_repeat-alike l (t - 1) (λ s'. evaluate_expression (active tagged things) s'.store (rename_selected_fields tagged checked None e)) (λ s'. evaluate_expression (active l things) s'.store (rename_selected_fields l checked None e)) _ _
       (λ s'. evaluate-follows l apart things checked s'.store e) (execute_sequence-alike l apart things checked e₁ e₂ calls-alike t statements) s
 
   pub execute_sequence-alike : (l : FieldRenaming) → KeepsFieldsDistinct l → (things : Things Modes) (checked : TypeMeanings Name) (e₁ e₂ : CallFunction Name) → CallsAlike l e₁ e₂ → (t : ℕ) (a : Tree Name sequence)

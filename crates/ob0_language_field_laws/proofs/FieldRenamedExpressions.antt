@@ -1,12 +1,13 @@
--- An expression has the same outcome in two runs: one with tagged fields, the other with fields under other names.
+-- An expression with renamed fields has the same outcome as with tagged fields, unless the
+-- evaluation with tagged fields gets stuck.
 use Rattle.std.proofs.Common.{◌≡◌, ℤ, Bool, List, [], ◌∷◌, ◌++◌, map, inl, pos, true, false, Some, None, Option, option_map, sym, refl}
 use Rattle.std.proofs.lemmas.List.{map-append}
 use Rattle.ob0_tree.specs.Tree.{Tree, addend, adds, compares, designator, end, expression, factor, field, index, integer, items, more, multiplier, multiplies, negation, none, one, parenthesised, product, relates, selector, simple, sum, term}
 use Rattle.ob0_language_names.specs.Names.{Name}
-use Rattle.ob0_language_types.specs.Expressions.{Meanings, Object, StandardProcedure, a_constant, a_procedure, a_standard_procedure, a_type, a_variable, designated_place, element_step, evaluate, evaluate_addends, evaluate_factor, evaluate_multipliers, evaluate_simple_expression, evaluate_term, evaluate_selectors, object_place, object_value}
+use Rattle.ob0_language_types.specs.Expressions.{Meanings, Object, StandardProcedure, a_constant, a_procedure, a_standard_procedure, a_type, a_variable, designated_place, element_step, evaluate_expression, evaluate_addends, evaluate_factor, evaluate_multipliers, evaluate_simple_expression, evaluate_term, evaluate_selectors, object_place, object_value}
 use Rattle.ob0_language_types.specs.Typing.{type_of_variable_or_constant}
 use Rattle.ob0_language_types.specs.WellTyped.{TypeMeanings}
-use Rattle.ob0_language_values.specs.Values.{Outcome, Place, Shape, PathStep, Store, Value, add, add_operator_short_circuits, value_at_path, succeeds_with, multiply, multiply_operator_short_circuits, negate, number, result_or_stuck, value_at_step, read_place, apply_relation, apply_sign, truth, ◌>>=◌}
+use Rattle.ob0_language_values.specs.Values.{Outcome, Place, Shape, PathStep, Store, Value, apply_add_operator, add_operator_short_circuits, value_at_path, succeeds_with, apply_multiply_operator, multiply_operator_short_circuits, apply_not, number, result_or_stuck, value_at_step, read_place, apply_relation, apply_sign, truth, ◌>>=◌}
 use Rattle.ob0_language_fields.specs.RenamedFields.{FieldRenaming, shape_after_selector, record_ordinal, rename_selected_fields}
 use Rattle.ob0_language_fields.proofs.MeaningsByName.{named}
 use Rattle.ob0_language_field_laws.specs.FieldLaws.{KeepsFieldsDistinct}
@@ -73,10 +74,10 @@ follow_on-follows l apart n₁ n₂ next v m =
     (λ moves. (m ∷ moves, refl, refl)))
 
 mutual
-  unfolding evaluate
+  unfolding evaluate_expression
 
   pub evaluate-follows : {P : Type 0} (l : FieldRenaming) → KeepsFieldsDistinct l → (things : Things P) (checked : TypeMeanings Name) (store : Store) (e : Tree Name expression)
-      → ValuesFollow l (evaluate (active tagged things) (store_by tagged store) (rename_selected_fields tagged checked None e)) (evaluate (active l things) (store_by l store) (rename_selected_fields l checked None e))
+      → ValuesFollow l (evaluate_expression (active tagged things) (store_by tagged store) (rename_selected_fields tagged checked None e)) (evaluate_expression (active l things) (store_by l store) (rename_selected_fields l checked None e))
   evaluate-follows l apart things checked store (compares a none) = evaluate_simple_expression-follows l apart things checked store a
   evaluate-follows l apart things checked store (compares a (one (relates r b))) =
       follows-then (value_by tagged) (value_by l) (value_by tagged) (value_by l) _ _
@@ -99,11 +100,11 @@ mutual
   evaluate_addends-follows l apart things checked store v end = (v, refl, refl)
   evaluate_addends-follows l apart things checked store v (more (adds o t) rest) =
       follows-then (value_by tagged) (value_by l) (value_by tagged) (value_by l)
-      (elim (add_operator_short_circuits o (value_by tagged v)) [ true ↦ succeeds_with (value_by tagged v) | false ↦ evaluate_term (active tagged things) (store_by tagged store) (rename_selected_fields tagged checked None t) >>= add o (value_by tagged v) ])
-      (elim (add_operator_short_circuits o (value_by l v)) [ true ↦ succeeds_with (value_by l v) | false ↦ evaluate_term (active l things) (store_by l store) (rename_selected_fields l checked None t) >>= add o (value_by l v) ])
+      (elim (add_operator_short_circuits o (value_by tagged v)) [ true ↦ succeeds_with (value_by tagged v) | false ↦ evaluate_term (active tagged things) (store_by tagged store) (rename_selected_fields tagged checked None t) >>= apply_add_operator o (value_by tagged v) ])
+      (elim (add_operator_short_circuits o (value_by l v)) [ true ↦ succeeds_with (value_by l v) | false ↦ evaluate_term (active l things) (store_by l store) (rename_selected_fields l checked None t) >>= apply_add_operator o (value_by l v) ])
       (λ y. evaluate_addends (active tagged things) (store_by tagged store) y (rename_selected_fields tagged checked None rest)) (λ y. evaluate_addends (active l things) (store_by l store) y (rename_selected_fields l checked None rest))
       (settled-follows l (add_operator_short_circuits o v) (add_operator_short_circuits o (value_by tagged v)) (add_operator_short_circuits o (value_by l v)) v _ _ (add_operator_short_circuits-by tagged o v) (add_operator_short_circuits-by l o v)
-      (follows-then (value_by tagged) (value_by l) (value_by tagged) (value_by l) _ _ (add o (value_by tagged v)) (add o (value_by l v)) (evaluate_term-follows l apart things checked store t) (add-follows l o v)))
+      (follows-then (value_by tagged) (value_by l) (value_by tagged) (value_by l) _ _ (apply_add_operator o (value_by tagged v)) (apply_add_operator o (value_by l v)) (evaluate_term-follows l apart things checked store t) (add-follows l o v)))
       (λ y. evaluate_addends-follows l apart things checked store y rest)
 
   pub evaluate_term-follows : {P : Type 0} (l : FieldRenaming) → KeepsFieldsDistinct l → (things : Things P) (checked : TypeMeanings Name) (store : Store) (a : Tree Name term)
@@ -118,11 +119,11 @@ mutual
   evaluate_multipliers-follows l apart things checked store v end = (v, refl, refl)
   evaluate_multipliers-follows l apart things checked store v (more (multiplies o t) rest) =
       follows-then (value_by tagged) (value_by l) (value_by tagged) (value_by l)
-      (elim (multiply_operator_short_circuits o (value_by tagged v)) [ true ↦ succeeds_with (value_by tagged v) | false ↦ evaluate_factor (active tagged things) (store_by tagged store) (rename_selected_fields tagged checked None t) >>= multiply o (value_by tagged v) ])
-      (elim (multiply_operator_short_circuits o (value_by l v)) [ true ↦ succeeds_with (value_by l v) | false ↦ evaluate_factor (active l things) (store_by l store) (rename_selected_fields l checked None t) >>= multiply o (value_by l v) ])
+      (elim (multiply_operator_short_circuits o (value_by tagged v)) [ true ↦ succeeds_with (value_by tagged v) | false ↦ evaluate_factor (active tagged things) (store_by tagged store) (rename_selected_fields tagged checked None t) >>= apply_multiply_operator o (value_by tagged v) ])
+      (elim (multiply_operator_short_circuits o (value_by l v)) [ true ↦ succeeds_with (value_by l v) | false ↦ evaluate_factor (active l things) (store_by l store) (rename_selected_fields l checked None t) >>= apply_multiply_operator o (value_by l v) ])
       (λ y. evaluate_multipliers (active tagged things) (store_by tagged store) y (rename_selected_fields tagged checked None rest)) (λ y. evaluate_multipliers (active l things) (store_by l store) y (rename_selected_fields l checked None rest))
       (settled-follows l (multiply_operator_short_circuits o v) (multiply_operator_short_circuits o (value_by tagged v)) (multiply_operator_short_circuits o (value_by l v)) v _ _ (multiply_operator_short_circuits-by tagged o v) (multiply_operator_short_circuits-by l o v)
-      (follows-then (value_by tagged) (value_by l) (value_by tagged) (value_by l) _ _ (multiply o (value_by tagged v)) (multiply o (value_by l v)) (evaluate_factor-follows l apart things checked store t) (multiply-follows l o v)))
+      (follows-then (value_by tagged) (value_by l) (value_by tagged) (value_by l) _ _ (apply_multiply_operator o (value_by tagged v)) (apply_multiply_operator o (value_by l v)) (evaluate_factor-follows l apart things checked store t) (multiply-follows l o v)))
       (λ y. evaluate_multipliers-follows l apart things checked store y rest)
 
   pub evaluate_factor-follows : {P : Type 0} (l : FieldRenaming) → KeepsFieldsDistinct l → (things : Things P) (checked : TypeMeanings Name) (store : Store) (a : Tree Name factor)
@@ -139,7 +140,7 @@ mutual
   evaluate_factor-follows l apart things checked store (integer n) = (number (pos n), refl, refl)
   evaluate_factor-follows l apart things checked store (parenthesised e) = evaluate-follows l apart things checked store e
   evaluate_factor-follows l apart things checked store (negation a) =
-      follows-then (value_by tagged) (value_by l) (value_by tagged) (value_by l) _ _ negate negate (evaluate_factor-follows l apart things checked store a) (negate-follows l)
+      follows-then (value_by tagged) (value_by l) (value_by tagged) (value_by l) _ _ apply_not apply_not (evaluate_factor-follows l apart things checked store a) (negate-follows l)
 
   pub follow-follows : {P : Type 0} (l : FieldRenaming) → KeepsFieldsDistinct l → (things : Things P) (checked : TypeMeanings Name) (store : Store) (s : Option Shape) (v : Value) (path : Tree Name (items selector))
       → PathsFollow l (evaluate_selectors (active tagged things) (store_by tagged store) (value_by tagged v) (rename_selected_fields tagged checked s path)) (evaluate_selectors (active l things) (store_by l store) (value_by l v) (rename_selected_fields l checked s path))

@@ -1,4 +1,5 @@
--- A module's declarations and statements are well-typed exactly if they are with the fields under other names.
+-- A module's declarations and statements are well-typed after its fields are renamed exactly if
+-- they were before. The renaming must keep the fields of a record distinct.
 use Rattle.std.proofs.Common.{◌≡◌, ℕ, ◌+◌, true, false, ◌&&◌, List, [], ◌∷◌, ◌++◌, map, Some, None, Option, option_map, option_and_then, unwrap_or, refl, ap, ◌∙◌}
 use Rattle.ob0_tree.specs.Tree.{Tree, begins, block, body, constant, declares, declares_constant, declares_procedure, declares_type, declares_type_section, declares_variable, declares_var_section, end, formals, section_after_semicolon, forms_block, forms_module, item, items, maybe, more, no_formals, none, one, procedure, section, semicolon_then_section, type_definition, type_definitions, value_section, variable, variable_section, variables, written_type}
 use Rattle.ob0_language_names.specs.Names.{Name, naming_by_spelling, same_name}

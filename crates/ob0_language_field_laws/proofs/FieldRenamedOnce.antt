@@ -1,5 +1,5 @@
--- A module declares names once exactly if it does with its fields under other names. If each field gets its present
--- name, nothing changes.
+-- A module has consistent names (`has_consistent_names`) after its fields are renamed exactly if it
+-- had before. The renaming must keep the fields of a record distinct.
 use Rattle.std.proofs.Common.{◌≡◌, ℕ, suc, ◌+◌, not, ◌&&◌, ◌||◌, List, [], ◌∷◌, ◌++◌, map, Some, refl, ap, ◌∙◌, sym}
 use Rattle.std.proofs.lemmas.List.{map-append}
 use Rattle.ob0_tree.specs.Tree.{Tree, array_type, block, declares, declares_procedure, declares_type, declares_variable, end, fields, fields_after_semicolon, name_after_comma, section_after_semicolon, forms_block, forms_module, item, items, listed, module_text, more, named_type, names, no_fields, procedure, record_type, some_fields, semicolon_then_fields, comma_then_name, semicolon_then_section, type_definition, variable, written_type}

@@ -1,4 +1,5 @@
--- A module has the same run with tagged fields and with fields under other names.
+-- A module that passes the type check has the same run with renamed fields as with tagged fields.
+-- The renaming must keep the fields of a record distinct.
 use Rattle.std.proofs.Common.{◌≡◌, ℕ, zero, suc, ◌+◌, ◌≢◌, true, false, List, [], ◌∷◌, map, ℤ, ◌⊎◌, inl, inr, Some, None, Option, option_map, option_and_then, sym, refl, ap, ◌∙◌, subst, subst₂}
 use Rattle.ob0_tree.specs.Tree.{Tree, begins, block, body, declares, declares_procedure, formals, forms_block, forms_module, item, maybe, module_text, none, one, procedure}
 use Rattle.ob0_language_names.specs.Names.{Name, naming_by_spelling}
@@ -8,7 +9,7 @@ use Rattle.ob0_language_types.specs.Environments.{meanings, outermost_environmen
 use Rattle.ob0_language_types.specs.Expressions.{read_procedure, write_procedure, write_line_procedure}
 use Rattle.ob0_language_types.specs.WellTyped.{TypeEnvironment, TypeMeanings, passes_type_check}
 use Rattle.ob0_language_values.specs.Values.{Stuck, boolean_shape, integer_shape}
-use Rattle.ob0_language_runs.specs.Runs.{RunEnvironment, CallFunction, Frame, Progress, State, execute_newest_procedure, bind_parameters, call, declare_block_in_frame, execute_sequence, execute_body, run_result, continue_in_frame, parameters, run_with_naming, running, stopped}
+use Rattle.ob0_language_runs.specs.Runs.{RunEnvironment, CallFunction, Frame, Progress, State, execute_newest_procedure, bind_parameters, call_keeping_variables, declare_block_in_frame, execute_sequence, execute_body, run_result, continue_in_frame, formal_parameters_in_sections, run_with_naming, running, stopped}
 use Rattle.ob0_language_runs.proofs.SoundCalls.{fitting-run}
 use Rattle.ob0_language_fields.specs.RenamedFields.{FieldRenaming, environment_after_procedures, environment_after_variables, rename_selected_fields, rename_fields_in_block, rename_fields_in_module}
 use Rattle.ob0_language_field_laws.specs.FieldLaws.{KeepsFieldsDistinct}
@@ -63,13 +64,13 @@ entered-goes l apart k checked b e₁ e₂ calls t o₁ o₂ h s =
 -- binds the arguments of a call, declares the procedure's block and executes its statements
 abbrev activated : FieldRenaming → ℕ → TypeEnvironment Name → Tree Name (maybe formals) → Tree Name block → (RunEnvironment Name → CallFunction Name) → ℕ → List Given → Stage → State → Progress
 activated l j checked fs b enter t args f s =
-    entered l (j + formals_constructor_count (formal_parameter_sections fs)) checked b enter t (bind_parameters (parameters (formal_parameter_sections fs)) (map (argument_by l) args) (frame_by l f)) s
+    entered l (j + formals_constructor_count (formal_parameter_sections fs)) checked b enter t (bind_parameters (formal_parameters_in_sections (formal_parameter_sections fs)) (map (argument_by l) args) (frame_by l f)) s
 
 activated-goes : (l : FieldRenaming) → KeepsFieldsDistinct l → (j : ℕ) (checked : TypeEnvironment Name) (fs : Tree Name (maybe formals)) (b : Tree Name block) (e₁ e₂ : RunEnvironment Name → CallFunction Name) → AllCallsAlike l e₁ e₂ → (t : ℕ) (args : List Given) (f : Stage) (s : State)
     → Goes l (activated tagged j checked fs b e₁ t args f (state_by tagged s)) (activated l j checked fs b e₂ t args f (state_by l s))
 activated-goes l apart j checked fs b e₁ e₂ calls t args f s =
     let k : ℕ = j + formals_constructor_count (formal_parameter_sections fs) in
-    let ps = parameters (formal_parameter_sections fs) in
+    let ps = formal_parameters_in_sections (formal_parameter_sections fs) in
     entered-goes l apart k checked b e₁ e₂ calls t (bind_parameters ps (map (argument_by tagged) args) (frame_by tagged f)) (bind_parameters ps (map (argument_by l) args) (frame_by l f)) (bind_parameters-both l ps args f) s
 
 -- Activating a procedure is binding its arguments, declaring its block and executing its statements.
@@ -80,7 +81,7 @@ unfolding execute_newest_procedure
 execute_newest_procedure-parts l j checked x y closing fs b enter t args scene s = λ i.
     let k : ℕ = j + formals_constructor_count (formal_parameter_sections fs) in
     continue_in_frame (state_by l s) (option_and_then (declare_block_in_frame naming_by_spelling (j + formals_count-rename_selected_fields l j fs i) (rename_fields_in_block l checked k b))
-    (bind_parameters ((ap parameters (formal_parameter_sections-rename_selected_fields l j fs) ∙ parameters-rename_selected_fields l j (formal_parameter_sections fs)) i) (map (argument_by l) args) record { env = env_as l ((y, procedure_thing record { first = j; checked = checked; text = declares_procedure x fs b closing }) ∷ scene); store = store_by l s.store }))
+    (bind_parameters ((ap formal_parameters_in_sections (formal_parameter_sections-rename_selected_fields l j fs) ∙ parameters-rename_selected_fields l j (formal_parameter_sections fs)) i) (map (argument_by l) args) record { env = env_as l ((y, procedure_thing record { first = j; checked = checked; text = declares_procedure x fs b closing }) ∷ scene); store = store_by l s.store }))
     (λ f. execute_body naming_by_spelling f.env (enter f.env) t (block_statements (rename_fields_in_block l checked k b)))
 
 execute_newest_procedure-goes : (l : FieldRenaming) → KeepsFieldsDistinct l → (e₁ e₂ : RunEnvironment Name → CallFunction Name) → AllCallsAlike l e₁ e₂ → (t : ℕ) (scene : Scene) (args : List Given) (s : State)
@@ -97,12 +98,12 @@ execute_newest_procedure-goes l apart e₁ e₂ calls t ((y, procedure_thing c) 
 execute_newest_procedure-goes l apart e₁ e₂ calls t _ args s = inl refl
 
 -- Calls do the same in both runs, by induction on the number of calls that may be open.
-calls-alike : (l : FieldRenaming) → KeepsFieldsDistinct l → (c t : ℕ) → AllCallsAlike l (call naming_by_spelling c t) (call naming_by_spelling c t)
-unfolding call
+calls-alike : (l : FieldRenaming) → KeepsFieldsDistinct l → (c t : ℕ) → AllCallsAlike l (call_keeping_variables naming_by_spelling c t) (call_keeping_variables naming_by_spelling c t)
+unfolding call_keeping_variables
 calls-alike l apart zero t scene x args s = inr refl
 calls-alike l apart (suc c) t scene x args s =
-    subst₂ (λ a b. Goes l (execute_newest_procedure naming_by_spelling (call naming_by_spelling c t) t a (map (argument_by tagged) args) (state_by tagged s)) (execute_newest_procedure naming_by_spelling (call naming_by_spelling c t) t b (map (argument_by l) args) (state_by l s)))
-    (sym (suffix_from_newest_binding-as tagged scene x)) (sym (suffix_from_newest_binding-as l scene x)) (execute_newest_procedure-goes l apart (call naming_by_spelling c t) (call naming_by_spelling c t) (calls-alike l apart c t) t (scene_from scene x) args s)
+    subst₂ (λ a b. Goes l (execute_newest_procedure naming_by_spelling (call_keeping_variables naming_by_spelling c t) t a (map (argument_by tagged) args) (state_by tagged s)) (execute_newest_procedure naming_by_spelling (call_keeping_variables naming_by_spelling c t) t b (map (argument_by l) args) (state_by l s)))
+    (sym (suffix_from_newest_binding-as tagged scene x)) (sym (suffix_from_newest_binding-as l scene x)) (execute_newest_procedure-goes l apart (call_keeping_variables naming_by_spelling c t) (call_keeping_variables naming_by_spelling c t) (calls-alike l apart c t) t (scene_from scene x) args s)
 
 -- the scene of the outermost block, which has the predeclared names
 abbrev outermost_scene : Scene
@@ -120,7 +121,7 @@ same-finish l (stopped e out) p₂ h free = go h
     go (inr q) = sym (ap run_result q)
 
 abbrev run_parts : FieldRenaming → Tree Name block → List ℤ → ℕ → ℕ → Progress
-run_parts l b input c t = entered l 0 (outermost_environment naming_by_spelling) b (call naming_by_spelling c t) t (Some (frame_by l record { scene = outermost_scene; store = [] })) (state_by l record { store = []; input = input; output = [] })
+run_parts l b input c t = entered l 0 (outermost_environment naming_by_spelling) b (call_keeping_variables naming_by_spelling c t) t (Some (frame_by l record { scene = outermost_scene; store = [] })) (state_by l record { store = []; input = input; output = [] })
 
 run-parts : (l : FieldRenaming) (x closing : Name) (b : Tree Name block) (input : List ℤ) (c t : ℕ) → run_with_naming naming_by_spelling (rename_fields_in_module l (forms_module x b closing)) input c t ≡ run_result (run_parts l b input c t)
 unfolding run_with_naming
@@ -131,7 +132,7 @@ pub run-tagged : (l : FieldRenaming) → KeepsFieldsDistinct l → (m : Tree Nam
 run-tagged l apart (forms_module x b closing) fits input c t =
     run-parts tagged x closing b input c t
     ∙ (same-finish l (run_parts tagged b input c t) (run_parts l b input c t)
-    (entered-goes l apart 0 (outermost_environment naming_by_spelling) b (call naming_by_spelling c t) (call naming_by_spelling c t) (calls-alike l apart c t) t (Some (frame_by tagged record { scene = outermost_scene; store = [] })) (Some (frame_by l record { scene = outermost_scene; store = [] }))
+    (entered-goes l apart 0 (outermost_environment naming_by_spelling) b (call_keeping_variables naming_by_spelling c t) (call_keeping_variables naming_by_spelling c t) (calls-alike l apart c t) t (Some (frame_by tagged record { scene = outermost_scene; store = [] })) (Some (frame_by l record { scene = outermost_scene; store = [] }))
     (Some record { scene = outermost_scene; store = [] }, refl, refl) record { store = []; input = input; output = [] })
     (subst (λ r. r.ending ≢ Stuck) (run-parts tagged x closing b input c t) (fitting-run naming_by_spelling (rename_fields_in_module tagged (forms_module x b closing)) input c t (field_renaming_keeps_type_check-holds tagged (forms_module x b closing) tagged-apart ∙ fits)))
     ∙ sym (run-parts l x closing b input c t))

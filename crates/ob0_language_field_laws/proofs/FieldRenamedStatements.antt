@@ -1,4 +1,5 @@
--- Statements are well-typed exactly if they are with the fields under other names.
+-- Statements are well-typed after fields are renamed exactly if they were before. The renaming must
+-- keep the fields of a record distinct.
 use Rattle.std.proofs.Common.{◌≡◌, ◌&&◌, List, [], ◌∷◌, map, Some, None, Option, option_map, refl, ap, ◌∙◌}
 use Rattle.ob0_tree.specs.Tree.{Tree, arguments, assigns, branches, calls, compares, designator, else_branch, else_part, elsif_branch, elsif_part, empty, end, expression, argument_after_comma, statement_after_semicolon, items, maybe, more, none, one, product, repeat_loop, runs, selector, sequence, some_arguments, statement, sum, comma_then_argument, semicolon_then_statement, while_loop}
 use Rattle.ob0_language_names.specs.Names.{Name}

@@ -1,5 +1,6 @@
--- If the fields of an environment's types and of a tree get other names, the tree's type is the old type with the same
--- new names. Each step is an equation, so no premise is needed.
+-- If the fields of an environment's types and of a tree are renamed, the tree's type is the old
+-- type with renamed fields. The renaming must keep the fields of a record distinct. Each step is an
+-- equation.
 use Rattle.std.proofs.Common.{◌≡◌, ℕ, suc, ◌+◌, ◌∷◌, map, Some, None, Option, option_map, option_and_then, refl, ap, ◌∙◌, sym}
 use Rattle.ob0_tree.specs.Tree.{Tree, addend, adds, array_type, compares, designator, end, expression, factor, field, fields, fields_after_semicolon, name_after_comma, index, integer, items, listed, more, multiplier, multiplies, named_type, names, negation, no_fields, none, one, parenthesised, product, record_type, relates, selector, simple, some_fields, sum, term, semicolon_then_fields, comma_then_name, written_type}
 use Rattle.ob0_language_names.specs.MappedNames.{map_names}
@@ -7,14 +8,14 @@ use Rattle.ob0_language_names.specs.Names.{Name}
 use Rattle.ob0_language_names.specs.BlockParts.{names_after_first, names_in_list}
 use Rattle.ob0_language_names.proofs.SameNames.{map_names-id}
 use Rattle.ob0_language_types.specs.Expressions.{Object}
-use Rattle.ob0_language_types.specs.Typing.{addition_type, array_length_from_value, negation_type, value_of_constant_object, constant_expression_value, constructor_count, denoted_type, denoted_group_fields, denoted_further_fields, element_type, field_type, group_constructor_count, later_groups_constructor_count, multiplication_type, type_of_variable_or_constant, relation_type, signed_operand_type, type_after_selectors, type_of_expression, type_after_addends, type_of_factor, type_after_multipliers, type_of_type_object, type_of_simple_expression, type_of_term, prepend_fields, type_within_limits}
+use Rattle.ob0_language_types.specs.Typing.{addition_type, array_length_from_value, negation_type, value_of_constant_object, constant_expression_value, constructor_count, denoted_type, denoted_group_fields, denoted_further_fields, element_type, field_type, group_constructor_count, later_groups_constructor_count, multiplication_type, type_of_variable_or_constant, relation_type, signed_operand_type, type_after_selectors, type_of_expression, type_after_addends, type_of_factor, type_after_multipliers, type_of_type_object, type_of_simple_expression, type_of_term, prepend_fields, type_if_within_limits}
 use Rattle.ob0_language_types.specs.WellTyped.{Signature}
 use Rattle.ob0_language_types.proofs.TypeNaturality.{constant_expression_value-map}
 use Rattle.ob0_language_values.specs.Values.{FieldShapes, Shape, array_shape, integer_shape, record_shape}
 use Rattle.ob0_language_fields.specs.RenamedFields.{FieldRenaming, rename_selected_fields, rename_fields_in_group, rename_fields_in_further_groups, rename_fields_in_type}
 use Rattle.ob0_language_fields.proofs.MeaningsByName.{named}
 use Rattle.ob0_language_field_laws.specs.FieldLaws.{KeepsFieldsDistinct}
-use Rattle.ob0_language_field_laws.proofs.Apart.{addition_type-by, negation_type-by, each-then, field_type-by, fields_by, map-then, multiplication_type-by, named_by, type_of_variable_or_constant-by, relation_type-by, shape_by, signed_operand_type-by, prepend_fields-by, type_within_limits-by}
+use Rattle.ob0_language_field_laws.proofs.Apart.{addition_type-by, negation_type-by, each-then, field_type-by, fields_by, map-then, multiplication_type-by, named_by, type_of_variable_or_constant-by, relation_type-by, shape_by, signed_operand_type-by, prepend_fields-by, type_if_within_limits-by}
 
 -- If fields get other names, only these names change in the type of an array's element.
 index-step : (l : FieldRenaming) (s i : Shape) (at_there : Shape → Option Shape → Option Shape) (at_here : Shape → Option Shape) → ((u : Shape) → at_there (shape_by l u) (Some u) ≡ option_map (shape_by l) (at_here u))
@@ -108,18 +109,18 @@ mutual
       → (k : ℕ) (t : Tree Name written_type) → denoted_type (named there) k (rename_fields_in_type l k t) ≡ option_map (shape_by l) (denoted_type (named here) k t)
   denoted_type-rename_selected_fields l there here hc ht k (named_type x) = ht x
   denoted_type-rename_selected_fields l there here hc ht k (array_type e t) =
-      ap (option_and_then (λ v. option_and_then (λ n. option_and_then (λ s. type_within_limits (array_shape k n s)) (denoted_type (named there) (suc k) (rename_fields_in_type l (suc k) t))) (array_length_from_value v))) (constant_expression_value-alike there here hc e)
-      ∙ each-then (shape_by l) (constant_expression_value (named here) e) (λ v. option_and_then (λ n. option_and_then (λ s. type_within_limits (array_shape k n s)) (denoted_type (named here) (suc k) t)) (array_length_from_value v))
-      (λ v. option_and_then (λ n. option_and_then (λ s. type_within_limits (array_shape k n s)) (denoted_type (named there) (suc k) (rename_fields_in_type l (suc k) t))) (array_length_from_value v))
-      (λ v. each-then (shape_by l) (array_length_from_value v) (λ n. option_and_then (λ s. type_within_limits (array_shape k n s)) (denoted_type (named here) (suc k) t)) (λ n. option_and_then (λ s. type_within_limits (array_shape k n s)) (denoted_type (named there) (suc k) (rename_fields_in_type l (suc k) t)))
-      (λ n. map-then (shape_by l) (shape_by l) (denoted_type (named here) (suc k) t) (denoted_type (named there) (suc k) (rename_fields_in_type l (suc k) t)) (λ s. type_within_limits (array_shape k n s)) (λ s. type_within_limits (array_shape k n s)) (denoted_type-rename_selected_fields l there here hc ht (suc k) t) (λ s. type_within_limits-by l (array_shape k n s))))
+      ap (option_and_then (λ v. option_and_then (λ n. option_and_then (λ s. type_if_within_limits (array_shape k n s)) (denoted_type (named there) (suc k) (rename_fields_in_type l (suc k) t))) (array_length_from_value v))) (constant_expression_value-alike there here hc e)
+      ∙ each-then (shape_by l) (constant_expression_value (named here) e) (λ v. option_and_then (λ n. option_and_then (λ s. type_if_within_limits (array_shape k n s)) (denoted_type (named here) (suc k) t)) (array_length_from_value v))
+      (λ v. option_and_then (λ n. option_and_then (λ s. type_if_within_limits (array_shape k n s)) (denoted_type (named there) (suc k) (rename_fields_in_type l (suc k) t))) (array_length_from_value v))
+      (λ v. each-then (shape_by l) (array_length_from_value v) (λ n. option_and_then (λ s. type_if_within_limits (array_shape k n s)) (denoted_type (named here) (suc k) t)) (λ n. option_and_then (λ s. type_if_within_limits (array_shape k n s)) (denoted_type (named there) (suc k) (rename_fields_in_type l (suc k) t)))
+      (λ n. map-then (shape_by l) (shape_by l) (denoted_type (named here) (suc k) t) (denoted_type (named there) (suc k) (rename_fields_in_type l (suc k) t)) (λ s. type_if_within_limits (array_shape k n s)) (λ s. type_if_within_limits (array_shape k n s)) (denoted_type-rename_selected_fields l there here hc ht (suc k) t) (λ s. type_if_within_limits-by l (array_shape k n s))))
   denoted_type-rename_selected_fields l there here hc ht k (record_type g rest) =
-      ap (λ n. option_and_then (λ later. option_and_then (λ fs. type_within_limits (record_shape k fs)) (denoted_group_fields (named there) (suc k) later (rename_fields_in_group l k (suc k) g))) (denoted_further_fields (named there) (suc k + n) (rename_fields_in_further_groups l k (suc k + group_constructor_count g) rest))) (group_constructor_count-rename_selected_fields l k (suc k) g)
+      ap (λ n. option_and_then (λ later. option_and_then (λ fs. type_if_within_limits (record_shape k fs)) (denoted_group_fields (named there) (suc k) later (rename_fields_in_group l k (suc k) g))) (denoted_further_fields (named there) (suc k + n) (rename_fields_in_further_groups l k (suc k + group_constructor_count g) rest))) (group_constructor_count-rename_selected_fields l k (suc k) g)
       ∙ map-then (fields_by l k) (shape_by l) (denoted_further_fields (named here) (suc k + group_constructor_count g) rest) (denoted_further_fields (named there) (suc k + group_constructor_count g) (rename_fields_in_further_groups l k (suc k + group_constructor_count g) rest))
-      (λ later. option_and_then (λ fs. type_within_limits (record_shape k fs)) (denoted_group_fields (named here) (suc k) later g)) (λ later. option_and_then (λ fs. type_within_limits (record_shape k fs)) (denoted_group_fields (named there) (suc k) later (rename_fields_in_group l k (suc k) g)))
+      (λ later. option_and_then (λ fs. type_if_within_limits (record_shape k fs)) (denoted_group_fields (named here) (suc k) later g)) (λ later. option_and_then (λ fs. type_if_within_limits (record_shape k fs)) (denoted_group_fields (named there) (suc k) later (rename_fields_in_group l k (suc k) g)))
       (denoted_further_fields-rename_selected_fields l there here hc ht k (suc k + group_constructor_count g) rest)
-      (λ later. map-then (fields_by l k) (shape_by l) (denoted_group_fields (named here) (suc k) later g) (denoted_group_fields (named there) (suc k) (fields_by l k later) (rename_fields_in_group l k (suc k) g)) (λ fs. type_within_limits (record_shape k fs)) (λ fs. type_within_limits (record_shape k fs))
-      (denoted_group_fields-rename_selected_fields l there here hc ht k (suc k) later g) (λ fs. type_within_limits-by l (record_shape k fs)))
+      (λ later. map-then (fields_by l k) (shape_by l) (denoted_group_fields (named here) (suc k) later g) (denoted_group_fields (named there) (suc k) (fields_by l k later) (rename_fields_in_group l k (suc k) g)) (λ fs. type_if_within_limits (record_shape k fs)) (λ fs. type_if_within_limits (record_shape k fs))
+      (denoted_group_fields-rename_selected_fields l there here hc ht k (suc k) later g) (λ fs. type_if_within_limits-by l (record_shape k fs)))
 
   pub denoted_group_fields-rename_selected_fields : {V P W Q : Type 0} (l : FieldRenaming) (there : Name → Option (Object V P)) (here : Name → Option (Object W Q))
       → ((x : Name) → value_of_constant_object (there x) ≡ value_of_constant_object (here x)) → ((x : Name) → type_of_type_object (there x) ≡ option_map (shape_by l) (type_of_type_object (here x)))

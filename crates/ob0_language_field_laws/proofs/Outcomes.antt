@@ -10,9 +10,9 @@ use Rattle.ob0_tree.specs.declared.tree.AddOperator.TheVariants as add_operator
 use Rattle.ob0_tree.specs.declared.tree.MultiplyOperator.{MultiplyOperator}
 use Rattle.ob0_tree.specs.declared.tree.MultiplyOperator.TheVariants as multiply_operator
 use Rattle.ob0_language_types.specs.Expressions.{element_step}
-use Rattle.ob0_language_values.specs.Values.{Index, Outcome, Overflow, PathStep, Stuck, Value, add, add_operator_short_circuits, at_index, compare_numbers, count_values, checked_division, division_outcome, elements, ends_run_with, fits_in_32_bits, succeeds_with, checked_number, multiply, multiply_operator_short_circuits, negate, number, result_or_stuck, quotient, apply_relation, remainder, same_truth, apply_sign, truth, ◌>>=◌}
+use Rattle.ob0_language_values.specs.Values.{Index, Outcome, Overflow, PathStep, Stuck, Value, apply_add_operator, add_operator_short_circuits, at_index, compare_numbers, value_count, checked_division, division_outcome, elements, ends_run_with, fits_in_32_bits, succeeds_with, checked_number, apply_multiply_operator, multiply_operator_short_circuits, apply_not, number, result_or_stuck, quotient, apply_relation, remainder, same_truth, apply_sign, truth, ◌>>=◌}
 use Rattle.ob0_language_fields.specs.RenamedFields.{FieldRenaming}
-use Rattle.ob0_language_field_laws.proofs.Values.{Finds, count_values-by, step_by, tagged, to_index, value_by}
+use Rattle.ob0_language_field_laws.proofs.Values.{Finds, value_count-by, step_by, tagged, to_index, value_by}
 
 abbrev pub Follows : {A X Y : Type 0} → (A → X) → (A → Y) → Outcome X → Outcome Y → Type 0
 Follows {A} f g (succeeds_with x) (succeeds_with y) = (a : A) × (x ≡ f a) × (y ≡ g a)
@@ -45,13 +45,13 @@ pub division_outcome-follows : (l : FieldRenaming) (result : Option ℤ) → Val
 division_outcome-follows l None = inr refl
 division_outcome-follows l (Some n) = checked_number-follows l n
 
-pub add-follows : (l : FieldRenaming) (o : AddOperator) (v w : Value) → ValuesFollow l (add o (value_by tagged v) (value_by tagged w)) (add o (value_by l v) (value_by l w))
+pub add-follows : (l : FieldRenaming) (o : AddOperator) (v w : Value) → ValuesFollow l (apply_add_operator o (value_by tagged v) (value_by tagged w)) (apply_add_operator o (value_by l v) (value_by l w))
 add-follows l add_operator.Add (number a) (number b) = checked_number-follows l (a +ℤ b)
 add-follows l add_operator.Subtract (number a) (number b) = checked_number-follows l (a -ℤ b)
 add-follows l add_operator.Or (truth a) (truth b) = (truth _, refl, refl)
 add-follows l _ _ _ = inl refl
 
-pub multiply-follows : (l : FieldRenaming) (o : MultiplyOperator) (v w : Value) → ValuesFollow l (multiply o (value_by tagged v) (value_by tagged w)) (multiply o (value_by l v) (value_by l w))
+pub multiply-follows : (l : FieldRenaming) (o : MultiplyOperator) (v w : Value) → ValuesFollow l (apply_multiply_operator o (value_by tagged v) (value_by tagged w)) (apply_multiply_operator o (value_by l v) (value_by l w))
 multiply-follows l multiply_operator.Multiply (number a) (number b) = checked_number-follows l (a *ℤ b)
 multiply-follows l multiply_operator.Divide (number a) (number b) = division_outcome-follows l (checked_division quotient a b)
 multiply-follows l multiply_operator.Modulo (number a) (number b) = division_outcome-follows l (checked_division remainder a b)
@@ -70,7 +70,7 @@ apply_sign-follows l (Some sign.Plus) (number a) = checked_number-follows l a
 apply_sign-follows l (Some sign.Minus) (number a) = checked_number-follows l (neg_ℤ a)
 apply_sign-follows l _ _ = inl refl
 
-pub negate-follows : (l : FieldRenaming) (v : Value) → ValuesFollow l (negate (value_by tagged v)) (negate (value_by l v))
+pub negate-follows : (l : FieldRenaming) (v : Value) → ValuesFollow l (apply_not (value_by tagged v)) (apply_not (value_by l v))
 negate-follows l (truth b) = (truth _, refl, refl)
 negate-follows l _ = inl refl
 
@@ -100,6 +100,6 @@ index-follows l i n = elim (nat_lt i n) as (λ b. MovesFollow l (if b then succe
 
 pub element_step-follows : (l : FieldRenaming) (v i : Value) → MovesFollow l (element_step (value_by tagged v) (value_by tagged i)) (element_step (value_by l v) (value_by l i))
 element_step-follows l (elements vs) (number (pos i)) =
-    subst₂ (λ m n. MovesFollow l (if nat_lt i m then succeeds_with (at_index i) else ends_run_with Index) (if nat_lt i n then succeeds_with (at_index i) else ends_run_with Index)) (sym (count_values-by tagged vs)) (sym (count_values-by l vs)) (index-follows l i (count_values vs))
+    subst₂ (λ m n. MovesFollow l (if nat_lt i m then succeeds_with (at_index i) else ends_run_with Index) (if nat_lt i n then succeeds_with (at_index i) else ends_run_with Index)) (sym (value_count-by tagged vs)) (sym (value_count-by l vs)) (index-follows l i (value_count vs))
 element_step-follows l (elements vs) (number (negsuc i)) = inr refl
 element_step-follows l _ _ = inl refl

@@ -1,4 +1,4 @@
--- The proofs of the laws of fields under other names.
+-- The proofs of the laws about renamed fields.
 use Rattle.std.proofs.Common.{IsTrue, sym, refl, ap, ◌∙◌, subst}
 use Rattle.ob0_language_names.specs.Names.{naming_by_spelling}
 use Rattle.ob0_language_types.specs.WellTyped.{WellTyped}

@@ -1,4 +1,5 @@
--- A constant expression over numbers and truth values evaluates to a number or a truth value.
+-- A constant expression evaluates to a number or a truth value if all its constants are numbers or
+-- truth values.
 use Rattle.std.proofs.Common.{◌≡◌, Bool, true, false, ℤ, ◌+ℤ◌, ◌-ℤ◌, ◌*ℤ◌, neg_ℤ, List, [], ◌∷◌, if◌then◌else◌, Some, None, Option, option_map, option_and_then, refl, sym, ap, ◌∙◌, subst}
 use Rattle.ob0_tree.specs.declared.tree.Relation.{Relation}
 use Rattle.ob0_tree.specs.declared.tree.Relation.TheVariants as relation
@@ -10,9 +11,9 @@ use Rattle.ob0_tree.specs.declared.tree.MultiplyOperator.{MultiplyOperator}
 use Rattle.ob0_tree.specs.declared.tree.MultiplyOperator.TheVariants as multiply_operator
 use Rattle.ob0_tree.specs.Tree.{Tree, addend, adds, compares, designator, end, expression, factor, integer, items, more, multiplier, multiplies, negation, none, one, parenthesised, product, relates, simple, sum, term}
 use Rattle.ob0_language_names.specs.Names.{Name}
-use Rattle.ob0_language_types.specs.Expressions.{Meanings, Object, a_constant, evaluate, evaluate_addends, evaluate_factor, evaluate_multipliers, evaluate_simple_expression, evaluate_term, evaluate_selectors, object_value}
+use Rattle.ob0_language_types.specs.Expressions.{Meanings, Object, a_constant, evaluate_expression, evaluate_addends, evaluate_factor, evaluate_multipliers, evaluate_simple_expression, evaluate_term, evaluate_selectors, object_value}
 use Rattle.ob0_language_types.specs.Typing.{value_of_constant_object, constant_expression_value, meanings_in_constant_expressions, outcome_value, type_of_expression}
-use Rattle.ob0_language_values.specs.Values.{Outcome, Overflow, Place, Shape, PathStep, Value, add, add_operator_short_circuits, value_at_path, checked_division, division_outcome, elements, ends_run_with, fits_in_32_bits, succeeds_with, checked_number, members, multiply, multiply_operator_short_circuits, negate, number, result_or_stuck, quotient, apply_relation, remainder, apply_sign, truth, ◌>>=◌}
+use Rattle.ob0_language_values.specs.Values.{Outcome, Overflow, Place, Shape, PathStep, Value, apply_add_operator, add_operator_short_circuits, value_at_path, checked_division, division_outcome, elements, ends_run_with, fits_in_32_bits, succeeds_with, checked_number, members, apply_multiply_operator, multiply_operator_short_circuits, apply_not, number, result_or_stuck, quotient, apply_relation, remainder, apply_sign, truth, ◌>>=◌}
 use Rattle.ob0_language_field_laws.proofs.FieldRenamedExpressions.{Scalar, logical, scalar_value, whole}
 use Rattle.ob0_language_fields.proofs.MeaningsByName.{named}
 
@@ -42,13 +43,13 @@ division_outcome-scalar : (result : Option ℤ) → Holds IsScalarValue (divisio
 division_outcome-scalar None = tt
 division_outcome-scalar (Some n) = checked_number-scalar n
 
-add-scalar : (o : AddOperator) (v w : Value) → Holds IsScalarValue (add o v w)
+add-scalar : (o : AddOperator) (v w : Value) → Holds IsScalarValue (apply_add_operator o v w)
 add-scalar add_operator.Add (number a) (number b) = checked_number-scalar (a +ℤ b)
 add-scalar add_operator.Subtract (number a) (number b) = checked_number-scalar (a -ℤ b)
 add-scalar add_operator.Or (truth a) (truth b) = tt
 add-scalar _ _ _ = tt
 
-multiply-scalar : (o : MultiplyOperator) (v w : Value) → Holds IsScalarValue (multiply o v w)
+multiply-scalar : (o : MultiplyOperator) (v w : Value) → Holds IsScalarValue (apply_multiply_operator o v w)
 multiply-scalar multiply_operator.Multiply (number a) (number b) = checked_number-scalar (a *ℤ b)
 multiply-scalar multiply_operator.Divide (number a) (number b) = division_outcome-scalar (checked_division quotient a b)
 multiply-scalar multiply_operator.Modulo (number a) (number b) = division_outcome-scalar (checked_division remainder a b)
@@ -67,7 +68,7 @@ apply_sign-scalar (Some sign.Plus) (number a) h = checked_number-scalar a
 apply_sign-scalar (Some sign.Minus) (number a) h = checked_number-scalar (neg_ℤ a)
 apply_sign-scalar _ _ h = tt
 
-negate-scalar : (v : Value) → Holds IsScalarValue (negate v)
+negate-scalar : (v : Value) → Holds IsScalarValue (apply_not v)
 negate-scalar (truth b) = tt
 negate-scalar _ = tt
 
@@ -93,9 +94,9 @@ object_value-scalar (Some (whole n)) = tt
 object_value-scalar _ = tt
 
 mutual
-  unfolding evaluate
+  unfolding evaluate_expression
 
-  evaluate-scalar : (cs : Constants) (e : Tree Name expression) → Holds IsScalarValue (evaluate {P = Unit {0}} (constant_meaning cs) [] e)
+  evaluate-scalar : (cs : Constants) (e : Tree Name expression) → Holds IsScalarValue (evaluate_expression {P = Unit {0}} (constant_meaning cs) [] e)
   evaluate-scalar cs (compares a none) = evaluate_simple_expression-scalar cs a
   evaluate-scalar cs (compares a (one (relates r b))) =
       holds-then IsScalarValue (evaluate_simple_expression {P = Unit {0}} (constant_meaning cs) [] a) (λ x. evaluate_simple_expression {P = Unit {0}} (constant_meaning cs) [] b >>= apply_relation r x)
@@ -109,8 +110,8 @@ mutual
   evaluate_addends-scalar : (cs : Constants) (v : Value) (a : Tree Name (items addend)) → IsScalarValue v → Holds IsScalarValue (evaluate_addends {P = Unit {0}} (constant_meaning cs) [] v a)
   evaluate_addends-scalar cs v end h = h
   evaluate_addends-scalar cs v (more (adds o t) rest) h =
-      holds-with IsScalarValue IsScalarValue (elim (add_operator_short_circuits o v) [ true ↦ succeeds_with v | false ↦ evaluate_term {P = Unit {0}} (constant_meaning cs) [] t >>= add o v ]) (λ y. evaluate_addends {P = Unit {0}} (constant_meaning cs) [] y rest)
-      (settled-scalar (add_operator_short_circuits o v) v (evaluate_term {P = Unit {0}} (constant_meaning cs) [] t >>= add o v) h (holds-then IsScalarValue (evaluate_term {P = Unit {0}} (constant_meaning cs) [] t) (add o v) (add-scalar o v)))
+      holds-with IsScalarValue IsScalarValue (elim (add_operator_short_circuits o v) [ true ↦ succeeds_with v | false ↦ evaluate_term {P = Unit {0}} (constant_meaning cs) [] t >>= apply_add_operator o v ]) (λ y. evaluate_addends {P = Unit {0}} (constant_meaning cs) [] y rest)
+      (settled-scalar (add_operator_short_circuits o v) v (evaluate_term {P = Unit {0}} (constant_meaning cs) [] t >>= apply_add_operator o v) h (holds-then IsScalarValue (evaluate_term {P = Unit {0}} (constant_meaning cs) [] t) (apply_add_operator o v) (add-scalar o v)))
       (λ y hy. evaluate_addends-scalar cs y rest hy)
 
   evaluate_term-scalar : (cs : Constants) (a : Tree Name term) → Holds IsScalarValue (evaluate_term {P = Unit {0}} (constant_meaning cs) [] a)
@@ -120,8 +121,8 @@ mutual
   evaluate_multipliers-scalar : (cs : Constants) (v : Value) (a : Tree Name (items multiplier)) → IsScalarValue v → Holds IsScalarValue (evaluate_multipliers {P = Unit {0}} (constant_meaning cs) [] v a)
   evaluate_multipliers-scalar cs v end h = h
   evaluate_multipliers-scalar cs v (more (multiplies o t) rest) h =
-      holds-with IsScalarValue IsScalarValue (elim (multiply_operator_short_circuits o v) [ true ↦ succeeds_with v | false ↦ evaluate_factor {P = Unit {0}} (constant_meaning cs) [] t >>= multiply o v ]) (λ y. evaluate_multipliers {P = Unit {0}} (constant_meaning cs) [] y rest)
-      (settled-scalar (multiply_operator_short_circuits o v) v (evaluate_factor {P = Unit {0}} (constant_meaning cs) [] t >>= multiply o v) h (holds-then IsScalarValue (evaluate_factor {P = Unit {0}} (constant_meaning cs) [] t) (multiply o v) (multiply-scalar o v)))
+      holds-with IsScalarValue IsScalarValue (elim (multiply_operator_short_circuits o v) [ true ↦ succeeds_with v | false ↦ evaluate_factor {P = Unit {0}} (constant_meaning cs) [] t >>= apply_multiply_operator o v ]) (λ y. evaluate_multipliers {P = Unit {0}} (constant_meaning cs) [] y rest)
+      (settled-scalar (multiply_operator_short_circuits o v) v (evaluate_factor {P = Unit {0}} (constant_meaning cs) [] t >>= apply_multiply_operator o v) h (holds-then IsScalarValue (evaluate_factor {P = Unit {0}} (constant_meaning cs) [] t) (apply_multiply_operator o v) (multiply-scalar o v)))
       (λ y hy. evaluate_multipliers-scalar cs y rest hy)
 
   evaluate_factor-scalar : (cs : Constants) (a : Tree Name factor) → Holds IsScalarValue (evaluate_factor {P = Unit {0}} (constant_meaning cs) [] a)
@@ -130,7 +131,7 @@ mutual
       (λ v hv. holds-then IsScalarValue (evaluate_selectors {P = Unit {0}} (constant_meaning cs) [] v path) (λ steps. result_or_stuck (value_at_path steps v)) (λ steps. value_at_path-scalar steps v hv))
   evaluate_factor-scalar cs (integer n) = tt
   evaluate_factor-scalar cs (parenthesised e) = evaluate-scalar cs e
-  evaluate_factor-scalar cs (negation a) = holds-then IsScalarValue (evaluate_factor {P = Unit {0}} (constant_meaning cs) [] a) negate negate-scalar
+  evaluate_factor-scalar cs (negation a) = holds-then IsScalarValue (evaluate_factor {P = Unit {0}} (constant_meaning cs) [] a) apply_not negate-scalar
 
 scalar_is : (v : Value) → IsScalarValue v → (c : Scalar) × (v ≡ scalar_value c)
 scalar_is (number n) h = (whole n, refl)
@@ -157,6 +158,6 @@ constant_expression_value-scalar objects cs same e = of_type (type_of_expression
         twice None = refl
         twice (Some c) = refl
 
-    of_type : (o : Option Shape) → (c : Option Scalar) × (option_and_then (λ s. outcome_value (evaluate {P = Unit {0}} (meanings_in_constant_expressions (named objects)) [] e)) o ≡ option_map scalar_value c)
+    of_type : (o : Option Shape) → (c : Option Scalar) × (option_and_then (λ s. outcome_value (evaluate_expression {P = Unit {0}} (meanings_in_constant_expressions (named objects)) [] e)) o ≡ option_map scalar_value c)
     of_type None = (None, refl)
-    of_type (Some s) = given-scalar (evaluate {P = Unit {0}} (meanings_in_constant_expressions (named objects)) [] e) (subst (λ m. Holds IsScalarValue (evaluate {P = Unit {0}} m [] e)) (sym only-constants) (evaluate-scalar cs e))
+    of_type (Some s) = given-scalar (evaluate_expression {P = Unit {0}} (meanings_in_constant_expressions (named objects)) [] e) (subst (λ m. Holds IsScalarValue (evaluate_expression {P = Unit {0}} m [] e)) (sym only-constants) (evaluate-scalar cs e))

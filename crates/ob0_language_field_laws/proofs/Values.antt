@@ -1,16 +1,17 @@
--- The values, places and stores of two runs. In the first run, each field's name is tagged: the ordinal of its record
--- precedes it. In the second run, fields have other names.
--- In the first run a selector finds a field only in a value of the same record. The second run finds whatever the first
--- one finds. So each step of the first run is stuck, or the second run makes the same step. The tagged module is
--- well-typed, so its run never gets stuck. Both the original module and the module with other names are compared with
--- the tagged one. So no typing of the store is needed. The contents of both runs are functions of one thing
+-- The values, places and stores of two runs. In the first run, each field's name is tagged: the
+-- ordinal of its record precedes it. In the second run, fields are renamed. In the first run a
+-- selector finds a field only in a value of the same record. The second run finds whatever the
+-- first one finds. So each step of the first run is stuck, or the second run makes the same step.
+-- The tagged module is well-typed, so its run never gets stuck. Both the original module and the
+-- module with renamed fields are compared with the tagged one. So the proof needs no typing of the
+-- store. Corresponding values, places and states of the two runs are images of one original
 -- (`value_by`, `place_by`, `state_by`).
 use Rattle.std.proofs.Common.{◌≡◌, ℕ, suc, Bool, true, false, ◌&&◌, List, [], ◌∷◌, map, ◌⊎◌, inl, inr, if◌then◌else◌, ◌==◌, slice_get, slice_set, Some, None, Option, option_map, option_and_then, sym, refl, ap, ◌∙◌, subst, subst₂, eq-eqb}
 use Rattle.std.proofs.Math.Dec.{eqb-suc-suc, eqb-zero-suc}
 use Rattle.std.proofs.lemmas.Bool.{eqb-true}
 use Rattle.std.proofs.lemmas.Option.{slice_get-map}
 use Rattle.ob0_language_names.specs.Names.{Name, same_name}
-use Rattle.ob0_language_values.specs.Values.{Members, Place, PathStep, Store, Value, Values, at_field, at_index, value_at_path, count_values, elements, members, named_member, next_member, next_value, no_member, no_value, nth_value, number, value_at_step, read_place, truth, with_value_at_path, with_named_member, with_nth_value, with_value_at_step, write_place}
+use Rattle.ob0_language_values.specs.Values.{Members, Place, PathStep, Store, Value, Values, at_field, at_index, value_at_path, value_count, elements, members, named_member, next_member, next_value, no_member, no_value, nth_value, number, value_at_step, read_place, truth, with_value_at_path, with_named_member, with_nth_value, with_value_at_step, write_place}
 use Rattle.ob0_language_fields.specs.RenamedFields.{FieldRenaming}
 use Rattle.ob0_language_fields.proofs.Bare.{bare}
 use Rattle.ob0_language_field_laws.specs.FieldLaws.{KeepsFieldsDistinct}
@@ -91,9 +92,9 @@ pub with_nth_value-by : (l : FieldRenaming) (vs : Values) (i : ℕ) (new : Value
 with_nth_value-by l (next_value v rest) (suc i) new = λ j. next_value (value_by l v) (with_nth_value-by l rest i new j)
 with_nth_value-by l _ _ new = refl
 
-pub count_values-by : (l : FieldRenaming) (vs : Values) → count_values (values_by l vs) ≡ count_values vs
-count_values-by l no_value = refl
-count_values-by l (next_value v rest) = λ i. suc (count_values-by l rest i)
+pub value_count-by : (l : FieldRenaming) (vs : Values) → value_count (values_by l vs) ≡ value_count vs
+value_count-by l no_value = refl
+value_count-by l (next_value v rest) = λ i. suc (value_count-by l rest i)
 
 pub named_member-by : (l : FieldRenaming) → KeepsFieldsDistinct l → (k : ℕ) (ms : Members) (x : Name) → named_member (members_by l k ms) (l (Some k) x) ≡ option_map (value_by l) (named_member ms x)
 named_member-by l apart k no_member x = refl

@@ -1,5 +1,5 @@
--- Laws of renamed fields: a well-typed module remains well-typed and has the same runs if different fields of the same
--- record get different names.
+-- Laws about renamed fields: a well-typed module remains well-typed and has the same runs if
+-- different fields of the same record get different names.
 -- Rule: none; states laws about renamed fields.
 use Rattle.std.specs.Prelude.{◌≡◌, ℕ, Some}
 use Rattle.ob0_tree.specs.Tree.{Tree, module_text}
@@ -9,8 +9,8 @@ use Rattle.ob0_language_runs.specs.EditLaws.{HaveSameRuns}
 use Rattle.ob0_language_fields.specs.RenamedFields.{FieldRenaming, rename_fields_in_module}
 use Rattle.ob0_language_fields.specs.SingleFieldRenaming.{IsFreeFieldName, module_with_renamed_field}
 
--- states that a renaming of fields gives two fields of the same record the same name exactly if their old names are
--- equal
+-- states that a renaming gives two fields of the same record the same new name exactly if their old
+-- names are equal
 abbrev pub KeepsFieldsDistinct : FieldRenaming → Type 0
 KeepsFieldsDistinct l = (k : ℕ) (x y : Name) → same_name (l (Some k) x) (l (Some k) y) ≡ same_name x y
 

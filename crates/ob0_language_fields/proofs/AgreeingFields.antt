@@ -1,5 +1,5 @@
--- Two functions for the names of fields give the same module, if the module is well-typed and both agree on each field
--- that its records declare.
+-- Two renamings give the same tree of a part of a well-typed module if both agree on each field
+-- that the module's records declare.
 use Rattle.std.proofs.Common.{◌≡◌, ℕ, suc, ◌+◌, true, false, ◌&&◌, List, [], ◌∷◌, ◌++◌, map, if◌then◌else◌, nat_le, Some, None, Option, option_and_then, sym, refl, ap, ◌∙◌, subst}
 use Rattle.ob0_tree.specs.Tree.{Tree, addend, adds, arguments, array_type, assigns, branches, calls, compares, designator, else_branch, else_part, elsif_branch, elsif_part, empty, end, expression, factor, field, fields, argument_after_comma, fields_after_semicolon, name_after_comma, statement_after_semicolon, index, integer, items, listed, maybe, more, multiplier, multiplies, named_type, names, negation, no_arguments, no_fields, none, one, parenthesised, product, record_type, relates, repeat_loop, runs, selector, sequence, simple, some_arguments, some_fields, statement, sum, term, comma_then_argument, semicolon_then_fields, comma_then_name, semicolon_then_statement, while_loop, written_type}
 use Rattle.ob0_language_names.specs.ConsistentNames.{group_field_names, field_names_after_first_group}
@@ -8,7 +8,7 @@ use Rattle.ob0_language_names.specs.Names.{Name, same_name}
 use Rattle.ob0_language_names.specs.BlockParts.{names_after_first, names_in_list}
 use Rattle.ob0_language_types.specs.Arguments.{call_arguments, further_arguments}
 use Rattle.ob0_language_types.specs.Expressions.{Object, a_constant, a_procedure, a_standard_procedure, a_type, a_variable}
-use Rattle.ob0_language_types.specs.Typing.{addition_type, array_length_from_value, negation_type, constant_expression_value, denoted_type, denoted_group_fields, denoted_further_fields, depth, lone_designator, element_type, field_type, group_constructor_count, multiplication_type, type_of_variable_or_constant, relation_type, scalars, named_field_shape, signed_operand_type, type_after_selectors, type_of_expression, type_after_addends, type_of_factor, type_after_multipliers, type_of_type_object, type_of_simple_expression, type_of_term, value_type, prepend_fields, type_within_limits}
+use Rattle.ob0_language_types.specs.Typing.{addition_type, array_length_from_value, negation_type, constant_expression_value, denoted_type, denoted_group_fields, denoted_further_fields, depth, lone_designator, element_type, field_type, group_constructor_count, multiplication_type, type_of_variable_or_constant, relation_type, scalar_count, named_field_shape, signed_operand_type, type_after_selectors, type_of_expression, type_after_addends, type_of_factor, type_after_multipliers, type_of_type_object, type_of_simple_expression, type_of_term, value_type, prepend_fields, type_if_within_limits}
 use Rattle.ob0_language_types.specs.WellTyped.{FormalParameter, ParameterMode, Signature, TypeMeanings, same_known_shape, argument_matches_parameter, arguments_match_signature, by_place, by_value, condition_is_boolean, else_is_well_typed, elsifs_are_well_typed, sequence_is_well_typed, signature_of, statement_is_well_typed, further_statements_are_well_typed, assignable_type}
 use Rattle.ob0_language_types.proofs.Conditions.{same_known_shape-true, both_true, call-typed, of_some, same_name-true, variable-typed}
 use Rattle.ob0_language_types.proofs.Literals.{some_inverse}
@@ -284,8 +284,8 @@ mutual
       let h₂ = records-split p q (records_in_group k g) (records_in_further_groups (k + group_constructor_count g) rest) h' in
       λ i. more (semicolon_then_fields (group-alike p q r k g h₁.0 h₂.0 i)) (groups-alike p q r (k + group_constructor_count g) rest h₁.1 h₂.1 i)
 
-within-is : (s t : Shape) → type_within_limits s ≡ Some t → s ≡ t
-within-is s t = elim (nat_le (scalars s) 65536 && nat_le (depth s) 100) as (λ b. (if b then Some s else None) ≡ Some t → s ≡ t) [ true ↦ λ h. some_inverse {a = s} {b = t} h | false ↦ λ h. absurd (cc) ]
+within-is : (s t : Shape) → type_if_within_limits s ≡ Some t → s ≡ t
+within-is s t = elim (nat_le (scalar_count s) 65536 && nat_le (depth s) 100) as (λ b. (if b then Some s else None) ≡ Some t → s ≡ t) [ true ↦ λ h. some_inverse {a = s} {b = t} h | false ↦ λ h. absurd (cc) ]
 
 prepend_fields-same_known_shape : (p q : FieldRenaming) (k : ℕ) (xs : List Name) (s : Shape) (rest : FieldShapes) → NamesAgree p q k xs → ShapeAgrees p q s → FieldsAgree p q k rest → FieldsAgree p q k (prepend_fields (map (λ x. x) xs) s rest)
 prepend_fields-same_known_shape p q k [] s rest h hs hr = hr
@@ -297,15 +297,15 @@ mutual
   pub denoted_type-agrees : (p q : FieldRenaming) (objects : Name → Option (Object Shape Signature)) → ObjectsAgree p q objects → (k : ℕ) (t : Tree Name written_type) (s : Shape) → RecordsAgree p q (records_in_type k t) → denoted_type (named objects) k t ≡ Some s → ShapeAgrees p q s
   denoted_type-agrees p q objects known k (named_type x) s h e = type_of_type_object-agrees p q (objects x) s (known x) e
   denoted_type-agrees p q objects known k (array_type c t) s h e =
-      let (v, ev, e₁) = then_some (constant_expression_value (named objects) c) (λ v. option_and_then (λ n. option_and_then (λ u. type_within_limits (array_shape k n u)) (denoted_type (named objects) (suc k) t)) (array_length_from_value v)) s e in
-      let (n, en, e₂) = then_some (array_length_from_value v) (λ n. option_and_then (λ u. type_within_limits (array_shape k n u)) (denoted_type (named objects) (suc k) t)) s e₁ in
-      let (u, eu, e₃) = then_some (denoted_type (named objects) (suc k) t) (λ u. type_within_limits (array_shape k n u)) s e₂ in
+      let (v, ev, e₁) = then_some (constant_expression_value (named objects) c) (λ v. option_and_then (λ n. option_and_then (λ u. type_if_within_limits (array_shape k n u)) (denoted_type (named objects) (suc k) t)) (array_length_from_value v)) s e in
+      let (n, en, e₂) = then_some (array_length_from_value v) (λ n. option_and_then (λ u. type_if_within_limits (array_shape k n u)) (denoted_type (named objects) (suc k) t)) s e₁ in
+      let (u, eu, e₃) = then_some (denoted_type (named objects) (suc k) t) (λ u. type_if_within_limits (array_shape k n u)) s e₂ in
       subst (ShapeAgrees p q) (within-is (array_shape k n u) s e₃) (denoted_type-agrees p q objects known (suc k) t u h eu)
   denoted_type-agrees p q objects known k (record_type g rest) s h e =
       let h₁ = names-split p q k (group_field_names g) (field_names_after_first_group rest) h.0 in
       let h₂ = records-split p q (records_in_group (suc k) g) (records_in_further_groups (suc k + group_constructor_count g) rest) h.1 in
-      let (later, el, e₁) = then_some (denoted_further_fields (named objects) (suc k + group_constructor_count g) rest) (λ later. option_and_then (λ fs. type_within_limits (record_shape k fs)) (denoted_group_fields (named objects) (suc k) later g)) s e in
-      let (fs, ef, e₂) = then_some (denoted_group_fields (named objects) (suc k) later g) (λ fs. type_within_limits (record_shape k fs)) s e₁ in
+      let (later, el, e₁) = then_some (denoted_further_fields (named objects) (suc k + group_constructor_count g) rest) (λ later. option_and_then (λ fs. type_if_within_limits (record_shape k fs)) (denoted_group_fields (named objects) (suc k) later g)) s e in
+      let (fs, ef, e₂) = then_some (denoted_group_fields (named objects) (suc k) later g) (λ fs. type_if_within_limits (record_shape k fs)) s e₁ in
       subst (ShapeAgrees p q) (within-is (record_shape k fs) s e₂)
       (denoted_group_fields-agrees p q objects known k (suc k) later g fs h₁.0 h₂.0 (denoted_further_fields-same_known_shape p q objects known k (suc k + group_constructor_count g) rest later h₁.1 h₂.1 el) ef)
 

@@ -1,5 +1,5 @@
--- Two functions for the names of fields give the same block and the same module. The module must be well-typed, and
--- both functions must agree on each field that its records declare.
+-- Two renamings give the same block and the same module if the module is well-typed and both agree
+-- on each field that its records declare.
 use Rattle.std.proofs.Common.{◌≡◌, ℕ, ◌+◌, true, false, ◌&&◌, List, [], ◌∷◌, ◌++◌, map, Some, None, option_and_then, unwrap_or, sym, refl, ap, subst}
 use Rattle.ob0_tree.specs.Tree.{Tree, begins, block, body, constant, declares, declares_constant, declares_procedure, declares_type, declares_type_section, declares_variable, declares_var_section, end, formals, section_after_semicolon, forms_block, forms_module, item, items, maybe, module_text, more, no_formals, none, one, procedure, section, some_formals, semicolon_then_section, type_definition, type_definitions, value_section, variable, variable_section, variables}
 use Rattle.ob0_language_names.specs.Names.{Name, naming_by_spelling, same_name}

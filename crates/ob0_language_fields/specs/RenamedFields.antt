@@ -1,5 +1,5 @@
--- Modules with renamed fields. A field is renamed at its declaration in a record and in each
--- selector that selects this field.
+-- Defines the module in which fields are renamed. A field is renamed at its declaration in a record
+-- and in each selector that selects this field.
 -- Rule: docs/LANGUAGE.md, Scopes 7.
 use Rattle.std.specs.Prelude.{ℕ, suc, ◌+◌, List, [], Some, None, Option, option_and_then, unwrap_or}
 use Rattle.ob0_tree.specs.Tree.{GrammarItem, Sort, Tree, adds, array_type, assigns, begins, block, branches, calls, compares, declares, declares_procedure, declares_type, declares_type_section, declares_variable, declares_var_section, designator, else_branch, elsif_branch, end, field, fields, formals, fields_after_semicolon, section_after_semicolon, forms_block, index, forms_module, item, items, maybe, module_text, more, multiplies, named_type, negation, no_fields, no_formals, none, one, parenthesised, procedure, product, record_type, relates, repeat_loop, runs, section, some_arguments, some_fields, some_formals, sum, comma_then_argument, semicolon_then_fields, semicolon_then_section, semicolon_then_statement, type_definition, type_definitions, value_section, variable, variable_section, variables, while_loop, written_type}
@@ -14,12 +14,12 @@ use Rattle.ob0_language_values.specs.Values.{Shape, array_shape, boolean_shape, 
 
 -- A function that returns the new name of a field. The first argument is the ordinal of the field's
 -- record, or None if the record is unknown. A record's ordinal is the number of words ARRAY and
--- RECORD before the record in the text. The second argument is the field's old name.
+-- RECORD before its own word RECORD. The second argument is the field's old name.
 abbrev pub FieldRenaming : Type 0
 FieldRenaming = Option ℕ → Name → Name
 
 -- returns the ordinal of a record type: the number of words ARRAY and RECORD before its RECORD;
--- None if the type isn't a record type or is unknown (None)
+-- None for any other type and for None (an unknown type)
 abbrev pub record_ordinal : Option Shape → Option ℕ
 record_ordinal None = None
 record_ordinal (Some integer_shape) = None
@@ -35,10 +35,10 @@ shape_after_selector s (field x) = option_and_then (λ t. field_type t x) s
 shape_after_selector s (index e) = option_and_then (λ t. element_type t integer_shape) s
 shape_after_selector s _ = s
 
--- Returns a statement, or a construct within a statement, with the selected fields renamed by `l`.
--- The record of a selected field is the record type of the designator before the selector. If the
--- construct is a selector or a list of selectors, `s` is the type of the designator before the
--- construct.
+-- Returns a statement, or a construct within a statement, with the field in each selector renamed
+-- by `l`. The record of such a field is the record type of the designator before the selector. If
+-- the construct is a selector or a list of selectors, the argument of type `Option Shape` is the
+-- type of the designator before the construct.
 abbrev pub rename_selected_fields : {s : Sort} → FieldRenaming → TypeMeanings Name → Option Shape → Tree Name s → Tree Name s
 rename_selected_fields l meaning s (more t ts) =
     more (rename_selected_fields l meaning s t) (rename_selected_fields l meaning (shape_after_selector s t) ts)
@@ -182,9 +182,9 @@ rename_fields_in_formals l k (one (some_formals f fs)) =
     one (some_formals (rename_fields_in_parameter_section l k f)
     (rename_fields_in_further_parameter_sections l (k + constructor_count (parameter_section_type f)) fs))
 
--- Returns the environment `env` with a block's constants, types and variables added. Array and
--- record types are numbered from `k`, the count of words ARRAY and RECORD before the block. Returns
--- `env` unchanged if one of these declarations has an error.
+-- Returns the environment `env` with a block's constants, types and variables added, or `env`
+-- unchanged if one of these declarations has an error. Array and record types are numbered from
+-- `k`, the count of words ARRAY and RECORD before the block.
 abbrev pub environment_after_variables : TypeEnvironment Name → ℕ → Tree Name block → TypeEnvironment Name
 environment_after_variables env k b =
     unwrap_or (option_and_then (declare_typed_variables naming_by_spelling (constructor_count_before_variables k b) (block_variables b))

@@ -1,5 +1,5 @@
--- The renaming of a record's field. A record is given by its ordinal: the number of words ARRAY and
--- RECORD before it in the text.
+-- Defines the renaming of one field of a record, and the names that are free for the field. A
+-- record is given by its ordinal: the number of words ARRAY and RECORD before its own word RECORD.
 -- Rule: docs/PROTOCOL.md, Requests on documents 6.
 use Rattle.std.specs.Prelude.{◌≡◌, ℕ, suc, ◌+◌, Bool, false, not, ◌&&◌, List, [], ◌∷◌, ◌++◌, if◌then◌else◌, ◌==◌}
 use Rattle.std.specs.List.{list_any}
@@ -109,7 +109,8 @@ abbrev mutual
 abbrev pub records_in_module : Tree Name module_text → List RecordFields
 records_in_module m = records_in_block 0 (module_block m)
 
--- returns whether a field other than `f` has the name `new`, given the list `xs` of the names of a record's fields
+-- returns whether the list `xs` of the names of a record's fields has the name `new`, and `new`
+-- isn't `f` itself
 abbrev pub has_another_field_named : List Name → Name → Name → Bool
 has_another_field_named xs f new = list_any (λ x. same_name x new && not (same_name x f)) xs
 

@@ -1,3 +1,2 @@
 //! Defines the fields of a module's records, and the module that results from renaming fields.
-//! Proves lemmas about both.
 #![tactic(auto)]

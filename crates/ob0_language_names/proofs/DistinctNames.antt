@@ -1,6 +1,7 @@
--- A list has no name twice exactly if it has none twice in any other order. Also, a renaming to a free name keeps names
--- unique. A scope is a list with the newest binding first, so a block's scope has the block's names in reverse text
--- order. `onto xs ys` is xs reversed, followed by ys, and `onto (xs ++ ys) zs` is `onto ys (onto xs zs)`.
+-- The names in a list are distinct exactly if they are distinct in any other order. A renaming to a
+-- free name keeps names distinct. A scope is a list with the newest binding first, so a block's
+-- scope has the block's names in reverse text order. `onto xs ys` is xs reversed, followed by ys,
+-- and `onto (xs ++ ys) zs` is `onto ys (onto xs zs)`.
 use Rattle.std.proofs.Common.{Bool, List, Some, [], ap, arith, eqb-true, falls, false, if◌then◌else◌, ne_eqb, not, refl, sym, true, ℕ, ◌&&◌, ◌++◌, ◌<◌, ◌==◌, ◌||◌, ◌∙◌, ◌∷◌, ◌≡◌, ◌≤◌}
 use Rattle.ob0_language_names.specs.ConsistentNames.{are_distinct, is_among}
 use Rattle.ob0_language_names.specs.Names.{Name, same_name}

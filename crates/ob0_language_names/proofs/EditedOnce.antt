@@ -1,4 +1,4 @@
--- The edited module declares names once if the original module does.
+-- An edited module has consistent names (`has_consistent_names`) if the original module has.
 use Rattle.std.proofs.Common.{Bool, List, [], ap, false, if◌then◌else◌, length, not, refl, suc, sym, true, ℕ, ◌&&◌, ◌++◌, ◌+◌, ◌==◌, ◌||◌, ◌∙◌, ◌∷◌, ◌≡◌}
 use Rattle.ob0_tree.specs.Tree.{Tree, array_type, block, constant, constants, declares, declares_constant, declares_const_section, declares_procedure, declares_type, declares_type_section, declares_variable, declares_var_section, end, fields, formals, fields_after_semicolon, section_after_semicolon, forms_block, forms_module, item, items, maybe, module_text, more, named_type, no_fields, no_formals, none, occurrences, one, procedure, record_type, some_fields, some_formals, semicolon_then_fields, semicolon_then_section, type_definition, type_definitions, value_section, variable, variable_section, variables, written_type}
 use Rattle.ob0_language_names.specs.ConsistentNames.{are_distinct, names_declared_in_block, block_has_consistent_names, has_consistent_names, has_distinct_fields, formals_have_distinct_fields, group_field_names, group_has_distinct_fields, field_names_after_first_group, later_groups_have_distinct_fields, is_among, procedure_names, procedure_has_consistent_names, procedure_list_has_consistent_names, types_have_distinct_fields, variables_have_distinct_fields}

@@ -1,4 +1,5 @@
--- Writing the literals and removing the declaration in one edit gives the same module as doing one after the other.
+-- One edit that writes the literals and removes the declaration gives the same module as two edits
+-- that do this one after the other.
 use Rattle.std.proofs.Common.{ap, arith, eqb-true, false, if◌then◌else◌, length, ne_eqb, refl, suc, sym, true, ℕ, ◌+◌, ◌<◌, ◌==◌, ◌∙◌, ◌∷◌, ◌≡◌}
 use Rattle.ob0_tree.specs.Tree.{Tree, block, constant, constants, declares, declares_constant, declares_const_section, declares_procedure, end, factor, forms_block, forms_module, item, items, maybe, module_text, more, none, occurrences, one, procedure}
 use Rattle.ob0_language_names.specs.Inlining.{OccurrenceSet, block_without_constant, inline_in_tree, inlined, module_without_constant, procedure_without_constant, procedure_list_without_constant, section_without_constant, constant_list_without_constant}

@@ -1,5 +1,6 @@
--- After an inlining that replaces all occurrences that satisfy `P`, no such occurrence remains. Each such name must be
--- a whole factor, and the literal must have no such name.
+-- After an inlining that replaces all occurrences that satisfy `P`, no such occurrence remains.
+-- Each of these occurrences must be a whole factor, and the literal must contain no such
+-- occurrence.
 use Rattle.std.proofs.Common.{List, [], add-zero, arith, false, if◌then◌else◌, length, refl, subst, suc, sym, true, true≢false, ℕ, ◌++◌, ◌+◌, ◌∙◌, ◌∷◌, ◌≡◌}
 use Rattle.ob0_tree.specs.Tree.{Sort, Tree, adds, array_type, assigns, begins, branches, calls, compares, declares, declares_constant, declares_const_section, declares_procedure, declares_type, declares_type_section, declares_variable, declares_var_section, designator, else_branch, elsif_branch, empty, end, factor, field, forms_block, index, integer, forms_module, listed, more, multiplies, named_type, negation, no_arguments, no_fields, no_formals, none, occurrences, one, parenthesised, product, record_type, relates, repeat_loop, runs, some_arguments, some_fields, some_formals, sum, comma_then_argument, semicolon_then_fields, comma_then_name, semicolon_then_section, semicolon_then_statement, value_section, variable_section, while_loop}
 use Rattle.ob0_language_names.specs.NonFactorNames.{non_factor_occurrences}

@@ -1,5 +1,5 @@
--- Properties of each occurrence of a tree, according to its number, its scope and its name. `each-block` derives such a
--- property from two lists of labels.
+-- States properties of each occurrence of a tree, given the occurrence's number, its scope and its
+-- name. `each-block` derives such a property from two lists of labels.
 use Rattle.std.proofs.Common.{List, None, [], arith, length, map, refl, subst, suc, ℕ, ◌++◌, ◌+◌, ◌∷◌, ◌≡◌}
 use Rattle.ob0_tree.specs.Tree.{Sort, Tree, block, body, constant, constants, declares, declares_constant, declares_const_section, declares_procedure, declares_type, declares_type_section, declares_variable, declares_var_section, end, expression, formals, section_after_semicolon, forms_block, item, items, maybe, more, no_formals, none, occurrences, one, procedure, section, some_formals, semicolon_then_section, type_definition, type_definitions, value_section, variable, variable_section, variables, written_type}
 use Rattle.ob0_language_names.specs.Names.{Label, Name, Naming}

@@ -3,7 +3,7 @@ use Rattle.std.proofs.Common.{◌≡◌, ℕ, suc, List, [], ◌∷◌, ◌++◌
 use Rattle.ob0_tree.specs.Tree.{Sort, Tree, block, constant, constants, declares, declares_constant, declares_const_section, declares_procedure, declares_type, declares_type_section, declares_variable, declares_var_section, end, formals, name_after_comma, section_after_semicolon, forms_block, forms_module, item, items, listed, maybe, module_text, more, names, no_formals, none, occurrences, one, procedure, section, some_formals, comma_then_name, semicolon_then_section, type_definition, type_definitions, value_section, variable, variable_section, variables}
 use Rattle.ob0_language_names.specs.NumberingLaws.{RenamingToFreeNameKeepsNumbering}
 use Rattle.ob0_language_names.specs.Names.{Label, Name, Naming, naming_by_spelling, as_written, declared}
-use Rattle.ob0_language_names.specs.Occurrences.{bindings}
+use Rattle.ob0_language_names.specs.Occurrences.{labels_of_occurrences}
 use Rattle.ob0_language_names.specs.BlockParts.{constant_names, formal_parameter_names, formal_parameter_sections, declared_type_names, names_in_list, procedure_name, section_constants, parameter_section_names, section_types, section_variables, variable_names}
 use Rattle.ob0_language_names.specs.Scopes.{Labelling, Scope, ordinal_after_block, ordinal_after_names, ordinal_after_procedure, ordinal_after_procedure_list, label_from_ordinal, body_scope, declare_names, first_procedure_ordinal, first_type_ordinal, first_variable_ordinal, labels_of_declared_names, label_in_scope, numbered, predeclared_scope, scope_before_procedures, relabel_block, relabel_constant_section, relabel_constants, relabel_formals, relabel_names_after_first, relabel_names, relabel_procedure, relabel_procedure_list, relabel_parameter_section, relabel_parameter_section_list, relabel_type_section, relabel_types, relabel_uses, relabel_variable_section, relabel_variables, renamed, same_ordinal, scope_before_types, scope_before_variables}
 use Rattle.ob0_language_names.proofs.Ordinals.{ordinal_after_names-append}
@@ -203,7 +203,7 @@ mutual
       (λ q i. declares_procedure (declared (jk i)) (q.first i) (q.second i) (declared (jk i)))
 
 -- A renaming that leaves each binding unchanged leaves the numbered tree unchanged.
-pub renamed-numbered : (m : Tree Name module_text) (d : ℕ) (new : Name) → bindings (renamed m d new) ≡ bindings m → numbered (renamed m d new) ≡ numbered m
+pub renamed-numbered : (m : Tree Name module_text) (d : ℕ) (new : Name) → labels_of_occurrences (renamed m d new) ≡ labels_of_occurrences m → numbered (renamed m d new) ≡ numbered m
 renamed-numbered (forms_module x b closing) d new e =
     let ren : Labelling Name Name = λ ordinal x. if same_ordinal ordinal d then new else x in
     let p = (peel_block naming_by_spelling ren (λ x. refl) (predeclared_scope naming_by_spelling) (predeclared_scope naming_by_spelling) 7 7 refl b).peeled [] [] (ap (λ l. l ++ []) e) in

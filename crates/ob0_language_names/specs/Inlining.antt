@@ -1,4 +1,5 @@
--- Inlining a constant: a factor replaces uses of the constant, and the constant's declaration may be removed.
+-- Defines the inlining of a constant: a factor replaces uses of the constant, and the constant's
+-- declaration may be removed.
 -- Rule: docs/PROTOCOL.md, Requests on documents 9.
 use Rattle.std.specs.Prelude.{ℕ, suc, ◌+◌, Bool, length, if◌then◌else◌, ◌==◌}
 use Rattle.ob0_tree.specs.Tree.{Sort, Tree, adds, array_type, assigns, begins, block, branches, calls, compares, constant, constants, declares, declares_constant, declares_const_section, declares_procedure, declares_type, declares_type_section, declares_variable, declares_var_section, designator, else_branch, elsif_branch, empty, end, factor, field, forms_block, index, integer, forms_module, item, items, listed, maybe, module_text, more, multiplies, named_type, negation, no_arguments, no_fields, no_formals, none, occurrences, one, parenthesised, procedure, product, record_type, relates, repeat_loop, runs, some_arguments, some_fields, some_formals, sum, comma_then_argument, semicolon_then_fields, comma_then_name, semicolon_then_section, semicolon_then_statement, value_section, variable_section, while_loop}
@@ -114,7 +115,8 @@ abbrev pub constant_list_without_constant : ℕ → ℕ → Tree Name (items con
 constant_list_without_constant d k end = end
 constant_list_without_constant d k (more c cs) = if k == d then cs else more c (constant_list_without_constant d (suc k) cs)
 
--- returns a CONST section without the constant with ordinal `d`; `k` is the ordinal of the section's first constant
+-- returns an optional CONST section without the constant with ordinal `d`; `k` is the ordinal of
+-- the section's first constant
 abbrev pub section_without_constant : ℕ → ℕ → Tree Name (maybe constants) → Tree Name (maybe constants)
 section_without_constant d k none = none
 section_without_constant d k (one (declares_const_section cs)) = one (declares_const_section (constant_list_without_constant d k cs))
@@ -145,8 +147,8 @@ abbrev pub module_without_constant : ℕ → Tree Name module_text → Tree Name
 module_without_constant d (forms_module x b closing) = forms_module x (block_without_constant d predeclared_count b) closing
 
 -- returns the set that contains only the occurrence with number `occurrence`
-abbrev pub single_occurrence : ℕ → OccurrenceSet
-single_occurrence occurrence k = k == occurrence
+abbrev pub set_of_one_occurrence : ℕ → OccurrenceSet
+set_of_one_occurrence occurrence k = k == occurrence
 
 -- returns the set of the occurrences that are bound to the declaration with ordinal `d`
 abbrev pub occurrences_bound_to_ordinal : Tree Name module_text → ℕ → OccurrenceSet
@@ -154,5 +156,5 @@ occurrences_bound_to_ordinal m d k = same_ordinal (ordinal_bound_at_occurrence m
 
 -- Returns the module without the declaration of the constant with ordinal `d`. The factor `v`
 -- replaces each use of this constant that is a whole factor, that is, a name without selectors.
-abbrev pub inlined_everywhere_and_removed : Tree Name module_text → ℕ → Tree Name factor → Tree Name module_text
-inlined_everywhere_and_removed m d v = module_without_constant d (inlined m (occurrences_bound_to_ordinal m d) v)
+abbrev pub module_with_constant_inlined_everywhere : Tree Name module_text → ℕ → Tree Name factor → Tree Name module_text
+module_with_constant_inlined_everywhere m d v = module_without_constant d (inlined m (occurrences_bound_to_ordinal m d) v)

@@ -1,4 +1,5 @@
--- The declaration that each occurrence of a name is bound to, and the new names that are free for a declaration.
+-- Defines the declaration to which each occurrence of a name is bound, and the new names that are
+-- free for a declaration.
 -- Rule: docs/LANGUAGE.md, Scopes 2 to 4; docs/PROTOCOL.md, Refusals of edits (Duplicate, Captures).
 use Rattle.std.specs.Prelude.{◌≡◌, ℕ, suc, Bool, false, not, ◌&&◌, List, [], ◌∷◌, ◌++◌, if◌then◌else◌, ◌==◌, slice_get, Some, None, Option, option_map, option_and_then}
 use Rattle.ob0_tree.specs.Tree.{Tree, block, declares, declares_procedure, end, forms_block, item, items, module_text, more, occurrences, procedure}
@@ -10,8 +11,8 @@ use Rattle.std.specs.List.{list_any}
 -- Returns the label of each occurrence of a looked-up name, in text order. The label is the ordinal
 -- of the declaration to which the occurrence is bound, or the name as written if the occurrence is
 -- unbound.
-abbrev pub bindings : Tree Name module_text → List Label
-bindings m = occurrences (numbered m)
+abbrev pub labels_of_occurrences : Tree Name module_text → List Label
+labels_of_occurrences m = occurrences (numbered m)
 
 -- returns the ordinal in a label, or None if the label is a name
 abbrev pub label_ordinal : Label → Option ℕ
@@ -22,13 +23,14 @@ label_ordinal (as_written x) = None
 -- A declaration's ordinal is its number in text order, after the predeclared names 0 to 6. Returns None if the
 -- occurrence is unbound or doesn't exist.
 abbrev pub ordinal_bound_at_occurrence : Tree Name module_text → ℕ → Option ℕ
-ordinal_bound_at_occurrence m occurrence = option_and_then label_ordinal (slice_get (bindings m) occurrence)
+ordinal_bound_at_occurrence m occurrence = option_and_then label_ordinal (slice_get (labels_of_occurrences m) occurrence)
 
--- Returns a list with the declarations of each block, as names with their ordinals. A procedure's parameters and its
--- own declarations count as one block.
+-- Returns a list that has, for each block, the names that the block declares, with their ordinals.
+-- A procedure's parameters and its own declarations count as one block.
 abbrev mutual
-  -- Returns a list with the declarations of a block, then the declarations of each block within it. The block's first
-  -- declaration has ordinal `k`. If this is a procedure's block, `own` has the declarations of the parameters.
+  -- Returns the declarations of a block, then the declarations of each block within it, as one
+  -- scope for each block. The block's first declaration has ordinal `k`. If this is a procedure's
+  -- block, `own` has the declarations of the parameters.
   pub scopes_in_block : {N : Type 0} → ℕ → Scope N → Tree N block → List (Scope N)
   scopes_in_block k own (forms_block (declares cs ts vs ps) statements) =
       body_scope k (forms_block (declares cs ts vs ps) statements) own
@@ -66,7 +68,7 @@ is_duplicate_name m d new =
 -- the same block has this name, and renaming the declaration to `new` changes the binding of no
 -- occurrence.
 abbrev pub IsFreeName : Tree Name module_text → ℕ → Name → Type 0
-IsFreeName m d new = (is_duplicate_name m d new ≡ false) × (bindings (renamed m d new) ≡ bindings m)
+IsFreeName m d new = (is_duplicate_name m d new ≡ false) × (labels_of_occurrences (renamed m d new) ≡ labels_of_occurrences m)
 
 -- returns whether two labels mean the same binding: both are the same ordinal, or both are the same spelling of an
 -- unbound name
@@ -94,4 +96,4 @@ abbrev pub first_name_conflict : Tree Name module_text → ℕ → Name → Opti
 first_name_conflict m d new =
     if is_duplicate_name m d new
     then Some at_declaration
-    else option_map at_occurrence (first_binding_difference (bindings (renamed m d new)) (bindings m))
+    else option_map at_occurrence (first_binding_difference (labels_of_occurrences (renamed m d new)) (labels_of_occurrences m))

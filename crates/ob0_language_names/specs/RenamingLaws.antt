@@ -1,5 +1,5 @@
--- Laws about renaming. Renaming to a free name makes no duplicate declaration. A new name has a
--- conflict exactly if it isn't free.
+-- Laws about renaming. A renaming to a free name keeps the names of a module consistent. A new name
+-- has a conflict exactly if it isn't free.
 -- Rule: none; states laws about renaming.
 use Rattle.std.specs.Prelude.{IsTrue, None, ℕ, ◌↔◌, ◌≡◌}
 use Rattle.ob0_tree.specs.Tree.{Tree, module_text}
@@ -8,8 +8,9 @@ use Rattle.ob0_language_names.specs.Occurrences.{IsFreeName, first_name_conflict
 use Rattle.ob0_language_names.specs.Scopes.{renamed}
 use Rattle.ob0_language_names.specs.ConsistentNames.{has_consistent_names}
 
--- States that renaming a declaration to a free name keeps `has_consistent_names` true. This means
--- that no name is declared twice in a block or record, and that the closing names are right.
+-- States that a module with consistent names still has consistent names after a declaration is
+-- renamed to a free name. Names are consistent if no block or record declares a name twice, and the
+-- closing names are right.
 abbrev pub RenamingToFreeNameKeepsConsistentNames : Type 0
 RenamingToFreeNameKeepsConsistentNames =
     (m : Tree Name module_text) (d : ℕ) (new : Name)

@@ -1,4 +1,5 @@
--- Scopes: the declaration that each name is bound to, and trees in which labels replace the names.
+-- Defines scopes, the declaration to which each name is bound, and trees in which labels replace
+-- the names.
 -- Rule: docs/LANGUAGE.md, Scopes 1 to 6.
 use Rattle.std.specs.Prelude.{ℕ, suc, Bool, true, false, List, [], ◌∷◌, map, if◌then◌else◌, ◌==◌, Some, None, Option}
 use Rattle.ob0_tree.specs.Tree.{Sort, Tree, block, constant, constants, declares, declares_constant, declares_const_section, declares_procedure, declares_type, declares_type_section, declares_variable, declares_var_section, end, formals, name_after_comma, section_after_semicolon, forms_block, forms_module, item, items, listed, maybe, module_text, more, names, no_formals, none, one, procedure, section, some_formals, comma_then_name, semicolon_then_section, type_definition, type_definitions, value_section, variable, variable_section, variables}
@@ -34,8 +35,7 @@ abbrev pub predeclared_scope : {N : Type 0} → Naming N → Scope N
 predeclared_scope naming =
     declare_names 0 (map naming.predeclared (0 ∷ 1 ∷ 2 ∷ 3 ∷ 4 ∷ 5 ∷ 6 ∷ [])) []
 
--- returns the ordinal of the next declaration after these names, if the names' ordinals count up
--- from `k`
+-- returns the ordinal of the first declaration after these names, whose ordinals count up from `k`
 abbrev pub ordinal_after_names : {N : Type 0} → ℕ → List N → ℕ
 ordinal_after_names k [] = k
 ordinal_after_names k (x ∷ xs) = ordinal_after_names (suc k) xs
@@ -73,9 +73,8 @@ Labelling N M = Option ℕ → N → M
 abbrev pub label_in_scope : {N M : Type 0} → Naming N → Labelling N M → Scope N → N → M
 label_in_scope naming label scope x = label (ordinal_in_scope naming scope x) x
 
--- Returns an expression, statements or a type as it is written, with labels instead of names. The
--- names in such a tree are looked up in `scope`. The names of fields aren't looked up: they get the
--- labels of unbound names.
+-- Returns an expression, statements or a written type, with labels instead of names. Its names are
+-- looked up in `scope`. The names of fields aren't looked up: they get the labels of unbound names.
 abbrev pub relabel_uses : {N M : Type 0} {s : Sort}
     → Naming N
     → Labelling N M
@@ -133,8 +132,8 @@ relabel_types naming label scope k (more (declares_type x t) ds) =
     more (declares_type (label (Some k) x) (relabel_uses naming label scope t))
     (relabel_types naming label ((x, k) ∷ scope) (suc k) ds)
 
--- returns declarations of variables with labels instead of names; the variables' ordinals count up from `k`, and each
--- variable is visible only after its own declaration
+-- returns declarations of variables with labels instead of names; the variables' ordinals count up
+-- from `k`, and the variables of a group are visible only after the group
 abbrev pub relabel_variables : {N M : Type 0}
     → Naming N
     → Labelling N M
@@ -161,7 +160,7 @@ relabel_parameter_section naming label scope k (value_section ns t) =
 relabel_parameter_section naming label scope k (variable_section ns t) =
     variable_section (relabel_names label k ns) (relabel_uses naming label scope t)
 
--- returns the sections of parameters after the first section, with labels instead of names; the parameters' ordinals
+-- returns a list of sections of parameters with labels instead of names; the parameters' ordinals
 -- count up from `k`, and each parameter is visible only after its own section
 abbrev pub relabel_parameter_section_list : {N M : Type 0}
     → Naming N
@@ -348,8 +347,9 @@ abbrev pub label_from_ordinal : {N : Type 0} → Naming N → Labelling N Label
 label_from_ordinal naming None x = as_written (naming.written x)
 label_from_ordinal naming (Some k) x = declared k
 
--- Returns the numbered tree of a module. Each name is replaced by the ordinal of its declaration, or kept as written if
--- the name is unbound. A declaration's ordinal is its number in text order, after the predeclared names 0 to 6.
+-- Returns the numbered tree of a module. Each name that is bound to a declaration is replaced by
+-- the declaration's ordinal. Any other name is kept as written. A declaration's ordinal is its
+-- number in text order, after the predeclared names 0 to 6.
 abbrev pub numbered : Tree Name module_text → Tree Label module_text
 numbered = relabel_module naming_by_spelling (label_from_ordinal naming_by_spelling)
 

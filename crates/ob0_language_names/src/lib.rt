@@ -1,3 +1,3 @@
-//! Definitions and laws of the scopes of a module (docs/LANGUAGE.md, Scopes). They are about the
-//! declaration to which each name is bound, and about renaming and inlining a declaration.
+//! Defines the scopes of a module (docs/LANGUAGE.md, Scopes): the declaration to which each name is
+//! bound. Defines and states laws about renaming a declaration and inlining a constant.
 #![tactic(auto)]

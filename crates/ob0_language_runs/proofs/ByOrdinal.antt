@@ -16,7 +16,7 @@ use Rattle.ob0_language_types.specs.WellTyped.{ParameterMode, by_place, by_value
 use Rattle.ob0_language_types.proofs.Agreeing.{Agree, HoldsOf, agree-map, agree-then, agree-value}
 use Rattle.ob0_language_types.proofs.Constructors.{formals_constructor_count-relabel, procedure_constructor_count-relabel, types_constructor_count-relabel, variables_constructor_count-relabel}
 use Rattle.ob0_language_types.proofs.TypeNaturality.{constant_expression_value-map, constructor_count-map, denoted_type-map}
-use Rattle.ob0_language_runs.specs.Runs.{RunEnvironment, Argument, CallFunction, ProcedureText, Frame, Parameter, Progress, State, execute_newest_procedure, add_variables_to_frame, bind_parameter, bind_parameters, call, declare_block_in_frame, declare_procedures, declare_variables, execute_sequence, execute_body, run_result, formal_parameter_modes, continue_in_frame, parameters, object_for_statements, place_argument, run_with_naming, meanings_for_statements, value_argument, declare_procedures_in_frame}
+use Rattle.ob0_language_runs.specs.Runs.{RunEnvironment, Argument, CallFunction, ProcedureText, Frame, Parameter, Progress, State, execute_newest_procedure, add_variables_to_frame, bind_parameter, bind_parameters, call_keeping_variables, declare_block_in_frame, declare_procedures, declare_variables, execute_sequence, execute_body, run_result, formal_parameter_modes, continue_in_frame, formal_parameters_in_sections, object_for_statements, place_argument, run_with_naming, meanings_for_statements, value_argument, declare_procedures_in_frame}
 use Rattle.ob0_language_runs.proofs.Noted.{Below, Below-from, Noted, OwnName, by_name, by_name-from, by_ordinal, by_ordinal-from, noted_from, numbered_code, numbered_object, scope_of}
 use Rattle.ob0_language_runs.proofs.RunNaturality.{execute_sequence-map}
 
@@ -308,9 +308,9 @@ pub parameter_names-append : {N : Type 0} (m : ParameterMode) (xs : List N) (ps 
 parameter_names-append m [] ps = refl
 parameter_names-append m (x ∷ xs) ps = λ i. x ∷ parameter_names-append m xs ps i
 
-pub formal_parameter_names-parameters : {N : Type 0} (fs : Tree N (items section_after_semicolon)) → parameter_names (parameters fs) ≡ formal_parameter_names fs
+pub formal_parameter_names-parameters : {N : Type 0} (fs : Tree N (items section_after_semicolon)) → parameter_names (formal_parameters_in_sections fs) ≡ formal_parameter_names fs
 formal_parameter_names-parameters end = refl
-formal_parameter_names-parameters (more (semicolon_then_section f) fs) = parameter_names-append (parameter_section_mode f) (parameter_section_names f) (parameters fs) ∙ ap (λ ys. parameter_section_names f ++ ys) (formal_parameter_names-parameters fs)
+formal_parameter_names-parameters (more (semicolon_then_section f) fs) = parameter_names-append (parameter_section_mode f) (parameter_section_names f) (formal_parameters_in_sections fs) ∙ ap (λ ys. parameter_section_names f ++ ys) (formal_parameter_names-parameters fs)
 
 pub label_parameters-append : {N M : Type 0} (label : Labelling N M) (m : ParameterMode) (k : ℕ) (xs : List N) (ps : List (Parameter N)) → map (with_mode m) (labels_of_declared_names label k xs) ++ label_parameters label (ordinal_after_names k xs) ps ≡ label_parameters label k (map (with_mode m) xs ++ ps)
 label_parameters-append label m k [] ps = refl
@@ -321,12 +321,12 @@ pub section-parameters : {N M : Type 0} (naming : Naming N) (label : Labelling N
 section-parameters naming label scope k (value_section ns t) = ap (map (with_mode by_value)) (names-relabel label k ns)
 section-parameters naming label scope k (variable_section ns t) = ap (map (with_mode by_place)) (names-relabel label k ns)
 
-pub relabel_formals-parameters : {N M : Type 0} (naming : Naming N) (label : Labelling N M) (scope : Scope N) (k : ℕ) (fs : Tree N (items section_after_semicolon)) → parameters (relabel_parameter_section_list naming label scope k fs) ≡ label_parameters label k (parameters fs)
+pub relabel_formals-parameters : {N M : Type 0} (naming : Naming N) (label : Labelling N M) (scope : Scope N) (k : ℕ) (fs : Tree N (items section_after_semicolon)) → formal_parameters_in_sections (relabel_parameter_section_list naming label scope k fs) ≡ label_parameters label k (formal_parameters_in_sections fs)
 relabel_formals-parameters naming label scope k end = refl
 relabel_formals-parameters naming label scope k (more (semicolon_then_section f) fs) =
-    ap (λ ys. ys ++ parameters (relabel_parameter_section_list naming label (declare_names k (parameter_section_names f) scope) (ordinal_after_names k (parameter_section_names f)) fs)) (section-parameters naming label scope k f)
+    ap (λ ys. ys ++ formal_parameters_in_sections (relabel_parameter_section_list naming label (declare_names k (parameter_section_names f) scope) (ordinal_after_names k (parameter_section_names f)) fs)) (section-parameters naming label scope k f)
     ∙ ap (λ ps. map (with_mode (parameter_section_mode f)) (labels_of_declared_names label k (parameter_section_names f)) ++ ps) (relabel_formals-parameters naming label (declare_names k (parameter_section_names f) scope) (ordinal_after_names k (parameter_section_names f)) fs)
-    ∙ label_parameters-append label (parameter_section_mode f) k (parameter_section_names f) (parameters fs)
+    ∙ label_parameters-append label (parameter_section_mode f) k (parameter_section_names f) (formal_parameters_in_sections fs)
 
 pub parameters_bound : {N : Type 0} (naming : Naming N) (k : ℕ) (f : NotedFrame N) → Below k f.noted → (ps : List (Parameter N)) (args : List Argument)
     → Agree frame_by_name (frame_by_ordinal naming) (FrameWithin (ordinal_after_names k (parameter_names ps)) (declare_names k (parameter_names ps) (scope_of f.noted)))
@@ -392,23 +392,23 @@ pub activation_declared : {N : Type 0} (naming : Naming N) (j k : ℕ) (f : Note
     → (fs : Tree N (maybe formals)) (b : Tree N block) (args : List Argument)
     → Agree frame_by_name (frame_by_ordinal naming)
     (FrameWithin (ordinal_after_block (ordinal_after_names (suc k) (formal_parameter_names (formal_parameter_sections fs))) b) (body_scope (ordinal_after_names (suc k) (formal_parameter_names (formal_parameter_sections fs))) b (declare_names (suc k) (formal_parameter_names (formal_parameter_sections fs)) ((x, k) ∷ outer))))
-    (option_and_then (declare_block_in_frame naming (j + formals_constructor_count (formal_parameter_sections fs)) b) (bind_parameters (parameters (formal_parameter_sections fs)) args (frame_by_name f)))
+    (option_and_then (declare_block_in_frame naming (j + formals_constructor_count (formal_parameter_sections fs)) b) (bind_parameters (formal_parameters_in_sections (formal_parameter_sections fs)) args (frame_by_name f)))
     (option_and_then (declare_block_in_frame naming_by_label (j + formals_constructor_count (formal_parameter_sections (relabel_formals naming (label_from_ordinal naming) outer (suc k) fs))) (relabel_block naming (label_from_ordinal naming) (declare_names (suc k) (formal_parameter_names (formal_parameter_sections fs)) ((x, k) ∷ outer)) (ordinal_after_names (suc k) (formal_parameter_names (formal_parameter_sections fs))) b))
-    (bind_parameters (parameters (formal_parameter_sections (relabel_formals naming (label_from_ordinal naming) outer (suc k) fs))) args (frame_by_ordinal naming f)))
+    (bind_parameters (formal_parameters_in_sections (formal_parameter_sections (relabel_formals naming (label_from_ordinal naming) outer (suc k) fs))) args (frame_by_ordinal naming f)))
 activation_declared {N} naming j k f below x outer e fs b args =
     let n : ℕ = ordinal_after_names (suc k) (formal_parameter_names (formal_parameter_sections fs)) in
     let scope : Scope N = declare_names (suc k) (formal_parameter_names (formal_parameter_sections fs)) ((x, k) ∷ outer) in
     let Goal : ℕ → List (Parameter Label) → Type 0 = λ m ps. Agree frame_by_name (frame_by_ordinal naming) (FrameWithin (ordinal_after_block n b) (body_scope n b scope))
-    (option_and_then (declare_block_in_frame naming (j + formals_constructor_count (formal_parameter_sections fs)) b) (bind_parameters (parameters (formal_parameter_sections fs)) args (frame_by_name f)))
+    (option_and_then (declare_block_in_frame naming (j + formals_constructor_count (formal_parameter_sections fs)) b) (bind_parameters (formal_parameters_in_sections (formal_parameter_sections fs)) args (frame_by_name f)))
     (option_and_then (declare_block_in_frame naming_by_label (j + m) (relabel_block naming (label_from_ordinal naming) scope n b)) (bind_parameters ps args (frame_by_ordinal naming f))) in
     let labelled : formal_parameter_sections (relabel_formals naming (label_from_ordinal naming) outer (suc k) fs) ≡ relabel_parameter_section_list naming (label_from_ordinal naming) outer (suc k) (formal_parameter_sections fs) = formals-section naming (label_from_ordinal naming) outer (suc k) fs in
     subst₂ Goal (sym (ap formals_constructor_count labelled ∙ formals_constructor_count-relabel naming (label_from_ordinal naming) outer (suc k) (formal_parameter_sections fs)))
-    (sym (ap parameters labelled ∙ relabel_formals-parameters naming (label_from_ordinal naming) outer (suc k) (formal_parameter_sections fs)))
+    (sym (ap formal_parameters_in_sections labelled ∙ relabel_formals-parameters naming (label_from_ordinal naming) outer (suc k) (formal_parameter_sections fs)))
     (agree-then frame_by_name (frame_by_ordinal naming) (FrameWithin n scope) frame_by_name (frame_by_ordinal naming) (FrameWithin (ordinal_after_block n b) (body_scope n b scope))
     (declare_block_in_frame naming (j + formals_constructor_count (formal_parameter_sections fs)) b) (declare_block_in_frame naming_by_label (j + formals_constructor_count (formal_parameter_sections fs)) (relabel_block naming (label_from_ordinal naming) scope n b))
-    (bind_parameters (parameters (formal_parameter_sections fs)) args (frame_by_name f)) (bind_parameters (label_parameters (label_from_ordinal naming) (suc k) (parameters (formal_parameter_sections fs))) args (frame_by_ordinal naming f))
-    (subst₂ (λ xs inner. Agree frame_by_name (frame_by_ordinal naming) (FrameWithin (ordinal_after_names (suc k) xs) (declare_names (suc k) xs inner)) (bind_parameters (parameters (formal_parameter_sections fs)) args (frame_by_name f)) (bind_parameters (label_parameters (label_from_ordinal naming) (suc k) (parameters (formal_parameter_sections fs))) args (frame_by_ordinal naming f)))
-    (formal_parameter_names-parameters (formal_parameter_sections fs)) e (parameters_bound naming (suc k) f below (parameters (formal_parameter_sections fs)) args))
+    (bind_parameters (formal_parameters_in_sections (formal_parameter_sections fs)) args (frame_by_name f)) (bind_parameters (label_parameters (label_from_ordinal naming) (suc k) (formal_parameters_in_sections (formal_parameter_sections fs))) args (frame_by_ordinal naming f))
+    (subst₂ (λ xs inner. Agree frame_by_name (frame_by_ordinal naming) (FrameWithin (ordinal_after_names (suc k) xs) (declare_names (suc k) xs inner)) (bind_parameters (formal_parameters_in_sections (formal_parameter_sections fs)) args (frame_by_name f)) (bind_parameters (label_parameters (label_from_ordinal naming) (suc k) (formal_parameters_in_sections (formal_parameter_sections fs))) args (frame_by_ordinal naming f)))
+    (formal_parameter_names-parameters (formal_parameter_sections fs)) e (parameters_bound naming (suc k) f below (formal_parameters_in_sections (formal_parameter_sections fs)) args))
     (λ g within. subst (λ s. Agree frame_by_name (frame_by_ordinal naming) (FrameWithin (ordinal_after_block n b) (body_scope n b s)) (declare_block_in_frame naming (j + formals_constructor_count (formal_parameter_sections fs)) b (frame_by_name g)) (declare_block_in_frame naming_by_label (j + formals_constructor_count (formal_parameter_sections fs)) (relabel_block naming (label_from_ordinal naming) s n b) (frame_by_ordinal naming g)))
     within.0 (block_declared naming (j + formals_constructor_count (formal_parameter_sections fs)) n g within.1 b)))
 
@@ -437,13 +437,13 @@ execute_newest_procedure-agrees {N} naming there here known t n (b ∷ noted) be
     of_object (a_standard_procedure p) own = refl
 
 -- Calls do the same by name and by ordinal, by induction on the number of calls that may be open.
-pub calls-agree : {N : Type 0} (naming : Naming N) (c t : ℕ) → CallsAgree naming (call naming_by_label c t) (call naming c t)
-unfolding call
+pub calls-agree : {N : Type 0} (naming : Naming N) (c t : ℕ) → CallsAgree naming (call_keeping_variables naming_by_label c t) (call_keeping_variables naming c t)
+unfolding call_keeping_variables
 calls-agree naming zero t n noted below x = refl
 calls-agree naming (suc c) t n noted below x = λ i args s.
-    (ap (λ env. execute_newest_procedure naming_by_label (call naming_by_label c t) t env args s) (by_ordinal-from naming n noted x below)
-    ∙ (execute_newest_procedure-agrees naming (call naming_by_label c t) (call naming c t) (calls-agree naming c t) t n (noted_from naming noted x) (Below-from naming n noted x below) args s
-    ∙ sym (ap (λ env. execute_newest_procedure naming (call naming c t) t env args s) (by_name-from naming noted x)))) i
+    (ap (λ env. execute_newest_procedure naming_by_label (call_keeping_variables naming_by_label c t) t env args s) (by_ordinal-from naming n noted x below)
+    ∙ (execute_newest_procedure-agrees naming (call_keeping_variables naming_by_label c t) (call_keeping_variables naming c t) (calls-agree naming c t) t n (noted_from naming noted x) (Below-from naming n noted x below) args s
+    ∙ sym (ap (λ env. execute_newest_procedure naming (call_keeping_variables naming c t) t env args s) (by_name-from naming noted x)))) i
 
 -- the noted environment of the outermost block, which has the predeclared names
 abbrev pub noted_outermost : {N : Type 0} → Naming N → Noted N
@@ -462,4 +462,4 @@ unfolding run_with_naming
 run-relabel naming (forms_module x b closing) input c t =
     ap run_result (continue_in_frame-agrees naming (FrameWithin (ordinal_after_block 7 b) (body_scope 7 b (predeclared_scope naming))) record { store = []; input = input; output = [] } _ _ _ _
     (block_declared naming 0 7 record { noted = noted_outermost naming; store = [] } (outermost-below naming) b)
-    (λ f within. λ i s. block-agrees naming (call naming_by_label c t) (call naming c t) (calls-agree naming c t) t 7 (predeclared_scope naming) b f within i s))
+    (λ f within. λ i s. block-agrees naming (call_keeping_variables naming_by_label c t) (call_keeping_variables naming c t) (calls-agree naming c t) t 7 (predeclared_scope naming) b f within i s))

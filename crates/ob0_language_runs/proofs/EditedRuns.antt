@@ -24,7 +24,7 @@ use Rattle.ob0_language_types.proofs.Leaves.{AllStay, Here, Literal, denoted_typ
 use Rattle.ob0_language_types.proofs.Literals.{IsSeen, literal-has_value, some_inverse}
 use Rattle.ob0_language_types.proofs.Marks.{IsRight, Mark, Marks, OfProcedure, Sound, Sound-from, Stays, found, is_left, knowns, marks_from, not-left, object_as, object_of, read, read-from, read_edited, read_edited-from, scope_marked}
 use Rattle.ob0_language_runs.specs.EditLaws.{InliningKeepsTypingAndRuns, RemovingUnusedConstantKeepsTypingAndRuns}
-use Rattle.ob0_language_runs.specs.Runs.{RunEnvironment, Argument, CallFunction, ProcedureText, Frame, Parameter, Progress, State, execute_newest_procedure, add_variables_to_frame, bind_parameter, bind_parameters, call, declare_block_in_frame, declare_procedures, declare_variables, execute_sequence, execute_body, run_result, formal_parameter_modes, continue_in_frame, parameters, object_for_statements, place_argument, run, run_with_naming, meanings_for_statements, stopped, value_argument, declare_procedures_in_frame}
+use Rattle.ob0_language_runs.specs.Runs.{RunEnvironment, Argument, CallFunction, ProcedureText, Frame, Parameter, Progress, State, execute_newest_procedure, add_variables_to_frame, bind_parameter, bind_parameters, call_keeping_variables, declare_block_in_frame, declare_procedures, declare_variables, execute_sequence, execute_body, run_result, formal_parameter_modes, continue_in_frame, formal_parameters_in_sections, object_for_statements, place_argument, run, run_with_naming, meanings_for_statements, stopped, value_argument, declare_procedures_in_frame}
 use Rattle.ob0_language_runs.proofs.ByOrdinal.{formal_parameter_names-parameters, parameter_names}
 use Rattle.ob0_language_runs.proofs.InlinedStatements.{execute_sequence-written}
 use Rattle.ob0_language_runs.proofs.RunNaturality.{execute_sequence-map}
@@ -317,7 +317,7 @@ block-kept edit w lit i j k f s seven (forms_block (declares cs ts vs ps) statem
 
 -- Binding parameters to arguments does the same before and after the edit.
 
-pub parameters-leaf : (edit : Edit) (j : ℕ) (fs : Tree Name (items section_after_semicolon)) → parameters (leaf edit j fs) ≡ parameters fs
+pub parameters-leaf : (edit : Edit) (j : ℕ) (fs : Tree Name (items section_after_semicolon)) → formal_parameters_in_sections (leaf edit j fs) ≡ formal_parameters_in_sections fs
 parameters-leaf edit j end = refl
 parameters-leaf edit j (more (semicolon_then_section (value_section ns t)) fs) = λ i. map (λ x. record { mode = by_value; name = x }) (names_in_list ns) ++ parameters-leaf edit (j + length (occurrences t)) fs i
 parameters-leaf edit j (more (semicolon_then_section (variable_section ns t)) fs) = λ i. map (λ x. record { mode = by_place; name = x }) (names_in_list ns) ++ parameters-leaf edit (j + length (occurrences t)) fs i
@@ -392,8 +392,8 @@ pub activation-kept : (edit : Edit) (w : Value) → Literal edit w → (i j k : 
     → HasValueBetween edit w k (ordinal_after_procedure (suc k) (declares_procedure x fs b closing)) (constant_value_in_procedure (knowns f.marks) edit.constant (suc k) (declares_procedure x fs b closing)) → (args : List Argument)
     → Agree frame_before (frame_after edit)
     (RightFrame edit w (ordinal_after_block (ordinal_after_names (suc k) (formal_parameter_names (formal_parameter_sections fs))) b) (body_scope (ordinal_after_names (suc k) (formal_parameter_names (formal_parameter_sections fs))) b (declare_names (suc k) (formal_parameter_names (formal_parameter_sections fs)) (scope_marked f.marks))))
-    (option_and_then (declare_block_in_frame naming_by_spelling (i + formals_constructor_count (formal_parameter_sections fs)) b) (bind_parameters (parameters (formal_parameter_sections fs)) args (frame_before f)))
-    (option_and_then (declare_block_in_frame naming_by_spelling (i + formals_constructor_count (formal_parameter_sections (leaf edit j fs))) (edited_block edit (j + length (occurrences fs)) (ordinal_after_names (suc k) (formal_parameter_names (formal_parameter_sections fs))) b)) (bind_parameters (parameters (formal_parameter_sections (leaf edit j fs))) args (frame_after edit f)))
+    (option_and_then (declare_block_in_frame naming_by_spelling (i + formals_constructor_count (formal_parameter_sections fs)) b) (bind_parameters (formal_parameters_in_sections (formal_parameter_sections fs)) args (frame_before f)))
+    (option_and_then (declare_block_in_frame naming_by_spelling (i + formals_constructor_count (formal_parameter_sections (leaf edit j fs))) (edited_block edit (j + length (occurrences fs)) (ordinal_after_names (suc k) (formal_parameter_names (formal_parameter_sections fs))) b)) (bind_parameters (formal_parameters_in_sections (formal_parameter_sections (leaf edit j fs))) args (frame_after edit f)))
 activation-kept edit w lit i j k f s seven x closing fs b each has_value args =
     let xs : List Name = formal_parameter_names (formal_parameter_sections fs) in
     let n : ℕ = ordinal_after_names (suc k) xs in
@@ -402,17 +402,17 @@ activation-kept edit w lit i j k f s seven x closing fs b each has_value args =
     let Result : MarkedFrame → Type 0 = RightFrame edit w (ordinal_after_block n b) (body_scope n b scope) in
     let Middle : MarkedFrame → Type 0 = LeftFrame edit w n scope (Some (bind_names xs non_constant_placeholder (knowns f.marks))) in
     let above : suc k ≤ n = le-ordinal_after_names (suc k) xs in
-    let named : parameter_names (parameters (formal_parameter_sections fs)) ≡ xs = formal_parameter_names-parameters (formal_parameter_sections fs) in
-    let outside : Outside edit (suc k) (ordinal_after_names (suc k) (parameter_names (parameters (formal_parameter_sections fs)))) = λ l m.
+    let named : parameter_names (formal_parameters_in_sections (formal_parameter_sections fs)) ≡ xs = formal_parameter_names-parameters (formal_parameter_sections fs) in
+    let outside : Outside edit (suc k) (ordinal_after_names (suc k) (parameter_names (formal_parameters_in_sections (formal_parameter_sections fs)))) = λ l m.
     bind_procedure-outside edit w (knowns f.marks) k x closing fs b has_value (omega (arith, l)) (subst (λ ys. edit.constant < ordinal_after_names (suc k) ys) named m) in
-    subst₂ (λ m ps. Agree frame_before (frame_after edit) Result (option_and_then (declare_block_in_frame naming_by_spelling (i + formals_constructor_count (formal_parameter_sections fs)) b) (bind_parameters (parameters (formal_parameter_sections fs)) args (frame_before f)))
+    subst₂ (λ m ps. Agree frame_before (frame_after edit) Result (option_and_then (declare_block_in_frame naming_by_spelling (i + formals_constructor_count (formal_parameter_sections fs)) b) (bind_parameters (formal_parameters_in_sections (formal_parameter_sections fs)) args (frame_before f)))
     (option_and_then (declare_block_in_frame naming_by_spelling (i + m) (edited_block edit jb n b)) (bind_parameters ps args (frame_after edit f))))
-    (sym (ap formals_constructor_count (formals-of edit j fs) ∙ formals_constructor_count-leaf edit j (formal_parameter_sections fs))) (sym (ap parameters (formals-of edit j fs) ∙ parameters-leaf edit j (formal_parameter_sections fs)))
+    (sym (ap formals_constructor_count (formals-of edit j fs) ∙ formals_constructor_count-leaf edit j (formal_parameter_sections fs))) (sym (ap formal_parameters_in_sections (formals-of edit j fs) ∙ parameters-leaf edit j (formal_parameter_sections fs)))
     (agree-then frame_before (frame_after edit) Middle frame_before (frame_after edit) Result
     (declare_block_in_frame naming_by_spelling (i + formals_constructor_count (formal_parameter_sections fs)) b) (declare_block_in_frame naming_by_spelling (i + formals_constructor_count (formal_parameter_sections fs)) (edited_block edit jb n b))
-    (bind_parameters (parameters (formal_parameter_sections fs)) args (frame_before f)) (bind_parameters (parameters (formal_parameter_sections fs)) args (frame_after edit f))
-    (subst (λ ys. Agree frame_before (frame_after edit) (LeftFrame edit w (ordinal_after_names (suc k) ys) (declare_names (suc k) ys (scope_marked f.marks)) (Some (bind_names ys non_constant_placeholder (knowns f.marks)))) (bind_parameters (parameters (formal_parameter_sections fs)) args (frame_before f)) (bind_parameters (parameters (formal_parameter_sections fs)) args (frame_after edit f))) named
-    (parameters-kept edit w (suc k) f s (omega (arith, seven)) (parameters (formal_parameter_sections fs)) outside args))
+    (bind_parameters (formal_parameters_in_sections (formal_parameter_sections fs)) args (frame_before f)) (bind_parameters (formal_parameters_in_sections (formal_parameter_sections fs)) args (frame_after edit f))
+    (subst (λ ys. Agree frame_before (frame_after edit) (LeftFrame edit w (ordinal_after_names (suc k) ys) (declare_names (suc k) ys (scope_marked f.marks)) (Some (bind_names ys non_constant_placeholder (knowns f.marks)))) (bind_parameters (formal_parameters_in_sections (formal_parameter_sections fs)) args (frame_before f)) (bind_parameters (formal_parameters_in_sections (formal_parameter_sections fs)) args (frame_after edit f))) named
+    (parameters-kept edit w (suc k) f s (omega (arith, seven)) (formal_parameters_in_sections (formal_parameter_sections fs)) outside args))
     (λ g left. subst (λ inner. Agree frame_before (frame_after edit) (RightFrame edit w (ordinal_after_block n b) (body_scope n b inner)) (declare_block_in_frame naming_by_spelling (i + formals_constructor_count (formal_parameter_sections fs)) b (frame_before g)) (declare_block_in_frame naming_by_spelling (i + formals_constructor_count (formal_parameter_sections fs)) (edited_block edit jb n b) (frame_after edit g))) left.scoped
     (block-kept edit w lit (i + formals_constructor_count (formal_parameter_sections fs)) jb n g left.sound (omega (arith, seven, above)) b
     (subst (λ inner. EachBlock (Here edit w) jb inner n b) (sym left.scoped) each)
@@ -450,7 +450,7 @@ execute_newest_procedure-kept edit w lit there here known t n (b ∷ marks) soun
         let each : EachBlock (Here edit w) (j + length (occurrences fs)) scope m inner =
         subst (λ y. EachBlock (Here edit w) (j + length (occurrences fs)) (declare_names (suc k) (formal_parameter_names (formal_parameter_sections fs)) ((y, k) ∷ scope_marked marks)) m inner) text.named text.here.1 in
         let outside : Outside edit k (suc k) = own-outside edit w ((b.name, non_constant_placeholder) ∷ knowns marks) k (declares_procedure x fs inner closing) text.has_value in
-        ap (λ env. continue_in_frame s (option_and_then (declare_block_in_frame naming_by_spelling (i + formals_constructor_count (formal_parameter_sections (leaf edit j fs))) (edited_block edit (j + length (occurrences fs)) m inner)) (bind_parameters (parameters (formal_parameter_sections (leaf edit j fs))) args record { env = env; store = s.store }))
+        ap (λ env. continue_in_frame s (option_and_then (declare_block_in_frame naming_by_spelling (i + formals_constructor_count (formal_parameter_sections (leaf edit j fs))) (edited_block edit (j + length (occurrences fs)) m inner)) (bind_parameters (formal_parameters_in_sections (formal_parameter_sections (leaf edit j fs))) args record { env = env; store = s.store }))
         (λ f. execute_body naming_by_spelling f.env (there f.env) t (block_statements (edited_block edit (j + length (occurrences fs)) m inner))))
         (sym (ap (λ v. if v then read_edited edit (after edit) marks else (b.name, a_procedure record { constructors_before = i; text = edited_procedure edit j (suc k) (declares_procedure x fs inner closing) }) ∷ read_edited edit (after edit) marks) (not-constant edit k outside)))
         ∙ continue_in_frame-kept edit (RightFrame edit w (ordinal_after_block m inner) (body_scope m inner scope)) s _ _ _ _
@@ -466,13 +466,13 @@ execute_newest_procedure-kept edit w lit there here known t n (b ∷ marks) soun
     of_object (a_standard_procedure p) right text = refl
 
 -- Calls do the same after the edit, by induction on the number of calls that may be open.
-pub calls-kept : (edit : Edit) (w : Value) → Literal edit w → (c t : ℕ) → CallsKept edit w (call naming_by_spelling c t) (call naming_by_spelling c t)
-unfolding call
+pub calls-kept : (edit : Edit) (w : Value) → Literal edit w → (c t : ℕ) → CallsKept edit w (call_keeping_variables naming_by_spelling c t) (call_keeping_variables naming_by_spelling c t)
+unfolding call_keeping_variables
 calls-kept edit w lit zero t n marks sound x stays = refl
 calls-kept edit w lit (suc c) t n marks sound x stays = λ i args s.
-    (ap (λ env. execute_newest_procedure naming_by_spelling (call naming_by_spelling c t) t env args s) (read_edited-from edit (after edit) marks x stays)
-    ∙ (execute_newest_procedure-kept edit w lit (call naming_by_spelling c t) (call naming_by_spelling c t) (calls-kept edit w lit c t) t n (marks_from marks x) (Sound-from edit w (IsText edit w) n marks x sound) (head-stays edit marks x stays) args s
-    ∙ sym (ap (λ env. execute_newest_procedure naming_by_spelling (call naming_by_spelling c t) t env args s) (read-from before marks x)))) i
+    (ap (λ env. execute_newest_procedure naming_by_spelling (call_keeping_variables naming_by_spelling c t) t env args s) (read_edited-from edit (after edit) marks x stays)
+    ∙ (execute_newest_procedure-kept edit w lit (call_keeping_variables naming_by_spelling c t) (call_keeping_variables naming_by_spelling c t) (calls-kept edit w lit c t) t n (marks_from marks x) (Sound-from edit w (IsText edit w) n marks x sound) (head-stays edit marks x stays) args s
+    ∙ sym (ap (λ env. execute_newest_procedure naming_by_spelling (call_keeping_variables naming_by_spelling c t) t env args s) (read-from before marks x)))) i
 
 -- An edited module has the same run as the original module.
 pub run-edited : (edit : Edit) (w : Value) (m : Tree Name module_text) → IsFitted edit w m → (input : List ℤ) (c t : ℕ) → run_with_naming naming_by_spelling (edited edit m) input c t ≡ run_with_naming naming_by_spelling m input c t
@@ -481,11 +481,11 @@ run-edited edit w (forms_module x b closing) h input c t =
     let sound : Run_sound edit w 7 marked_outermost = outermost-sound edit w (IsText edit w) h.literal.ordinal in
     let f : MarkedFrame = record { marks = marked_outermost; store = [] } in
     ap run_result
-    (ap (λ env. continue_in_frame record { store = []; input = input; output = [] } (declare_block_in_frame naming_by_spelling 0 (edited_block edit 0 7 b) record { env = env; store = [] }) (λ f. execute_body naming_by_spelling f.env (call naming_by_spelling c t f.env) t (block_statements (edited_block edit 0 7 b))))
+    (ap (λ env. continue_in_frame record { store = []; input = input; output = [] } (declare_block_in_frame naming_by_spelling 0 (edited_block edit 0 7 b) record { env = env; store = [] }) (λ f. execute_body naming_by_spelling f.env (call_keeping_variables naming_by_spelling c t f.env) t (block_statements (edited_block edit 0 7 b))))
     (sym (read_edited-below edit w (IsText edit w) (after edit) 7 marked_outermost sound h.literal.ordinal))
     ∙ continue_in_frame-kept edit (RightFrame edit w (ordinal_after_block 7 b) (body_scope 7 b (predeclared_scope naming_by_spelling))) record { store = []; input = input; output = [] } _ _ _ _
     (block-kept edit w h.literal 0 0 7 f sound (le_refl 7) b h.here (λ l m. h.has_value))
-    (λ g right. λ i s. block-runs edit w h.literal (call naming_by_spelling c t) (call naming_by_spelling c t) (calls-kept edit w h.literal c t) t 0 7 (predeclared_scope naming_by_spelling) b h.here g right i s))
+    (λ g right. λ i s. block-runs edit w h.literal (call_keeping_variables naming_by_spelling c t) (call_keeping_variables naming_by_spelling c t) (calls-kept edit w h.literal c t) t 0 7 (predeclared_scope naming_by_spelling) b h.here g right i s))
 
 pub inlining_keeps_typing_and_runs-holds : InliningKeepsTypingAndRuns
 unfolding run

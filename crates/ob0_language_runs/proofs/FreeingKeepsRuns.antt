@@ -16,7 +16,7 @@ use Rattle.ob0_language_types.proofs.TypeNaturality.{constant_expression_value-m
 use Rattle.ob0_language_values.specs.Values.{Place, Value, initial_value}
 use Rattle.ob0_language_runs.specs.FreedVariables.{call_freeing_variables, keep_first_variables, run_freeing_variables}
 use Rattle.ob0_language_runs.specs.Laws.{DroppingVariablesKeepsRuns}
-use Rattle.ob0_language_runs.specs.Runs.{RunEnvironment, Argument, CallFunction, ProcedureText, Frame, Parameter, Progress, State, execute_newest_procedure, add_variables_to_frame, bind_parameter, bind_parameters, call, declare_block_in_frame, declare_procedures, declare_variables, execute_body, run_result, formal_parameter_modes, continue_in_frame, parameters, object_for_statements, place_argument, run_with_naming, running, meanings_for_statements, stopped, value_argument, declare_procedures_in_frame}
+use Rattle.ob0_language_runs.specs.Runs.{RunEnvironment, Argument, CallFunction, ProcedureText, Frame, Parameter, Progress, State, execute_newest_procedure, add_variables_to_frame, bind_parameter, bind_parameters, call_keeping_variables, declare_block_in_frame, declare_procedures, declare_variables, execute_body, run_result, formal_parameter_modes, continue_in_frame, formal_parameters_in_sections, object_for_statements, place_argument, run_with_naming, running, meanings_for_statements, stopped, value_argument, declare_procedures_in_frame}
 use Rattle.ob0_language_runs.proofs.LargerStores.{Alike, ArgumentIs, ArgumentsAre, EntersAlike, MeaningIs, ObjectIs, PlaceIs, ProgressIs, StateIs, StoreIs, execute_sequence-alike, variable-added, variable-last, variables-cut}
 use Rattle.ob0_language_runs.proofs.SoundStatements.{slice_get-grows}
 
@@ -261,7 +261,7 @@ module _ {N : Type 0} (naming : Naming N) where
       of_code code =
           let f : Frame N = record { env = (x, a_procedure code) ∷ rest; store = s.store } in
           let g : Frame N = record { env = (y, a_procedure code) ∷ other; store = u.store } in
-          let ps = parameters (procedure_formals code.text) in
+          let ps = formal_parameters_in_sections (procedure_formals code.text) in
           let k = constructor_count_before_procedure_block code.constructors_before code.text in
           continue_in_frame-alike enter enter' known t at s u (option_and_then (declare_block_in_frame naming k (procedure_block code.text)) (bind_parameters ps args f)) (option_and_then (declare_block_in_frame naming k (procedure_block code.text)) (bind_parameters ps others g)) (block_statements (procedure_block code.text)) h
           (option-then (FrameGrown at) (FrameGrown at) (bind_parameters ps args f) (bind_parameters ps others g) (declare_block_in_frame naming k (procedure_block code.text)) (declare_block_in_frame naming k (procedure_block code.text))
@@ -284,12 +284,12 @@ module _ {N : Type 0} (naming : Naming N) where
   keep_first_variables-is at others s u _ _ h is = absurd is
 
   -- Calls do the same whether or not they free their variables, by induction on the number of calls that may be open.
-  calls-alike : (c t : ℕ) → CallsAlike (call_freeing_variables naming c t) (call naming c t)
-  unfolding call call_freeing_variables
+  calls-alike : (c t : ℕ) → CallsAlike (call_freeing_variables naming c t) (call_keeping_variables naming c t)
+  unfolding call_keeping_variables call_freeing_variables
   calls-alike zero t at env other h x args others s u are is = (refl, is.same_output)
   calls-alike (suc c) t at env other h x args others s u are is =
-      let (new, same) = execute_newest_procedure-alike (call_freeing_variables naming c t) (call naming c t) (calls-alike c t) t at (suffix_from_newest_binding naming env x) (suffix_from_newest_binding naming other x) args others s u (suffix_from_newest_binding-is naming at env other x h) are is in
-      keep_first_variables-is at new s u (execute_newest_procedure naming (call_freeing_variables naming c t) t (suffix_from_newest_binding naming env x) args s) (execute_newest_procedure naming (call naming c t) t (suffix_from_newest_binding naming other x) others u) is same
+      let (new, same) = execute_newest_procedure-alike (call_freeing_variables naming c t) (call_keeping_variables naming c t) (calls-alike c t) t at (suffix_from_newest_binding naming env x) (suffix_from_newest_binding naming other x) args others s u (suffix_from_newest_binding-is naming at env other x h) are is in
+      keep_first_variables-is at new s u (execute_newest_procedure naming (call_freeing_variables naming c t) t (suffix_from_newest_binding naming env x) args s) (execute_newest_procedure naming (call_keeping_variables naming c t) t (suffix_from_newest_binding naming other x) others u) is same
 
   run_result-same : (at : List ℕ) (p q : Progress) → ProgressIs at p q → run_result p ≡ run_result q
   run_result-same at (running s) (running u) h = ap (λ out. record { output = out; ending = (run_result (running s)).ending }) h.same_output
@@ -302,9 +302,9 @@ module _ {N : Type 0} (naming : Naming N) where
       let start : State = record { store = []; input = input; output = [] } in
       let f : Frame N = record { env = outermost_environment naming; store = [] } in
       let o = declare_block_in_frame naming 0 (module_block m) f in
-      let (new, same) = continue_in_frame-alike (call_freeing_variables naming c t) (call naming c t) (calls-alike c t) t [] start start o o (block_statements (module_block m)) record { same_variables = tt; same_input = refl; same_output = refl }
+      let (new, same) = continue_in_frame-alike (call_freeing_variables naming c t) (call_keeping_variables naming c t) (calls-alike c t) t [] start start o o (block_statements (module_block m)) record { same_variables = tt; same_input = refl; same_output = refl }
       (block-is [] 0 (module_block m) f f record { same_variables = tt; same_bindings = (refl, refl, (refl, refl, (refl, refl, (refl, refl, (refl, refl, (refl, refl, (refl, refl, tt))))))) }) in
-      run_result-same new (continue_in_frame start o (λ f. execute_body naming f.env (call_freeing_variables naming c t f.env) t (block_statements (module_block m)))) (continue_in_frame start o (λ f. execute_body naming f.env (call naming c t f.env) t (block_statements (module_block m)))) same
+      run_result-same new (continue_in_frame start o (λ f. execute_body naming f.env (call_freeing_variables naming c t f.env) t (block_statements (module_block m)))) (continue_in_frame start o (λ f. execute_body naming f.env (call_keeping_variables naming c t f.env) t (block_statements (module_block m)))) same
 
 pub dropping_variables_keeps_runs-holds : DroppingVariablesKeepsRuns
 dropping_variables_keeps_runs-holds = (λ naming. freeing-keeps naming, λ naming. freeing-keeps naming)

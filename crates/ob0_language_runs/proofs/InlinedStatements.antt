@@ -5,14 +5,14 @@ use Rattle.ob0_language_names.specs.Inlining.{OccurrenceSet, inline_in_tree}
 use Rattle.ob0_language_names.specs.Names.{Name}
 use Rattle.ob0_language_values.specs.Values.{Outcome, Place, Store, Stuck, Value, value_at_path, ends_run_with, succeeds_with, result_or_stuck, read_place, ◌>>=◌}
 use Rattle.ob0_language_types.specs.Arguments.{call_arguments, further_arguments}
-use Rattle.ob0_language_types.specs.Expressions.{Meanings, Object, a_constant, a_variable, designated_place, evaluate, evaluate_factor, evaluate_selectors, object_place, object_value}
+use Rattle.ob0_language_types.specs.Expressions.{Meanings, Object, a_constant, a_variable, designated_place, evaluate_expression, evaluate_factor, evaluate_selectors, object_place, object_value}
 use Rattle.ob0_language_types.specs.Laws.{EachUseSatisfies}
 use Rattle.ob0_language_types.specs.Typing.{lone_designator}
 use Rattle.ob0_language_types.specs.WellTyped.{ParameterMode, by_place, by_value}
 use Rattle.ob0_language_types.proofs.FitInlined.{alone, compared-no_designator, product-no_designator, sum-no_designator}
 use Rattle.ob0_language_types.proofs.Inlined.{IsConstantOf, evaluate-inlined, follow-inlined, uses-split}
 use Rattle.ob0_language_runs.specs.Laws.{InliningKeepsExecution}
-use Rattle.ob0_language_runs.specs.Runs.{CallFunction, Progress, State, choose_by_truth_value, evaluate_argument, evaluate_arguments, execute, execute_sequence, execute_else, execute_elsifs, execute_further_statements, continue_if_running, argument_modes_of, perform_call, place_argument, store_value_at_place, execute_while, execute_repeat, continue_with_result, value_argument}
+use Rattle.ob0_language_runs.specs.Runs.{CallFunction, Progress, State, choose_by_truth_value, evaluate_argument, evaluate_arguments, execute_statement, execute_sequence, execute_else, execute_elsifs, execute_further_statements, continue_if_running, argument_modes_of, perform_call, place_argument, store_value_at_place, execute_while, execute_repeat, continue_with_result, value_argument}
 
 -- holds if the factor evaluates to the value in every store
 pub record EvaluatesTo (meaning : Meanings Name Place (List ParameterMode)) (v : Tree Name factor) (w : Value) : Type 0 where
@@ -22,7 +22,7 @@ abbrev pub IsUse : Meanings Name Place (List ParameterMode) → Value → Occurr
 IsUse meaning w uses k xs = EachUseSatisfies uses (IsConstantOf meaning w) k xs
 
 pub evaluate-written : (meaning : Meanings Name Place (List ParameterMode)) (uses : OccurrenceSet) (v : Tree Name factor) (w : Value) → EvaluatesTo meaning v w → (store : Store) (k : ℕ) (e : Tree Name expression)
-    → IsUse meaning w uses k (occurrences e) → evaluate meaning store (inline_in_tree uses v k e) ≡ evaluate meaning store e
+    → IsUse meaning w uses k (occurrences e) → evaluate_expression meaning store (inline_in_tree uses v k e) ≡ evaluate_expression meaning store e
 evaluate-written meaning uses v w h store k e u = evaluate-inlined meaning store uses v w record { has_value = h.in_store store } k e u
 
 pub designated_place-written : (meaning : Meanings Name Place (List ParameterMode)) (uses : OccurrenceSet) (v : Tree Name factor) (w : Value) → EvaluatesTo meaning v w → (store : Store) (k : ℕ) (x : Name) (path : Tree Name (items selector))
@@ -45,7 +45,7 @@ has_value-no_place (Some (a_variable p)) next w e = absurd (cc)
 has_value-no_place _ next w e = refl
 
 pub written-no_place : (meaning : Meanings Name Place (List ParameterMode)) (v : Tree Name factor) (w : Value) → EvaluatesTo meaning v w → (store : Store) → place_at meaning store (lone_designator (alone v)) ≡ ends_run_with Stuck
-unfolding designated_place evaluate
+unfolding designated_place evaluate_expression
 written-no_place meaning (designator x path) w h store =
     ap (λ o. o >>= (λ p. result_or_stuck (read_place store p) >>= (λ z. evaluate_selectors meaning store z path >>= (λ steps. succeeds_with record { variable = p.variable; path = p.path ++ steps }))))
     (has_value-no_place (meaning.object_for x) (λ z. evaluate_selectors meaning [] z path >>= (λ steps. result_or_stuck (value_at_path steps z))) w (h.in_store []))
@@ -101,10 +101,10 @@ arguments-written meaning uses v w h store (m ∷ ms) k (one (some_arguments e e
 arguments-written meaning uses v w h store _ k _ u = refl
 
 mutual
-  unfolding execute
+  unfolding execute_statement
 
   pub execute-written : (meaning : Meanings Name Place (List ParameterMode)) (enter : CallFunction Name) (t : ℕ) (uses : OccurrenceSet) (v : Tree Name factor) (w : Value) → EvaluatesTo meaning v w → (k : ℕ) (a : Tree Name statement)
-      → IsUse meaning w uses k (occurrences a) → execute meaning enter t (inline_in_tree uses v k a) ≡ execute meaning enter t a
+      → IsUse meaning w uses k (occurrences a) → execute_statement meaning enter t (inline_in_tree uses v k a) ≡ execute_statement meaning enter t a
   execute-written meaning enter t uses v w h k empty u = refl
   execute-written meaning enter t uses v w h k (assigns x path e) u =
       let s = uses-split uses (IsConstantOf meaning w) (suc k) (occurrences path) (occurrences e) u.1 in

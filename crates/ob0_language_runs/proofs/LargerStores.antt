@@ -2,12 +2,12 @@
 use Rattle.std.proofs.Common.{◌≡◌, ℕ, zero, suc, ◌-◌, true, false, ◌≢◌, List, [], ◌∷◌, ◌++◌, length, take, ℤ, slice_get, slice_set, Some, None, Option, option_map, option_and_then, sym, refl, ap, ◌∙◌, subst}
 use Rattle.ob0_tree.specs.Tree.{Tree, addend, adds, assigns, branches, calls, compares, designator, else_branch, else_part, elsif_branch, elsif_part, empty, end, expression, factor, field, statement_after_semicolon, index, integer, items, maybe, more, multiplier, multiplies, negation, none, one, parenthesised, product, relates, repeat_loop, runs, selector, sequence, simple, statement, sum, term, semicolon_then_statement, while_loop}
 use Rattle.ob0_language_types.specs.Arguments.{call_arguments}
-use Rattle.ob0_language_types.specs.Expressions.{Meanings, Object, StandardProcedure, a_constant, a_procedure, a_standard_procedure, a_type, a_variable, designated_place, element_step, evaluate, evaluate_addends, evaluate_factor, evaluate_multipliers, evaluate_simple_expression, evaluate_term, evaluate_selectors, object_place, read_procedure, object_value, write_procedure, write_line_procedure}
+use Rattle.ob0_language_types.specs.Expressions.{Meanings, Object, StandardProcedure, a_constant, a_procedure, a_standard_procedure, a_type, a_variable, designated_place, element_step, evaluate_expression, evaluate_addends, evaluate_factor, evaluate_multipliers, evaluate_simple_expression, evaluate_term, evaluate_selectors, object_place, read_procedure, object_value, write_procedure, write_line_procedure}
 use Rattle.ob0_language_types.specs.Typing.{lone_designator}
 use Rattle.ob0_language_types.specs.WellTyped.{ParameterMode, by_place, by_value}
 use Rattle.ob0_language_types.proofs.Literals.{some_inverse}
-use Rattle.ob0_language_values.specs.Values.{Outcome, Place, Store, TurnBound, Value, add, add_operator_short_circuits, at_field, value_at_path, elements, ends_run_with, succeeds_with, members, multiply, multiply_operator_short_circuits, negate, number, result_or_stuck, value_at_step, read_place, apply_relation, apply_sign, truth, with_value_at_path, ◌>>=◌}
-use Rattle.ob0_language_runs.specs.Runs.{Argument, CallFunction, Progress, State, PrintedItem, choose_by_truth_value, evaluate_argument, evaluate_arguments, execute, execute_sequence, execute_else, execute_elsifs, execute_further_statements, continue_if_running, printed_line_end, argument_modes_of, printed_number, perform_call, place_argument, append_output, read_number, running, stopped, store_value_at_place, execute_while, execute_repeat, continue_with_result, value_argument}
+use Rattle.ob0_language_values.specs.Values.{Outcome, Place, Store, TurnBound, Value, apply_add_operator, add_operator_short_circuits, at_field, value_at_path, elements, ends_run_with, succeeds_with, members, apply_multiply_operator, multiply_operator_short_circuits, apply_not, number, result_or_stuck, value_at_step, read_place, apply_relation, apply_sign, truth, with_value_at_path, ◌>>=◌}
+use Rattle.ob0_language_runs.specs.Runs.{Argument, CallFunction, Progress, State, PrintedItem, choose_by_truth_value, evaluate_argument, evaluate_arguments, execute_statement, execute_sequence, execute_else, execute_elsifs, execute_further_statements, continue_if_running, printed_line_end, argument_modes_of, printed_number, perform_call, place_argument, append_output, read_number, running, stopped, store_value_at_place, execute_while, execute_repeat, continue_with_result, value_argument}
 use Rattle.ob0_language_runs.proofs.SoundStatements.{slice_get-grows}
 
 -- The last item of a list is at the index of its length before the item was appended.
@@ -160,9 +160,9 @@ place-is at _ _ is = absurd is
 
 module _ {N P : Type 0} (here there : Meanings N Place P) (small large : Store) (values : (x : N) → object_value small (here.object_for x) ≡ object_value large (there.object_for x)) (written : (x : N) → here.written x ≡ there.written x) where
   mutual
-    unfolding evaluate
+    unfolding evaluate_expression
 
-    pub evaluate-same : (e : Tree N expression) → evaluate here small e ≡ evaluate there large e
+    pub evaluate-same : (e : Tree N expression) → evaluate_expression here small e ≡ evaluate_expression there large e
     evaluate-same (compares a none) = evaluate_simple_expression-same a
     evaluate-same (compares a (one (relates r b))) = λ i.
         evaluate_simple_expression-same a i >>= (λ x. evaluate_simple_expression-same b i >>= (λ y. apply_relation r x y))
@@ -174,7 +174,7 @@ module _ {N P : Type 0} (here there : Meanings N Place P) (small large : Store) 
     pub evaluate_addends-same : (x : Value) (rest : Tree N (items addend)) → evaluate_addends here small x rest ≡ evaluate_addends there large x rest
     evaluate_addends-same x end = refl
     evaluate_addends-same x (more (adds o t) rest) = λ i.
-        (elim (add_operator_short_circuits o x) [ true ↦ succeeds_with x | false ↦ evaluate_term-same t i >>= add o x ])
+        (elim (add_operator_short_circuits o x) [ true ↦ succeeds_with x | false ↦ evaluate_term-same t i >>= apply_add_operator o x ])
         >>= (λ y. evaluate_addends-same y rest i)
 
     pub evaluate_term-same : (t : Tree N term) → evaluate_term here small t ≡ evaluate_term there large t
@@ -184,7 +184,7 @@ module _ {N P : Type 0} (here there : Meanings N Place P) (small large : Store) 
     pub evaluate_multipliers-same : (x : Value) (rest : Tree N (items multiplier)) → evaluate_multipliers here small x rest ≡ evaluate_multipliers there large x rest
     evaluate_multipliers-same x end = refl
     evaluate_multipliers-same x (more (multiplies o a) rest) = λ i.
-        (elim (multiply_operator_short_circuits o x) [ true ↦ succeeds_with x | false ↦ evaluate_factor-same a i >>= multiply o x ])
+        (elim (multiply_operator_short_circuits o x) [ true ↦ succeeds_with x | false ↦ evaluate_factor-same a i >>= apply_multiply_operator o x ])
         >>= (λ y. evaluate_multipliers-same y rest i)
 
     pub evaluate_factor-same : (a : Tree N factor) → evaluate_factor here small a ≡ evaluate_factor there large a
@@ -192,7 +192,7 @@ module _ {N P : Type 0} (here there : Meanings N Place P) (small large : Store) 
         values x i >>= (λ v. follow-same v path i >>= (λ steps. result_or_stuck (value_at_path steps v)))
     evaluate_factor-same (integer n) = refl
     evaluate_factor-same (parenthesised e) = evaluate-same e
-    evaluate_factor-same (negation a) = λ i. evaluate_factor-same a i >>= negate
+    evaluate_factor-same (negation a) = λ i. evaluate_factor-same a i >>= apply_not
 
     pub follow-same : (v : Value) (path : Tree N (items selector)) → evaluate_selectors here small v path ≡ evaluate_selectors there large v path
     follow-same v end = refl
@@ -206,7 +206,7 @@ pub record NamesAre {N P : Type 0} (at : List ℕ) (here there : Meanings N Plac
   pub mean_same : (x : N) → MeaningIs at (here.object_for x) (there.object_for x)
   pub are_written : (x : N) → here.written x ≡ there.written x
 
-pub evaluate-is : {N P : Type 0} (at : List ℕ) (here there : Meanings N Place P) (small large : Store) → NamesAre at here there → StoreIs at small large → (e : Tree N expression) → evaluate here small e ≡ evaluate there large e
+pub evaluate-is : {N P : Type 0} (at : List ℕ) (here there : Meanings N Place P) (small large : Store) → NamesAre at here there → StoreIs at small large → (e : Tree N expression) → evaluate_expression here small e ≡ evaluate_expression there large e
 evaluate-is at here there small large names h e =
     evaluate-same here there small large (λ x. value-same at small large (here.object_for x) (there.object_for x) h (names.mean_same x)) names.are_written e
 
@@ -239,7 +239,7 @@ ArgumentsAre at _ _ = ⊥
 argument-is : {N P : Type 0} (at : List ℕ) (here there : Meanings N Place P) (small large : Store) → NamesAre at here there → StoreIs at small large → (m : ParameterMode) (e : Tree N expression) → OutcomeIs (ArgumentIs at) (evaluate_argument here small m e) (evaluate_argument there large m e)
 unfolding evaluate_argument
 argument-is at here there small large names h by_value e =
-    same-then (ArgumentIs at) (evaluate here small e) (evaluate there large e) (λ v. succeeds_with (value_argument v)) (λ v. succeeds_with (value_argument v)) (evaluate-is at here there small large names h e) (λ v. refl)
+    same-then (ArgumentIs at) (evaluate_expression here small e) (evaluate_expression there large e) (λ v. succeeds_with (value_argument v)) (λ v. succeeds_with (value_argument v)) (evaluate-is at here there small large names h e) (λ v. refl)
 argument-is at here there small large names h by_place e =
     same-then (ArgumentIs at) (result_or_stuck (lone_designator e)) (result_or_stuck (lone_designator e)) (λ d. designated_place here small d.0 d.1 >>= (λ p. succeeds_with (place_argument p))) (λ d. designated_place there large d.0 d.1 >>= (λ p. succeeds_with (place_argument p))) refl
     (λ d. outcome-then (PlaceIs at) (ArgumentIs at) (designated_place here small d.0 d.1) (designated_place there large d.0 d.1) (λ p. succeeds_with (place_argument p)) (λ p. succeeds_with (place_argument p)) (designated_place-is at here there small large names h d.0 d.1) (λ p q is. is))
@@ -423,15 +423,15 @@ execute_repeat-alike at (suc t) test test' f g same alike s u h =
     (λ v. choose_by_truth_value-is at s u v running (execute_repeat t test f) running (execute_repeat t test' g) h h (execute_repeat-alike at t test test' f g same alike s u h)))
 
 module _ {N : Type 0} (at : List ℕ) (here there : Meanings N Place (List ParameterMode)) (enter enter' : CallFunction N) (names : NamesAre at here there) (alike : (x : N) → EntersAlike at (enter x) (enter' x)) (t : ℕ) where
-  condition-same : (e : Tree N expression) (s u : State) → StateIs at s u → evaluate here s.store e ≡ evaluate there u.store e
+  condition-same : (e : Tree N expression) (s u : State) → StateIs at s u → evaluate_expression here s.store e ≡ evaluate_expression there u.store e
   condition-same e s u h = evaluate-is at here there s.store u.store names h.same_variables e
 
-  assigns-alike : (x : N) (path : Tree N (items selector)) (e : Tree N expression) → Alike at (execute here enter t (assigns x path e)) (execute there enter' t (assigns x path e))
-  unfolding execute
+  assigns-alike : (x : N) (path : Tree N (items selector)) (e : Tree N expression) → Alike at (execute_statement here enter t (assigns x path e)) (execute_statement there enter' t (assigns x path e))
+  unfolding execute_statement
   assigns-alike x path e s u h =
-      continue_with_result-is at (PlaceIs at) s u (designated_place here s.store x path) (designated_place there u.store x path) (λ p. continue_with_result s (evaluate here s.store e) (store_value_at_place s p)) (λ p. continue_with_result u (evaluate there u.store e) (store_value_at_place u p)) h.same_output
+      continue_with_result-is at (PlaceIs at) s u (designated_place here s.store x path) (designated_place there u.store x path) (λ p. continue_with_result s (evaluate_expression here s.store e) (store_value_at_place s p)) (λ p. continue_with_result u (evaluate_expression there u.store e) (store_value_at_place u p)) h.same_output
       (designated_place-is at here there s.store u.store names h.same_variables x path)
-      (λ p q is. use_same at s u (evaluate here s.store e) (evaluate there u.store e) (store_value_at_place s p) (store_value_at_place u q) h.same_output (condition-same e s u h) (λ v. store_value_at_place-is at s u p q v h is))
+      (λ p q is. use_same at s u (evaluate_expression here s.store e) (evaluate_expression there u.store e) (store_value_at_place s p) (store_value_at_place u q) h.same_output (condition-same e s u h) (λ v. store_value_at_place-is at s u p q v h is))
 
   calls-alike : (x : N) (es : List (Tree N expression)) → Alike at (λ s. continue_with_result s (argument_modes_of (here.object_for x) >>= (λ modes. evaluate_arguments here s.store modes es)) (λ args. perform_call (here.object_for x) (enter x) args s))
       (λ s. continue_with_result s (argument_modes_of (there.object_for x) >>= (λ modes. evaluate_arguments there s.store modes es)) (λ args. perform_call (there.object_for x) (enter' x) args s))
@@ -443,33 +443,33 @@ module _ {N : Type 0} (at : List ℕ) (here there : Meanings N Place (List Param
       (λ args others are. perform_call-alike at (here.object_for x) (there.object_for x) (enter x) (enter' x) (names.mean_same x) (alike x) args others s u are h)
 
   mutual
-    unfolding execute
+    unfolding execute_statement
 
-    pub execute-alike : (a : Tree N statement) → Alike at (execute here enter t a) (execute there enter' t a)
+    pub execute-alike : (a : Tree N statement) → Alike at (execute_statement here enter t a) (execute_statement there enter' t a)
     execute-alike empty s u h = h
     execute-alike (assigns x path e) s u h = assigns-alike x path e s u h
     execute-alike (calls x es) s u h = calls-alike x (call_arguments es) s u h
     execute-alike (branches e statements rest last) s u h =
-        use_same at s u (evaluate here s.store e) (evaluate there u.store e) (λ v. choose_by_truth_value s v (execute_sequence here enter t statements) (execute_elsifs here enter t rest (execute_else here enter t last))) (λ v. choose_by_truth_value u v (execute_sequence there enter' t statements) (execute_elsifs there enter' t rest (execute_else there enter' t last)))
+        use_same at s u (evaluate_expression here s.store e) (evaluate_expression there u.store e) (λ v. choose_by_truth_value s v (execute_sequence here enter t statements) (execute_elsifs here enter t rest (execute_else here enter t last))) (λ v. choose_by_truth_value u v (execute_sequence there enter' t statements) (execute_elsifs there enter' t rest (execute_else there enter' t last)))
         h.same_output (condition-same e s u h)
         (λ v. choose_by_truth_value-is at s u v (execute_sequence here enter t statements) (execute_elsifs here enter t rest (execute_else here enter t last)) (execute_sequence there enter' t statements) (execute_elsifs there enter' t rest (execute_else there enter' t last)) h
         (execute_sequence-alike statements s u h) (execute_elsifs-alike rest (execute_else here enter t last) (execute_else there enter' t last) (execute_else-alike last) s u h))
     execute-alike (while_loop e statements) s u h =
-        execute_while-alike at t (λ s'. evaluate here s'.store e) (λ s'. evaluate there s'.store e) (execute_sequence here enter t statements) (execute_sequence there enter' t statements) (condition-same e) (execute_sequence-alike statements) s u h
+        execute_while-alike at t (λ s'. evaluate_expression here s'.store e) (λ s'. evaluate_expression there s'.store e) (execute_sequence here enter t statements) (execute_sequence there enter' t statements) (condition-same e) (execute_sequence-alike statements) s u h
     execute-alike (repeat_loop statements e) s u h =
-        execute_repeat-alike at (t - 1) (λ s'. evaluate here s'.store e) (λ s'. evaluate there s'.store e) (execute_sequence here enter t statements) (execute_sequence there enter' t statements) (condition-same e) (execute_sequence-alike statements) s u h
+        execute_repeat-alike at (t - 1) (λ s'. evaluate_expression here s'.store e) (λ s'. evaluate_expression there s'.store e) (execute_sequence here enter t statements) (execute_sequence there enter' t statements) (condition-same e) (execute_sequence-alike statements) s u h
 
     pub execute_sequence-alike : (a : Tree N sequence) → Alike at (execute_sequence here enter t a) (execute_sequence there enter' t a)
-    execute_sequence-alike (runs a rest) s u h = go_on-is at (execute here enter t a s) (execute there enter' t a u) (execute_further_statements here enter t rest) (execute_further_statements there enter' t rest) (execute-alike a s u h) (execute_further_statements-alike rest)
+    execute_sequence-alike (runs a rest) s u h = go_on-is at (execute_statement here enter t a s) (execute_statement there enter' t a u) (execute_further_statements here enter t rest) (execute_further_statements there enter' t rest) (execute-alike a s u h) (execute_further_statements-alike rest)
 
     pub execute_further_statements-alike : (a : Tree N (items statement_after_semicolon)) → Alike at (execute_further_statements here enter t a) (execute_further_statements there enter' t a)
     execute_further_statements-alike end s u h = h
-    execute_further_statements-alike (more (semicolon_then_statement a) rest) s u h = go_on-is at (execute here enter t a s) (execute there enter' t a u) (execute_further_statements here enter t rest) (execute_further_statements there enter' t rest) (execute-alike a s u h) (execute_further_statements-alike rest)
+    execute_further_statements-alike (more (semicolon_then_statement a) rest) s u h = go_on-is at (execute_statement here enter t a s) (execute_statement there enter' t a u) (execute_further_statements here enter t rest) (execute_further_statements there enter' t rest) (execute-alike a s u h) (execute_further_statements-alike rest)
 
     pub execute_elsifs-alike : (a : Tree N (items elsif_part)) (f g : State → Progress) → Alike at f g → Alike at (execute_elsifs here enter t a f) (execute_elsifs there enter' t a g)
     execute_elsifs-alike end f g is s u h = is s u h
     execute_elsifs-alike (more (elsif_branch e statements) rest) f g is s u h =
-        use_same at s u (evaluate here s.store e) (evaluate there u.store e) (λ v. choose_by_truth_value s v (execute_sequence here enter t statements) (execute_elsifs here enter t rest f)) (λ v. choose_by_truth_value u v (execute_sequence there enter' t statements) (execute_elsifs there enter' t rest g))
+        use_same at s u (evaluate_expression here s.store e) (evaluate_expression there u.store e) (λ v. choose_by_truth_value s v (execute_sequence here enter t statements) (execute_elsifs here enter t rest f)) (λ v. choose_by_truth_value u v (execute_sequence there enter' t statements) (execute_elsifs there enter' t rest g))
         h.same_output (condition-same e s u h)
         (λ v. choose_by_truth_value-is at s u v (execute_sequence here enter t statements) (execute_elsifs here enter t rest f) (execute_sequence there enter' t statements) (execute_elsifs there enter' t rest g) h
         (execute_sequence-alike statements s u h) (execute_elsifs-alike rest f g is s u h))

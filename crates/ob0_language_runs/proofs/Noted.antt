@@ -1,5 +1,5 @@
--- Environments whose bindings also have the ordinals of their declarations. Names can be looked up by name and by
--- ordinal, and a name and its ordinal find the same binding.
+-- Environments whose bindings also have the ordinals of their declarations. A binding can be looked
+-- up by its name or by its ordinal; both find the same one.
 use Rattle.std.proofs.Common.{◌≡◌, ℕ, ◌<◌, ◌≤◌, true, false, List, [], ◌∷◌, Some, refl, le_of_lt, arith}
 use Rattle.ob0_language_names.specs.Names.{Label, Naming, naming_by_label, declared, same_ordinal_label}
 use Rattle.ob0_language_names.specs.BlockParts.{procedure_name}

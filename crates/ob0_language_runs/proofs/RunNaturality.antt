@@ -8,7 +8,7 @@ use Rattle.ob0_language_types.specs.Typing.{lone_designator}
 use Rattle.ob0_language_values.specs.Values.{Place, Store, succeeds_with, result_or_stuck, ◌>>=◌}
 use Rattle.ob0_language_types.specs.WellTyped.{ParameterMode, by_place, by_value}
 use Rattle.ob0_language_types.proofs.Naturality.{arguments-map, designated_place-map, lone_designator-map, evaluate-map, map_designator, through}
-use Rattle.ob0_language_runs.specs.Runs.{CallFunction, Progress, State, choose_by_truth_value, evaluate_argument, evaluate_arguments, execute, execute_sequence, execute_else, execute_elsifs, execute_further_statements, continue_if_running, argument_modes_of, perform_call, place_argument, store_value_at_place, execute_while, execute_repeat, continue_with_result, value_argument}
+use Rattle.ob0_language_runs.specs.Runs.{CallFunction, Progress, State, choose_by_truth_value, evaluate_argument, evaluate_arguments, execute_statement, execute_sequence, execute_else, execute_elsifs, execute_further_statements, continue_if_running, argument_modes_of, perform_call, place_argument, store_value_at_place, execute_while, execute_repeat, continue_with_result, value_argument}
 
 pub evaluate_argument-map : {N M P : Type 0} (f h : N → M) (meaning : Meanings M Place P) (store : Store) (m : ParameterMode) (e : Tree N expression) → evaluate_argument meaning store m (map_names f h e) ≡ evaluate_argument (through f h meaning) store m e
 unfolding evaluate_argument
@@ -29,9 +29,9 @@ evaluate_arguments-map f h meaning store (m ∷ ms) (e ∷ es) = λ i.
 evaluate_arguments-map f h meaning store _ _ = refl
 
 mutual
-  unfolding execute
+  unfolding execute_statement
 
-  pub execute-map : {N M : Type 0} (f h : N → M) (meaning : Meanings M Place (List ParameterMode)) (enter : CallFunction M) (t : ℕ) (a : Tree N statement) → execute meaning enter t (map_names f h a) ≡ execute (through f h meaning) (λ x. enter (f x)) t a
+  pub execute-map : {N M : Type 0} (f h : N → M) (meaning : Meanings M Place (List ParameterMode)) (enter : CallFunction M) (t : ℕ) (a : Tree N statement) → execute_statement meaning enter t (map_names f h a) ≡ execute_statement (through f h meaning) (λ x. enter (f x)) t a
   execute-map f h meaning enter t empty = refl
   execute-map f h meaning enter t (assigns x path e) = λ i s.
       continue_with_result s (designated_place-map f h meaning s.store x path i) (λ p. continue_with_result s (evaluate-map f h meaning s.store e i) (store_value_at_place s p))

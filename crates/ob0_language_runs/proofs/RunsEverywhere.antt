@@ -1,4 +1,5 @@
--- A module has the same runs after a constant is inlined everywhere.
+-- A well-typed module remains well-typed and has the same runs after a constant is inlined
+-- everywhere.
 use Rattle.std.proofs.Common.{ap, sym, ◌∙◌}
 use Rattle.ob0_language_names.specs.Inlining.{occurrences_bound_to_ordinal}
 use Rattle.ob0_language_names.specs.Names.{naming_by_spelling}

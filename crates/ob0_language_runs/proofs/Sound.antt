@@ -1,4 +1,5 @@
--- An expression of some type evaluates to a value of that type, or ends the run, but never stuck.
+-- An expression of some type evaluates to a value of that type, or ends the run, but never with
+-- Stuck.
 use Rattle.std.proofs.Common.{◌≡◌, ℕ, zero, suc, ◌<◌, Bool, true, false, T, List, [], ◌∷◌, ℤ, pos, negsuc, ◌+ℤ◌, ◌-ℤ◌, ◌*ℤ◌, neg_ℤ, if◌then◌else◌, nat_lt, slice_get, Some, None, Option, option_and_then, sym, refl, ap, ◌∙◌, subst, subst₂, arith, ltb→lt}
 use Rattle.ob0_tree.specs.declared.tree.Relation.{Relation}
 use Rattle.ob0_tree.specs.declared.tree.Relation.TheVariants as relation
@@ -10,9 +11,9 @@ use Rattle.ob0_tree.specs.declared.tree.MultiplyOperator.{MultiplyOperator}
 use Rattle.ob0_tree.specs.declared.tree.MultiplyOperator.TheVariants as multiply_operator
 use Rattle.ob0_tree.specs.Tree.{Tree, addend, adds, compares, designator, end, expression, factor, field, index, integer, items, more, multiplier, multiplies, negation, none, one, parenthesised, product, relates, selector, simple, sum, term}
 use Rattle.ob0_language_names.specs.Names.{Name, same_name}
-use Rattle.ob0_language_types.specs.Expressions.{Meanings, Object, a_constant, a_procedure, a_standard_procedure, a_type, a_variable, element_step, evaluate, evaluate_addends, evaluate_factor, evaluate_multipliers, evaluate_simple_expression, evaluate_term, evaluate_selectors, object_value}
+use Rattle.ob0_language_types.specs.Expressions.{Meanings, Object, a_constant, a_procedure, a_standard_procedure, a_type, a_variable, element_step, evaluate_expression, evaluate_addends, evaluate_factor, evaluate_multipliers, evaluate_simple_expression, evaluate_term, evaluate_selectors, object_value}
 use Rattle.ob0_language_types.specs.Typing.{addition_type, negation_type, element_type, field_type, multiplication_type, type_of_variable_or_constant, relation_type, named_field_shape, signed_operand_type, type_after_selectors, type_of_expression, type_after_addends, type_of_factor, type_after_multipliers, type_of_simple_expression, type_of_term, value_type}
-use Rattle.ob0_language_values.specs.Values.{FieldShapes, Index, Members, Outcome, Overflow, Place, Shape, PathStep, Store, Value, Values, add, add_operator_short_circuits, array_shape, at_field, at_index, value_at_path, boolean_shape, count_values, checked_division, division_outcome, elements, ends_run_with, fits_in_32_bits, succeeds_with, checked_number, integer_shape, members, multiply, multiply_operator_short_circuits, named_member, negate, next_field_shape, next_member, next_value, no_field_shape, no_member, no_value, nth_value, number, result_or_stuck, value_at_step, quotient, read_place, record_shape, apply_relation, remainder, apply_sign, truth, ◌>>=◌}
+use Rattle.ob0_language_values.specs.Values.{FieldShapes, Index, Members, Outcome, Overflow, Place, Shape, PathStep, Store, Value, Values, apply_add_operator, add_operator_short_circuits, array_shape, at_field, at_index, value_at_path, boolean_shape, value_count, checked_division, division_outcome, elements, ends_run_with, fits_in_32_bits, succeeds_with, checked_number, integer_shape, members, apply_multiply_operator, multiply_operator_short_circuits, named_member, apply_not, next_field_shape, next_member, next_value, no_field_shape, no_member, no_value, nth_value, number, result_or_stuck, value_at_step, quotient, read_place, record_shape, apply_relation, remainder, apply_sign, truth, ◌>>=◌}
 use Rattle.ob0_language_types.specs.WellTyped.{ParameterMode, Signature, TypeMeanings}
 use Rattle.ob0_language_types.proofs.Conditions.{of_some}
 use Rattle.ob0_language_types.proofs.TypedElsewhere.{then_some}
@@ -46,21 +47,21 @@ on_truths op s each v w hv hw =
     let (b, ew) = is_truth w hw in
     subst₂ (λ a b. OutcomeFits (λ v. HasShape v s) (op a b)) (sym ev) (sym ew) (each a b)
 
-pub add-fits : (o : AddOperator) (x y z : Shape) (v w : Value) → addition_type o x y ≡ Some z → HasShape v x → HasShape w y → OutcomeFits (λ u. HasShape u z) (add o v w)
-add-fits add_operator.Add integer_shape integer_shape z v w e hv hw = of_some (λ z. OutcomeFits (λ u. HasShape u z) (add add_operator.Add v w)) e (on_numbers (add add_operator.Add) integer_shape (λ m n. checked_number-fits (m +ℤ n)) v w hv hw)
-add-fits add_operator.Subtract integer_shape integer_shape z v w e hv hw = of_some (λ z. OutcomeFits (λ u. HasShape u z) (add add_operator.Subtract v w)) e (on_numbers (add add_operator.Subtract) integer_shape (λ m n. checked_number-fits (m -ℤ n)) v w hv hw)
-add-fits add_operator.Or boolean_shape boolean_shape z v w e hv hw = of_some (λ z. OutcomeFits (λ u. HasShape u z) (add add_operator.Or v w)) e (on_truths (add add_operator.Or) boolean_shape (λ a b. tt) v w hv hw)
+pub add-fits : (o : AddOperator) (x y z : Shape) (v w : Value) → addition_type o x y ≡ Some z → HasShape v x → HasShape w y → OutcomeFits (λ u. HasShape u z) (apply_add_operator o v w)
+add-fits add_operator.Add integer_shape integer_shape z v w e hv hw = of_some (λ z. OutcomeFits (λ u. HasShape u z) (apply_add_operator add_operator.Add v w)) e (on_numbers (apply_add_operator add_operator.Add) integer_shape (λ m n. checked_number-fits (m +ℤ n)) v w hv hw)
+add-fits add_operator.Subtract integer_shape integer_shape z v w e hv hw = of_some (λ z. OutcomeFits (λ u. HasShape u z) (apply_add_operator add_operator.Subtract v w)) e (on_numbers (apply_add_operator add_operator.Subtract) integer_shape (λ m n. checked_number-fits (m -ℤ n)) v w hv hw)
+add-fits add_operator.Or boolean_shape boolean_shape z v w e hv hw = of_some (λ z. OutcomeFits (λ u. HasShape u z) (apply_add_operator add_operator.Or v w)) e (on_truths (apply_add_operator add_operator.Or) boolean_shape (λ a b. tt) v w hv hw)
 add-fits _ _ _ z v w e hv hw = absurd (cc)
 
 pub division_outcome-fits : (result : Option ℤ) → OutcomeFits (λ v. HasShape v integer_shape) (division_outcome result)
 division_outcome-fits None = λ e. cc
 division_outcome-fits (Some n) = checked_number-fits n
 
-pub multiply-fits : (o : MultiplyOperator) (x y z : Shape) (v w : Value) → multiplication_type o x y ≡ Some z → HasShape v x → HasShape w y → OutcomeFits (λ u. HasShape u z) (multiply o v w)
-multiply-fits multiply_operator.Multiply integer_shape integer_shape z v w e hv hw = of_some (λ z. OutcomeFits (λ u. HasShape u z) (multiply multiply_operator.Multiply v w)) e (on_numbers (multiply multiply_operator.Multiply) integer_shape (λ m n. checked_number-fits (m *ℤ n)) v w hv hw)
-multiply-fits multiply_operator.Divide integer_shape integer_shape z v w e hv hw = of_some (λ z. OutcomeFits (λ u. HasShape u z) (multiply multiply_operator.Divide v w)) e (on_numbers (multiply multiply_operator.Divide) integer_shape (λ m n. division_outcome-fits (checked_division quotient m n)) v w hv hw)
-multiply-fits multiply_operator.Modulo integer_shape integer_shape z v w e hv hw = of_some (λ z. OutcomeFits (λ u. HasShape u z) (multiply multiply_operator.Modulo v w)) e (on_numbers (multiply multiply_operator.Modulo) integer_shape (λ m n. division_outcome-fits (checked_division remainder m n)) v w hv hw)
-multiply-fits multiply_operator.And boolean_shape boolean_shape z v w e hv hw = of_some (λ z. OutcomeFits (λ u. HasShape u z) (multiply multiply_operator.And v w)) e (on_truths (multiply multiply_operator.And) boolean_shape (λ a b. tt) v w hv hw)
+pub multiply-fits : (o : MultiplyOperator) (x y z : Shape) (v w : Value) → multiplication_type o x y ≡ Some z → HasShape v x → HasShape w y → OutcomeFits (λ u. HasShape u z) (apply_multiply_operator o v w)
+multiply-fits multiply_operator.Multiply integer_shape integer_shape z v w e hv hw = of_some (λ z. OutcomeFits (λ u. HasShape u z) (apply_multiply_operator multiply_operator.Multiply v w)) e (on_numbers (apply_multiply_operator multiply_operator.Multiply) integer_shape (λ m n. checked_number-fits (m *ℤ n)) v w hv hw)
+multiply-fits multiply_operator.Divide integer_shape integer_shape z v w e hv hw = of_some (λ z. OutcomeFits (λ u. HasShape u z) (apply_multiply_operator multiply_operator.Divide v w)) e (on_numbers (apply_multiply_operator multiply_operator.Divide) integer_shape (λ m n. division_outcome-fits (checked_division quotient m n)) v w hv hw)
+multiply-fits multiply_operator.Modulo integer_shape integer_shape z v w e hv hw = of_some (λ z. OutcomeFits (λ u. HasShape u z) (apply_multiply_operator multiply_operator.Modulo v w)) e (on_numbers (apply_multiply_operator multiply_operator.Modulo) integer_shape (λ m n. division_outcome-fits (checked_division remainder m n)) v w hv hw)
+multiply-fits multiply_operator.And boolean_shape boolean_shape z v w e hv hw = of_some (λ z. OutcomeFits (λ u. HasShape u z) (apply_multiply_operator multiply_operator.And v w)) e (on_truths (apply_multiply_operator multiply_operator.And) boolean_shape (λ a b. tt) v w hv hw)
 multiply-fits _ _ _ z v w e hv hw = absurd (cc)
 
 pub apply_relation-fits : (r : Relation) (x y z : Shape) (v w : Value) → relation_type r x y ≡ Some z → HasShape v x → HasShape w y → OutcomeFits (λ u. HasShape u z) (apply_relation r v w)
@@ -75,8 +76,8 @@ apply_sign-fits (Some sign.Plus) integer_shape z v e hv = of_some (λ z. Outcome
 apply_sign-fits (Some sign.Minus) integer_shape z v e hv = of_some (λ z. OutcomeFits (λ u. HasShape u z) (apply_sign (Some sign.Minus) v)) e (let (n, ev) = is_number v hv in subst (λ v. OutcomeFits (λ u. HasShape u integer_shape) (apply_sign (Some sign.Minus) v)) (sym ev) (checked_number-fits (neg_ℤ n)))
 apply_sign-fits _ _ z v e hv = absurd (cc)
 
-pub negate-fits : (x z : Shape) (v : Value) → negation_type x ≡ Some z → HasShape v x → OutcomeFits (λ u. HasShape u z) (negate v)
-negate-fits boolean_shape z v e hv = of_some (λ z. OutcomeFits (λ u. HasShape u z) (negate v)) e (let (b, ev) = is_truth v hv in subst (λ v. OutcomeFits (λ u. HasShape u boolean_shape) (negate v)) (sym ev) tt)
+pub negate-fits : (x z : Shape) (v : Value) → negation_type x ≡ Some z → HasShape v x → OutcomeFits (λ u. HasShape u z) (apply_not v)
+negate-fits boolean_shape z v e hv = of_some (λ z. OutcomeFits (λ u. HasShape u z) (apply_not v)) e (let (b, ev) = is_truth v hv in subst (λ v. OutcomeFits (λ u. HasShape u boolean_shape) (apply_not v)) (sym ev) tt)
 negate-fits _ z v e hv = absurd (cc)
 
 -- If the left operand settles an operation, the operand has the type of the result.
@@ -102,7 +103,7 @@ settled-fits P false x o h k = k
 pub below_of : (m n : ℕ) → nat_lt m n ≡ true → m < n
 below_of m n e = ltb→lt m n (subst (λ b. T b) (sym e) tt)
 
-pub nth-fits : (vs : Values) (s : Shape) (i : ℕ) → i < count_values vs → EachElementHasShape vs s → (w : Value) × (nth_value vs i ≡ Some w) × HasShape w s
+pub nth-fits : (vs : Values) (s : Shape) (i : ℕ) → i < value_count vs → EachElementHasShape vs s → (w : Value) × (nth_value vs i ≡ Some w) × HasShape w s
 nth-fits no_value s i below h = absurd (omega (arith, below))
 nth-fits (next_value v rest) s zero below h = (v, refl, h.0)
 nth-fits (next_value v rest) s (suc i) below h = nth-fits rest s i (omega (arith, below)) h.1
@@ -118,7 +119,7 @@ member-fits _ _ x s e h = absurd h
 pub value_at_step-fits : (v : Value) (s : Shape) (step : PathStep) (t : Shape) → HasShape v s → shape_at_step s step ≡ Some t → (w : Value) × (value_at_step v step ≡ Some w) × HasShape w t
 value_at_step-fits (elements vs) (array_shape k n s) (at_index i) t h e =
     (elim (nat_lt i n) as (λ b. nat_lt i n ≡ b → (if b then Some s else None) ≡ Some t → (w : Value) × (nth_value vs i ≡ Some w) × HasShape w t) [
-      | true ↦ λ below e. of_some (λ t. (w : Value) × (nth_value vs i ≡ Some w) × HasShape w t) e (nth-fits vs s i (below_of i (count_values vs) (ap (λ m. nat_lt i m) h.0 ∙ below)) h.1)
+      | true ↦ λ below e. of_some (λ t. (w : Value) × (nth_value vs i ≡ Some w) × HasShape w t) e (nth-fits vs s i (below_of i (value_count vs) (ap (λ m. nat_lt i m) h.0 ∙ below)) h.1)
       | false ↦ λ below e. absurd (cc)
     ]) refl e
 value_at_step-fits (members j ms) (record_shape k fs) (at_field x) t h e = member-fits ms fs x t e h.1
@@ -176,10 +177,10 @@ is_elements (elements vs) k n s h = (vs, refl)
 is_elements _ k n s h = absurd h
 
 -- An index in range gives a step to an element.
-pub index-fits : (vs : Values) (k n : ℕ) (s t : Shape) (i : ℤ) → count_values vs ≡ n → Some s ≡ Some t → OutcomeFits (λ step. shape_at_step (array_shape k n s) step ≡ Some t) (element_step (elements vs) (number i))
+pub index-fits : (vs : Values) (k n : ℕ) (s t : Shape) (i : ℤ) → value_count vs ≡ n → Some s ≡ Some t → OutcomeFits (λ step. shape_at_step (array_shape k n s) step ≡ Some t) (element_step (elements vs) (number i))
 index-fits vs k n s t (negsuc i) c e = λ e. cc
 index-fits vs k n s t (pos i) c e =
-    (elim (nat_lt i (count_values vs)) as (λ b. nat_lt i (count_values vs) ≡ b → OutcomeFits (λ step. shape_at_step (array_shape k n s) step ≡ Some t) (if b then succeeds_with (at_index i) else ends_run_with Index))
+    (elim (nat_lt i (value_count vs)) as (λ b. nat_lt i (value_count vs) ≡ b → OutcomeFits (λ step. shape_at_step (array_shape k n s) step ≡ Some t) (if b then succeeds_with (at_index i) else ends_run_with Index))
     [ true ↦ λ below. ap (λ b. if b then Some s else None) (ap (λ m. nat_lt i m) (sym c) ∙ below) ∙ e | false ↦ λ below e. cc ]) refl
 
 pub element_step-fits : (v : Value) (s : Shape) (i : Value) (j t : Shape) → HasShape v s → HasShape i j → element_type s j ≡ Some t → OutcomeFits (λ step. shape_at_step s step ≡ Some t) (element_step v i)
@@ -200,10 +201,10 @@ pub record TypeAgreement {N : Type 0} (typing : StoreTyping) (checked : TypeMean
   pub names_fit : RunMeaningsAgreeWithCheckedMeanings typing checked active
 
 mutual
-  unfolding evaluate type_of_expression
+  unfolding evaluate_expression type_of_expression
 
   pub evaluate-sound : {N : Type 0} (typing : StoreTyping) (checked : TypeMeanings N) (active : Meanings N Place (List ParameterMode)) (store : Store) → TypeAgreement typing checked active store → (e : Tree N expression) (s : Shape)
-      → type_of_expression checked e ≡ Some s → OutcomeFits (λ v. HasShape v s) (evaluate active store e)
+      → type_of_expression checked e ≡ Some s → OutcomeFits (λ v. HasShape v s) (evaluate_expression active store e)
   evaluate-sound typing checked active store f (compares a none) s h = evaluate_simple_expression-sound typing checked active store f a s h
   evaluate-sound typing checked active store f (compares a (one (relates r b))) s h =
       let (x, ex, h₁) = then_some (type_of_simple_expression checked a) (λ x. option_and_then (relation_type r x) (type_of_simple_expression checked b)) s h in
@@ -226,9 +227,9 @@ mutual
   evaluate_addends-sound typing checked active store f v x (more (adds o t) rest) s hv h =
       let (y, ey, h₁) = then_some (type_of_term checked t) (λ y. option_and_then (λ z. type_after_addends checked z rest) (addition_type o x y)) s h in
       let (z, ez, h₂) = then_some (addition_type o x y) (λ z. type_after_addends checked z rest) s h₁ in
-      fits-then (λ w. HasShape w z) (λ v. HasShape v s) (elim (add_operator_short_circuits o v) [ true ↦ succeeds_with v | false ↦ evaluate_term active store t >>= add o v ]) (λ w. evaluate_addends active store w rest)
-      (settled-fits (λ w. HasShape w z) (add_operator_short_circuits o v) v (evaluate_term active store t >>= add o v) (of_some (λ s. HasShape v s) (addition_type-first o x y z ez) hv)
-      (fits-then (λ w. HasShape w y) (λ w. HasShape w z) (evaluate_term active store t) (add o v) (evaluate_term-sound typing checked active store f t y ey) (λ w hw. add-fits o x y z v w ez hv hw)))
+      fits-then (λ w. HasShape w z) (λ v. HasShape v s) (elim (add_operator_short_circuits o v) [ true ↦ succeeds_with v | false ↦ evaluate_term active store t >>= apply_add_operator o v ]) (λ w. evaluate_addends active store w rest)
+      (settled-fits (λ w. HasShape w z) (add_operator_short_circuits o v) v (evaluate_term active store t >>= apply_add_operator o v) (of_some (λ s. HasShape v s) (addition_type-first o x y z ez) hv)
+      (fits-then (λ w. HasShape w y) (λ w. HasShape w z) (evaluate_term active store t) (apply_add_operator o v) (evaluate_term-sound typing checked active store f t y ey) (λ w hw. add-fits o x y z v w ez hv hw)))
       (λ w hw. evaluate_addends-sound typing checked active store f w z rest s hw h₂)
 
   pub evaluate_term-sound : {N : Type 0} (typing : StoreTyping) (checked : TypeMeanings N) (active : Meanings N Place (List ParameterMode)) (store : Store) → TypeAgreement typing checked active store → (a : Tree N term) (s : Shape)
@@ -244,9 +245,9 @@ mutual
   evaluate_multipliers-sound typing checked active store f v x (more (multiplies o a) rest) s hv h =
       let (y, ey, h₁) = then_some (type_of_factor checked a) (λ y. option_and_then (λ z. type_after_multipliers checked z rest) (multiplication_type o x y)) s h in
       let (z, ez, h₂) = then_some (multiplication_type o x y) (λ z. type_after_multipliers checked z rest) s h₁ in
-      fits-then (λ w. HasShape w z) (λ v. HasShape v s) (elim (multiply_operator_short_circuits o v) [ true ↦ succeeds_with v | false ↦ evaluate_factor active store a >>= multiply o v ]) (λ w. evaluate_multipliers active store w rest)
-      (settled-fits (λ w. HasShape w z) (multiply_operator_short_circuits o v) v (evaluate_factor active store a >>= multiply o v) (of_some (λ s. HasShape v s) (multiplication_type-first o x y z ez) hv)
-      (fits-then (λ w. HasShape w y) (λ w. HasShape w z) (evaluate_factor active store a) (multiply o v) (evaluate_factor-sound typing checked active store f a y ey) (λ w hw. multiply-fits o x y z v w ez hv hw)))
+      fits-then (λ w. HasShape w z) (λ v. HasShape v s) (elim (multiply_operator_short_circuits o v) [ true ↦ succeeds_with v | false ↦ evaluate_factor active store a >>= apply_multiply_operator o v ]) (λ w. evaluate_multipliers active store w rest)
+      (settled-fits (λ w. HasShape w z) (multiply_operator_short_circuits o v) v (evaluate_factor active store a >>= apply_multiply_operator o v) (of_some (λ s. HasShape v s) (multiplication_type-first o x y z ez) hv)
+      (fits-then (λ w. HasShape w y) (λ w. HasShape w z) (evaluate_factor active store a) (apply_multiply_operator o v) (evaluate_factor-sound typing checked active store f a y ey) (λ w hw. multiply-fits o x y z v w ez hv hw)))
       (λ w hw. evaluate_multipliers-sound typing checked active store f w z rest s hw h₂)
 
   pub evaluate_factor-sound : {N : Type 0} (typing : StoreTyping) (checked : TypeMeanings N) (active : Meanings N Place (List ParameterMode)) (store : Store) → TypeAgreement typing checked active store → (a : Tree N factor) (s : Shape)
@@ -261,7 +262,7 @@ mutual
   evaluate_factor-sound typing checked active store f (parenthesised e) s h = evaluate-sound typing checked active store f e s h
   evaluate_factor-sound typing checked active store f (negation a) s h =
       let (x, ex, h₁) = then_some (type_of_factor checked a) negation_type s h in
-      fits-then (λ v. HasShape v x) (λ v. HasShape v s) (evaluate_factor active store a) negate (evaluate_factor-sound typing checked active store f a x ex) (λ v hv. negate-fits x s v h₁ hv)
+      fits-then (λ v. HasShape v x) (λ v. HasShape v s) (evaluate_factor active store a) apply_not (evaluate_factor-sound typing checked active store f a x ex) (λ v hv. negate-fits x s v h₁ hv)
 
   pub follow-sound : {N : Type 0} (typing : StoreTyping) (checked : TypeMeanings N) (active : Meanings N Place (List ParameterMode)) (store : Store) → TypeAgreement typing checked active store → (v : Value) (t : Shape) (path : Tree N (items selector)) (s : Shape)
       → HasShape v t → type_after_selectors checked t path ≡ Some s → OutcomeFits (λ steps. shape_at_path steps t ≡ Some s) (evaluate_selectors active store v path)
@@ -277,7 +278,7 @@ mutual
   follow-sound typing checked active store f v t (more (index e) rest) s hv h =
       let (i, ei, h₁) = then_some (type_of_expression checked e) (λ i. option_and_then (λ u. type_after_selectors checked u rest) (element_type t i)) s h in
       let (u, eu, h₂) = then_some (element_type t i) (λ u. type_after_selectors checked u rest) s h₁ in
-      fits-then (λ j. HasShape j i) (λ steps. shape_at_path steps t ≡ Some s) (evaluate active store e) (λ j. element_step v j >>= (λ step. result_or_stuck (value_at_step v step) >>= (λ w. evaluate_selectors active store w rest >>= (λ steps. succeeds_with (step ∷ steps))))) (evaluate-sound typing checked active store f e i ei)
+      fits-then (λ j. HasShape j i) (λ steps. shape_at_path steps t ≡ Some s) (evaluate_expression active store e) (λ j. element_step v j >>= (λ step. result_or_stuck (value_at_step v step) >>= (λ w. evaluate_selectors active store w rest >>= (λ steps. succeeds_with (step ∷ steps))))) (evaluate-sound typing checked active store f e i ei)
       (λ j hj. fits-then (λ step. shape_at_step t step ≡ Some u) (λ steps. shape_at_path steps t ≡ Some s) (element_step v j) (λ step. result_or_stuck (value_at_step v step) >>= (λ w. evaluate_selectors active store w rest >>= (λ steps. succeeds_with (step ∷ steps)))) (element_step-fits v t j i u hv hj eu)
       (λ step es. let (w, ew, hw) = value_at_step-fits v t step u hv es in
       fits-then (λ w. HasShape w u) (λ steps. shape_at_path steps t ≡ Some s) (result_or_stuck (value_at_step v step)) (λ w. evaluate_selectors active store w rest >>= (λ steps. succeeds_with (step ∷ steps))) (result_or_stuck-fits (λ w. HasShape w u) (value_at_step v step) w ew hw)

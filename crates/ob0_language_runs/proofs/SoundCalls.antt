@@ -8,7 +8,7 @@ use Rattle.ob0_language_types.specs.Declarations.{constructor_count_before_varia
 use Rattle.ob0_language_types.specs.Environments.{suffix_from_newest_binding, meanings, newest_object, outermost_environment}
 use Rattle.ob0_language_types.specs.Expressions.{Object, a_constant, a_procedure, a_standard_procedure, a_type, a_variable}
 use Rattle.ob0_language_types.specs.Typing.{value_of_constant_object, constant_expression_value, constructor_count, denoted_type, type_of_type_object}
-use Rattle.ob0_language_values.specs.Values.{FieldShapes, Place, Shape, Store, Stuck, Value, array_shape, copies, count_values, fits_in_32_bits, initial_value, initial_members, next_field_shape, no_field_shape, record_shape}
+use Rattle.ob0_language_values.specs.Values.{FieldShapes, Place, Shape, Store, Stuck, Value, array_shape, copies, value_count, fits_in_32_bits, initial_value, initial_members, next_field_shape, no_field_shape, record_shape}
 use Rattle.ob0_language_types.specs.WellTyped.{FormalParameter, ParameterMode, Signature, TypeEnvironment, TypedParameter, WellTyped, bind_names, bind_typed_parameters, block_is_well_typed, body_is_well_typed, declare_typed_variables, passes_type_check, bind_procedure, procedure_is_well_typed, procedures_and_body_are_well_typed, parameter_section_mode, signature_of, typed_parameters}
 use Rattle.ob0_language_types.proofs.Literals.{some_inverse}
 use Rattle.ob0_language_types.proofs.TypeNaturality.{constant_expression_value-map, denoted_type-map}
@@ -16,7 +16,7 @@ use Rattle.ob0_language_types.proofs.TypesByOrdinal.{typed_parameter}
 use Rattle.ob0_language_types.proofs.Conditions.{both_true, hold-true}
 use Rattle.ob0_language_types.proofs.TypedElsewhere.{then_some}
 use Rattle.ob0_language_runs.specs.Laws.{RunsNeverGetStuck}
-use Rattle.ob0_language_runs.specs.Runs.{RunEnvironment, Argument, CallFunction, ProcedureText, Frame, Parameter, Progress, State, execute_newest_procedure, add_variables_to_frame, bind_parameter, bind_parameters, call, declare_block_in_frame, declare_procedures, declare_variables, execute_sequence, execute_body, run_result, formal_parameter_modes, continue_in_frame, parameters, object_for_statements, place_argument, run, run_with_naming, running, meanings_for_statements, stopped, value_argument, declare_procedures_in_frame}
+use Rattle.ob0_language_runs.specs.Runs.{RunEnvironment, Argument, CallFunction, ProcedureText, Frame, Parameter, Progress, State, execute_newest_procedure, add_variables_to_frame, bind_parameter, bind_parameters, call_keeping_variables, declare_block_in_frame, declare_procedures, declare_variables, execute_sequence, execute_body, run_result, formal_parameter_modes, continue_in_frame, formal_parameters_in_sections, object_for_statements, place_argument, run, run_with_naming, running, meanings_for_statements, stopped, value_argument, declare_procedures_in_frame}
 use Rattle.ob0_language_runs.proofs.ByOrdinal.{with_mode}
 use Rattle.ob0_language_runs.proofs.SoundStatements.{RunObjectAgreesWithCheckedObject-grows, PlaceHasType-grows, ProgressFits-grown, execute_sequence-keeps, keeps-here, same_store-fits}
 use Rattle.ob0_language_runs.specs.TypeAgreement.{ArgumentsMatchSignature, RunBindingAgreesWithCheckedBinding, RunEnvironmentAgreesWithCheckedEnvironment, EachElementHasShape, HasShape, MembersHaveShapes, RunObjectAgreesWithCheckedObject, StoreHasTypes, StoreTyping, signature_modes, shape_at_path}
@@ -81,7 +81,7 @@ environments-grow naming typing others _ _ h = h
 
 -- The first value of a variable has the variable's type.
 
-pub copies-fit : (n : ℕ) (v : Value) (s : Shape) → HasShape v s → (count_values (copies n v) ≡ n) × EachElementHasShape (copies n v) s
+pub copies-fit : (n : ℕ) (v : Value) (s : Shape) → HasShape v s → (value_count (copies n v) ≡ n) × EachElementHasShape (copies n v) s
 copies-fit zero v s h = (refl, tt)
 copies-fit (suc n) v s h = let g = copies-fit n v s h in (ap suc g.0, (h, g.1))
 
@@ -238,7 +238,7 @@ pub parameters-append : {N : Type 0} (f : FormalParameter) (xs : List N) (ps : L
 parameters-append f [] ps = refl
 parameters-append f (x ∷ xs) ps = λ i. record { mode = f.mode; name = x } ∷ parameters-append f xs ps i
 
-pub parameters-of_typed : {N : Type 0} (naming : Naming N) (env : TypeEnvironment N) (k : ℕ) (fs : Tree N (items section_after_semicolon)) (ps : List (TypedParameter N)) → typed_parameters naming env k fs ≡ Some ps → parameters fs ≡ map as_parameter ps
+pub parameters-of_typed : {N : Type 0} (naming : Naming N) (env : TypeEnvironment N) (k : ℕ) (fs : Tree N (items section_after_semicolon)) (ps : List (TypedParameter N)) → typed_parameters naming env k fs ≡ Some ps → formal_parameters_in_sections fs ≡ map as_parameter ps
 unfolding typed_parameters
 parameters-of_typed naming env k end ps e = ap (map as_parameter) (some_inverse {a = []} {b = ps} e)
 parameters-of_typed naming env k (more (semicolon_then_section f) fs) ps e =
@@ -307,11 +307,11 @@ execute_newest_procedure-run {N} naming enter known t typing ((x, o) ∷ checked
     of_objects _ r h e = absurd (cc)
 
 -- Calls preserve the typing, by induction on the number of calls that may be open.
-pub calls-run : {N : Type 0} (naming : Naming N) (c t : ℕ) → CallsRun naming (call naming c t)
-unfolding call
+pub calls-run : {N : Type 0} (naming : Naming N) (c t : ℕ) → CallsRun naming (call_keeping_variables naming c t)
+unfolding call_keeping_variables
 calls-run naming zero t typing checked active env x signature e others args s fit store = λ h. cc
 calls-run naming (suc c) t typing checked active env x signature e others args s fit store =
-    execute_newest_procedure-run naming (call naming c t) (calls-run naming c t) t (typing ++ others) (suffix_from_newest_binding naming checked x) (suffix_from_newest_binding naming active x) signature args s
+    execute_newest_procedure-run naming (call_keeping_variables naming c t) (calls-run naming c t) t (typing ++ others) (suffix_from_newest_binding naming checked x) (suffix_from_newest_binding naming active x) signature args s
     (from-fit naming (typing ++ others) checked active x (environments-grow naming typing others checked active env)) e fit store
 
 pub not-stuck : (typing : StoreTyping) (p : Progress) → ProgressFits typing p → (run_result p).ending ≢ Stuck
@@ -324,9 +324,9 @@ unfolding run_with_naming passes_type_check
 fitting-run {N} naming (forms_module x b closing) input c t h =
     let start : State = record { store = []; input = input; output = [] } in
     let (g, after, eg, fit, fits) = block-run naming [] (outermost_environment naming) 0 b record { env = outermost_environment naming; store = [] } tt (refl, refl, (refl, refl, (refl, refl, (refl, refl, (refl, refl, (refl, refl, (refl, refl, tt))))))) h in
-    subst (λ frame. (run_result (continue_in_frame start frame (λ f. execute_body naming f.env (call naming c t f.env) t (block_statements b)))).ending ≢ Stuck) (sym eg)
-    (not-stuck ([] ++ fit.0) (execute_body naming g.env (call naming c t g.env) t (block_statements b) record start { store = g.store })
-    (body-run naming ([] ++ fit.0) after g.env (call naming c t g.env) t (block_statements b) record start { store = g.store } fit.2 (calls-run naming c t ([] ++ fit.0) after g.env fit.2) fit.1 fits))
+    subst (λ frame. (run_result (continue_in_frame start frame (λ f. execute_body naming f.env (call_keeping_variables naming c t f.env) t (block_statements b)))).ending ≢ Stuck) (sym eg)
+    (not-stuck ([] ++ fit.0) (execute_body naming g.env (call_keeping_variables naming c t g.env) t (block_statements b) record start { store = g.store })
+    (body-run naming ([] ++ fit.0) after g.env (call_keeping_variables naming c t g.env) t (block_statements b) record start { store = g.store } fit.2 (calls-run naming c t ([] ++ fit.0) after g.env fit.2) fit.1 fits))
 
 pub runs_never_get_stuck-holds : RunsNeverGetStuck
 unfolding WellTyped run

@@ -1,15 +1,15 @@
--- A well-typed statement preserves the typing of the store, or ends the run, but never stuck.
+-- A well-typed statement preserves the typing of the store, or ends the run, but never with Stuck.
 use Rattle.std.proofs.Common.{◌≡◌, ℕ, zero, suc, ◌-◌, true, false, ◌&&◌, List, [], ◌∷◌, ◌++◌, ℤ, if◌then◌else◌, nat_lt, slice_get, slice_set, Some, None, Option, option_map, option_and_then, unwrap_or, sym, refl, ap, ◌∙◌, subst, append_assoc, append-nil}
 use Rattle.ob0_tree.specs.Tree.{Tree, assigns, branches, calls, else_branch, else_part, elsif_branch, elsif_part, empty, end, expression, statement_after_semicolon, items, maybe, more, none, one, repeat_loop, runs, selector, sequence, statement, semicolon_then_statement, while_loop}
 use Rattle.ob0_language_names.specs.Names.{Name, same_name}
 use Rattle.ob0_language_types.specs.Arguments.{call_arguments}
-use Rattle.ob0_language_types.specs.Expressions.{Meanings, Object, a_constant, a_procedure, a_standard_procedure, a_type, a_variable, designated_place, evaluate, evaluate_selectors, object_place, read_procedure, write_procedure, write_line_procedure}
+use Rattle.ob0_language_types.specs.Expressions.{Meanings, Object, a_constant, a_procedure, a_standard_procedure, a_type, a_variable, designated_place, evaluate_expression, evaluate_selectors, object_place, read_procedure, write_procedure, write_line_procedure}
 use Rattle.ob0_language_types.specs.Typing.{lone_designator, named_field_shape, type_of_expression}
-use Rattle.ob0_language_values.specs.Values.{FieldShapes, Members, Outcome, Place, Shape, PathStep, Store, TurnBound, Value, Values, array_shape, at_field, at_index, boolean_shape, count_values, elements, ends_run_with, succeeds_with, integer_shape, members, next_field_shape, next_member, next_value, no_field_shape, no_member, no_value, number, result_or_stuck, read_place, record_shape, truth, with_value_at_path, with_named_member, with_nth_value, with_value_at_step, write_place, ◌>>=◌}
+use Rattle.ob0_language_values.specs.Values.{FieldShapes, Members, Outcome, Place, Shape, PathStep, Store, TurnBound, Value, Values, array_shape, at_field, at_index, boolean_shape, value_count, elements, ends_run_with, succeeds_with, integer_shape, members, next_field_shape, next_member, next_value, no_field_shape, no_member, no_value, number, result_or_stuck, read_place, record_shape, truth, with_value_at_path, with_named_member, with_nth_value, with_value_at_step, write_place, ◌>>=◌}
 use Rattle.ob0_language_types.specs.WellTyped.{FormalParameter, ParameterMode, Signature, TypeMeanings, same_known_shape, argument_matches_parameter, arguments_match_signature, by_place, by_value, condition_is_boolean, else_is_well_typed, elsifs_are_well_typed, sequence_is_well_typed, signature_of, statement_is_well_typed, further_statements_are_well_typed, assignable_type}
 use Rattle.ob0_language_types.proofs.Conditions.{same_known_shape-true, both_true, call-typed, of_some, variable-typed}
 use Rattle.ob0_language_types.proofs.TypedElsewhere.{then_some}
-use Rattle.ob0_language_runs.specs.Runs.{Argument, CallFunction, Progress, State, choose_by_truth_value, evaluate_argument, evaluate_arguments, execute, execute_sequence, execute_else, execute_elsifs, execute_further_statements, continue_if_running, printed_line_end, argument_modes_of, printed_number, perform_call, place_argument, append_output, read_number, running, stopped, store_value_at_place, execute_while, execute_repeat, continue_with_result, value_argument}
+use Rattle.ob0_language_runs.specs.Runs.{Argument, CallFunction, Progress, State, choose_by_truth_value, evaluate_argument, evaluate_arguments, execute_statement, execute_sequence, execute_else, execute_elsifs, execute_further_statements, continue_if_running, printed_line_end, argument_modes_of, printed_number, perform_call, place_argument, append_output, read_number, running, stopped, store_value_at_place, execute_while, execute_repeat, continue_with_result, value_argument}
 use Rattle.ob0_language_runs.proofs.Sound.{TypeAgreement, evaluate-sound, fits-then, follow-sound, is_number, result_or_stuck-fits, value_at_step-fits, place-fits, variable-fits}
 use Rattle.ob0_language_runs.specs.TypeAgreement.{ArgumentsMatchSignature, EachElementHasShape, HasShape, MembersHaveShapes, RunMeaningsAgreeWithCheckedMeanings, RunObjectAgreesWithCheckedObject, PlaceHasType, StoreHasTypes, StoreTyping, signature_modes, shape_at_step, shape_at_path}
 use Rattle.ob0_language_runs.proofs.Soundness.{CallsFit, OutcomeFits, ProgressFits}
@@ -47,7 +47,7 @@ ProgressFits-grown typing others (stopped e out) h = h
 
 -- Writing a value of the right type preserves the type of the whole value.
 
-pub with_nth-fits : (vs : Values) (s : Shape) (i : ℕ) (new : Value) → EachElementHasShape vs s → HasShape new s → (count_values (with_nth_value vs i new) ≡ count_values vs) × EachElementHasShape (with_nth_value vs i new) s
+pub with_nth-fits : (vs : Values) (s : Shape) (i : ℕ) (new : Value) → EachElementHasShape vs s → HasShape new s → (value_count (with_nth_value vs i new) ≡ value_count vs) × EachElementHasShape (with_nth_value vs i new) s
 with_nth-fits no_value s i new h hn = (refl, tt)
 with_nth-fits (next_value v rest) s zero new h hn = (refl, (hn, h.1))
 with_nth-fits (next_value v rest) s (suc i) new h hn =
@@ -141,7 +141,7 @@ argument-sound {N} typing checked active store fit f e h = go f.mode f.shape ref
         → OutcomeFits (λ a. ArgumentsMatchSignature typing (record { mode = m; shape = s } ∷ []) (a ∷ [])) (evaluate_argument active store m e)
     go by_value s es h =
         let (t, et, ht) = same_known_shape-true (Some s) (type_of_expression checked e) h in
-        fits-then (λ v. HasShape v s) (λ a. ArgumentsMatchSignature typing (record { mode = by_value; shape = s } ∷ []) (a ∷ [])) (evaluate active store e) (λ v. succeeds_with (value_argument v)) (evaluate-sound typing checked active store fit e s (ht ∙ sym et))
+        fits-then (λ v. HasShape v s) (λ a. ArgumentsMatchSignature typing (record { mode = by_value; shape = s } ∷ []) (a ∷ [])) (evaluate_expression active store e) (λ v. succeeds_with (value_argument v)) (evaluate-sound typing checked active store fit e s (ht ∙ sym et))
         (λ v hv. (refl, hv, tt))
     go by_place s es h =
         let (t, et, ht) = same_known_shape-true (Some s) (assignable_type checked (lone_designator e)) h in at_designator (lone_designator e) (ht ∙ sym et)
@@ -292,7 +292,7 @@ execute_repeat-keep (suc t) typing condition turn is keeps others s h =
     (λ v hv. choose_by_truth_value-fits ((typing ++ others) ++ later) s' v running (execute_repeat t condition turn) hv (same_store-fits ((typing ++ others) ++ later) s' h')
     (Keeps-grows typing others (execute_repeat t condition turn) (execute_repeat-keep t typing condition turn is keeps) later s' h')))
 
-pub condition-sound : {N : Type 0} (typing : StoreTyping) (checked : TypeMeanings N) (active : Meanings N Place (List ParameterMode)) → RunMeaningsAgreeWithCheckedMeanings typing checked active → (e : Tree N expression) → condition_is_boolean checked e ≡ true → (s : State) → StoreHasTypes typing s.store → OutcomeFits (λ v. HasShape v boolean_shape) (evaluate active s.store e)
+pub condition-sound : {N : Type 0} (typing : StoreTyping) (checked : TypeMeanings N) (active : Meanings N Place (List ParameterMode)) → RunMeaningsAgreeWithCheckedMeanings typing checked active → (e : Tree N expression) → condition_is_boolean checked e ≡ true → (s : State) → StoreHasTypes typing s.store → OutcomeFits (λ v. HasShape v boolean_shape) (evaluate_expression active s.store e)
 unfolding condition_is_boolean
 condition-sound typing checked active known e h s store_fits =
     let (t, et, ht) = same_known_shape-true (Some boolean_shape) (type_of_expression checked e) h in
@@ -305,16 +305,16 @@ call-here typing checked enter h x signature args s store fit e =
     (h x signature e [] args s (subst (λ all. ArgumentsMatchSignature all signature args) (sym (append-nil typing)) fit) (subst (λ all. StoreHasTypes all s.store) (sym (append-nil typing)) store))
 
 mutual
-  unfolding execute statement_is_well_typed
+  unfolding execute_statement statement_is_well_typed
 
-  pub execute-keeps : {N : Type 0} (typing : StoreTyping) (checked : TypeMeanings N) (active : Meanings N Place (List ParameterMode)) (enter : CallFunction N) → Sound typing checked active enter → (t : ℕ) (a : Tree N statement) → statement_is_well_typed checked a ≡ true → Keeps typing (execute active enter t a)
+  pub execute-keeps : {N : Type 0} (typing : StoreTyping) (checked : TypeMeanings N) (active : Meanings N Place (List ParameterMode)) (enter : CallFunction N) → Sound typing checked active enter → (t : ℕ) (a : Tree N statement) → statement_is_well_typed checked a ≡ true → Keeps typing (execute_statement active enter t a)
   execute-keeps typing checked active enter sound t empty h others s store = same_store-fits (typing ++ others) s store
   execute-keeps typing checked active enter sound t (assigns x path e) h others s store =
       let grown = Sound-grows typing others checked active enter sound in
       let (shape, es, et) = same_known_shape-true (assignable_type checked (Some (x, path))) (type_of_expression checked e) h in
-      continue_with_result-fits (typing ++ others) (λ p. PlaceHasType (typing ++ others) p shape) s (designated_place active s.store x path) (λ p. continue_with_result s (evaluate active s.store e) (store_value_at_place s p))
+      continue_with_result-fits (typing ++ others) (λ p. PlaceHasType (typing ++ others) p shape) s (designated_place active s.store x path) (λ p. continue_with_result s (evaluate_expression active s.store e) (store_value_at_place s p))
       (designated_place-sound (typing ++ others) checked active s.store record { store_fits = store; names_fit = grown.names_fit } x path shape es)
-      (λ p hp. continue_with_result-fits (typing ++ others) (λ v. HasShape v shape) s (evaluate active s.store e) (store_value_at_place s p)
+      (λ p hp. continue_with_result-fits (typing ++ others) (λ v. HasShape v shape) s (evaluate_expression active s.store e) (store_value_at_place s p)
       (evaluate-sound (typing ++ others) checked active s.store record { store_fits = store; names_fit = grown.names_fit } e shape et)
       (λ v hv. store_value_at_place-fits (typing ++ others) s p shape v store hp hv))
   execute-keeps typing checked active enter sound t (calls x es) h others s store =
@@ -330,33 +330,33 @@ mutual
       let h₂ = both_true (sequence_is_well_typed checked statements) (elsifs_are_well_typed checked rest && else_is_well_typed checked last) h₁.1 in
       let h₃ = both_true (elsifs_are_well_typed checked rest) (else_is_well_typed checked last) h₂.1 in
       let grown = Sound-grows typing others checked active enter sound in
-      continue_with_result-fits (typing ++ others) (λ v. HasShape v boolean_shape) s (evaluate active s.store e) (λ v. choose_by_truth_value s v (execute_sequence active enter t statements) (execute_elsifs active enter t rest (execute_else active enter t last)))
+      continue_with_result-fits (typing ++ others) (λ v. HasShape v boolean_shape) s (evaluate_expression active s.store e) (λ v. choose_by_truth_value s v (execute_sequence active enter t statements) (execute_elsifs active enter t rest (execute_else active enter t last)))
       (condition-sound (typing ++ others) checked active grown.names_fit e h₁.0 s store)
       (λ v hv. choose_by_truth_value-fits (typing ++ others) s v (execute_sequence active enter t statements) (execute_elsifs active enter t rest (execute_else active enter t last)) hv
       (execute_sequence-keeps typing checked active enter sound t statements h₂.0 others s store)
       (execute_elsifs-keeps typing checked active enter sound t rest (execute_else active enter t last) h₃.0 (execute_else-keeps typing checked active enter sound t last h₃.1) others s store))
   execute-keeps typing checked active enter sound t (while_loop e statements) h others s store =
       let h₁ = both_true (condition_is_boolean checked e) (sequence_is_well_typed checked statements) h in
-      execute_while-keep t typing (λ s'. evaluate active s'.store e) (execute_sequence active enter t statements)
+      execute_while-keep t typing (λ s'. evaluate_expression active s'.store e) (execute_sequence active enter t statements)
       (λ others s store. condition-sound (typing ++ others) checked active (Sound-grows typing others checked active enter sound).names_fit e h₁.0 s store)
       (execute_sequence-keeps typing checked active enter sound t statements h₁.1) others s store
   execute-keeps typing checked active enter sound t (repeat_loop statements e) h others s store =
       let h₁ = both_true (sequence_is_well_typed checked statements) (condition_is_boolean checked e) h in
-      execute_repeat-keep (t - 1) typing (λ s'. evaluate active s'.store e) (execute_sequence active enter t statements)
+      execute_repeat-keep (t - 1) typing (λ s'. evaluate_expression active s'.store e) (execute_sequence active enter t statements)
       (λ others s store. condition-sound (typing ++ others) checked active (Sound-grows typing others checked active enter sound).names_fit e h₁.1 s store)
       (execute_sequence-keeps typing checked active enter sound t statements h₁.0) others s store
 
   pub execute_sequence-keeps : {N : Type 0} (typing : StoreTyping) (checked : TypeMeanings N) (active : Meanings N Place (List ParameterMode)) (enter : CallFunction N) → Sound typing checked active enter → (t : ℕ) (a : Tree N sequence) → sequence_is_well_typed checked a ≡ true → Keeps typing (execute_sequence active enter t a)
   execute_sequence-keeps typing checked active enter sound t (runs a rest) h others s store =
       let h₁ = both_true (statement_is_well_typed checked a) (further_statements_are_well_typed checked rest) h in
-      go_on-fits (typing ++ others) (execute active enter t a s) (execute_further_statements active enter t rest) (execute-keeps typing checked active enter sound t a h₁.0 others s store)
+      go_on-fits (typing ++ others) (execute_statement active enter t a s) (execute_further_statements active enter t rest) (execute-keeps typing checked active enter sound t a h₁.0 others s store)
       (Keeps-grows typing others (execute_further_statements active enter t rest) (execute_further_statements-keeps typing checked active enter sound t rest h₁.1))
 
   pub execute_further_statements-keeps : {N : Type 0} (typing : StoreTyping) (checked : TypeMeanings N) (active : Meanings N Place (List ParameterMode)) (enter : CallFunction N) → Sound typing checked active enter → (t : ℕ) (a : Tree N (items statement_after_semicolon)) → further_statements_are_well_typed checked a ≡ true → Keeps typing (execute_further_statements active enter t a)
   execute_further_statements-keeps typing checked active enter sound t end h others s store = same_store-fits (typing ++ others) s store
   execute_further_statements-keeps typing checked active enter sound t (more (semicolon_then_statement a) rest) h others s store =
       let h₁ = both_true (statement_is_well_typed checked a) (further_statements_are_well_typed checked rest) h in
-      go_on-fits (typing ++ others) (execute active enter t a s) (execute_further_statements active enter t rest) (execute-keeps typing checked active enter sound t a h₁.0 others s store)
+      go_on-fits (typing ++ others) (execute_statement active enter t a s) (execute_further_statements active enter t rest) (execute-keeps typing checked active enter sound t a h₁.0 others s store)
       (Keeps-grows typing others (execute_further_statements active enter t rest) (execute_further_statements-keeps typing checked active enter sound t rest h₁.1))
 
   pub execute_elsifs-keeps : {N : Type 0} (typing : StoreTyping) (checked : TypeMeanings N) (active : Meanings N Place (List ParameterMode)) (enter : CallFunction N) → Sound typing checked active enter → (t : ℕ) (a : Tree N (items elsif_part)) (otherwise : State → Progress) → elsifs_are_well_typed checked a ≡ true → Keeps typing otherwise → Keeps typing (execute_elsifs active enter t a otherwise)
@@ -365,7 +365,7 @@ mutual
       let h₁ = both_true (condition_is_boolean checked e) (sequence_is_well_typed checked statements && elsifs_are_well_typed checked rest) h in
       let h₂ = both_true (sequence_is_well_typed checked statements) (elsifs_are_well_typed checked rest) h₁.1 in
       let grown = Sound-grows typing others checked active enter sound in
-      continue_with_result-fits (typing ++ others) (λ v. HasShape v boolean_shape) s (evaluate active s.store e) (λ v. choose_by_truth_value s v (execute_sequence active enter t statements) (execute_elsifs active enter t rest otherwise))
+      continue_with_result-fits (typing ++ others) (λ v. HasShape v boolean_shape) s (evaluate_expression active s.store e) (λ v. choose_by_truth_value s v (execute_sequence active enter t statements) (execute_elsifs active enter t rest otherwise))
       (condition-sound (typing ++ others) checked active grown.names_fit e h₁.0 s store)
       (λ v hv. choose_by_truth_value-fits (typing ++ others) s v (execute_sequence active enter t statements) (execute_elsifs active enter t rest otherwise) hv
       (execute_sequence-keeps typing checked active enter sound t statements h₂.0 others s store) (execute_elsifs-keeps typing checked active enter sound t rest otherwise h₂.1 keeps others s store))

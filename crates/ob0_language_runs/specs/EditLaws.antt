@@ -1,8 +1,8 @@
--- Laws of edits: which edits leave a module well-typed, with the same runs.
+-- Laws about edits that leave a module well-typed, with the same runs.
 -- Rule: none; states laws about edits and runs.
 use Rattle.std.specs.Prelude.{List, Some, ℕ, ℤ, ◌≡◌, ◌≢◌}
 use Rattle.ob0_tree.specs.Tree.{Tree, factor, module_text}
-use Rattle.ob0_language_names.specs.Inlining.{OccurrenceSet, inlined, inlined_everywhere_and_removed, module_without_constant}
+use Rattle.ob0_language_names.specs.Inlining.{OccurrenceSet, inlined, module_with_constant_inlined_everywhere, module_without_constant}
 use Rattle.ob0_language_names.specs.Names.{Name}
 use Rattle.ob0_language_names.specs.Occurrences.{IsFreeName, ordinal_bound_at_occurrence}
 use Rattle.ob0_language_names.specs.Scopes.{renamed}
@@ -54,4 +54,4 @@ InliningEverywhereKeepsTypingAndRuns =
     → IsConstantWithLiteral m d w v
     → ((k : ℕ) → ordinal_bound_at_occurrence m k ≡ Some d → TruthWordMeansPredeclared m k w)
     → WellTyped m
-    → WellTyped (inlined_everywhere_and_removed m d v) × HaveSameRuns (inlined_everywhere_and_removed m d v) m
+    → WellTyped (module_with_constant_inlined_everywhere m d v) × HaveSameRuns (module_with_constant_inlined_everywhere m d v) m

@@ -1,4 +1,4 @@
--- Runs in which each call drops its variables when it returns. The store then has only the
+-- Defines runs in which each call drops its variables when it returns. Then the store has only the
 -- variables of the module and of open calls.
 -- Rule: docs/LANGUAGE.md, Runs 6 (that no run can tell whether variables are freed).
 use Rattle.std.specs.Prelude.{ℕ, zero, suc, length, take, List, ℤ}
@@ -16,8 +16,8 @@ keep_first_variables n (stopped e out) = stopped e out
 
 -- Performs the call of the procedure `x`. The first number is how many nested calls are still
 -- allowed, including this call. If this number is 0, the run ends with CallBound. The second number
--- bounds the iterations of each loop. After the call returns, the store has as many variables as
--- before the call.
+-- bounds the iterations of each loop. When the call returns, the store keeps only the variables
+-- that it had before the call.
 unfoldable pub call_freeing_variables : {N : Type 0} → Naming N → ℕ → ℕ → RunEnvironment N → CallFunction N
 unfolding execute_newest_procedure
 call_freeing_variables naming zero t env x args s = stopped CallBound s.output

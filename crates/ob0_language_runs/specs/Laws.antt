@@ -12,7 +12,7 @@ use Rattle.ob0_language_types.specs.Laws.{EachUseSatisfies}
 use Rattle.ob0_language_values.specs.Values.{Place, Store, Stuck, Value, succeeds_with}
 use Rattle.ob0_language_types.specs.WellTyped.{ParameterMode, WellTyped}
 use Rattle.ob0_language_runs.specs.FreedVariables.{run_freeing_variables}
-use Rattle.ob0_language_runs.specs.Runs.{CallFunction, State, execute, run, run_numbered, run_with_naming}
+use Rattle.ob0_language_runs.specs.Runs.{CallFunction, State, execute_statement, run, run_numbered, run_with_naming}
 
 -- States that a module and its numbered tree have the same run for every input and all bounds on calls and loop
 -- iterations. In the numbered tree, each bound name is replaced by the ordinal of its declaration.
@@ -65,4 +65,4 @@ InliningKeepsExecution =
     (v : Tree Name factor) (w : Value) (k : ℕ) (a : Tree Name statement) (s : State)
     → ((store : Store) → evaluate_factor meaning store v ≡ succeeds_with w)
     → EachUseSatisfies uses (λ x. meaning.object_for x ≡ Some (a_constant w)) k (occurrences a)
-    → execute meaning enter t (inline_in_tree uses v k a) s ≡ execute meaning enter t a s
+    → execute_statement meaning enter t (inline_in_tree uses v k a) s ≡ execute_statement meaning enter t a s

@@ -1,6 +1,6 @@
--- Big-step semantics of runs: the meaning of statements, calls and whole modules. A run depends on an environment, a
--- store and the remaining input. It also depends on two bounds: `c` on the number of open calls, and `t` on the
--- iterations of each loop.
+-- Defines runs by big-step semantics: the meaning of statements, calls and whole modules. A run
+-- depends on an environment, a store and the remaining input. It also depends on two bounds: `c` on
+-- the number of open calls, and `t` on the iterations of each loop.
 -- Rule: docs/LANGUAGE.md, Runs 1 to 10.
 use Rattle.std.specs.Prelude.{ℕ, zero, suc, ◌+◌, ◌-◌, true, false, List, [], ◌∷◌, ◌++◌, map, length, ℤ, Some, None, Option, option_map, option_and_then}
 use Rattle.ob0_tree.specs.Tree.{Tree, assigns, begins, block, body, branches, calls, declares_variable, else_branch, else_part, elsif_branch, elsif_part, empty, end, expression, section_after_semicolon, statement_after_semicolon, item, items, maybe, module_text, more, none, one, procedure, repeat_loop, runs, sequence, statement, semicolon_then_section, semicolon_then_statement, variable, while_loop}
@@ -9,7 +9,7 @@ use Rattle.ob0_language_names.specs.BlockParts.{block_procedures, block_statemen
 use Rattle.ob0_language_types.specs.Arguments.{call_arguments}
 use Rattle.ob0_language_types.specs.Declarations.{constructor_count_before_procedure_block, constructor_count_before_variables, constructor_count_before_procedures, declare_constants_and_types, procedure_constructor_count}
 use Rattle.ob0_language_types.specs.Environments.{Environment, suffix_from_newest_binding, meanings, outermost_environment}
-use Rattle.ob0_language_types.specs.Expressions.{Meanings, Object, a_constant, a_procedure, a_standard_procedure, a_type, a_variable, designated_place, evaluate, read_procedure, write_procedure, write_line_procedure}
+use Rattle.ob0_language_types.specs.Expressions.{Meanings, Object, a_constant, a_procedure, a_standard_procedure, a_type, a_variable, designated_place, evaluate_expression, read_procedure, write_procedure, write_line_procedure}
 use Rattle.ob0_language_types.specs.Typing.{constructor_count, denoted_type, lone_designator}
 use Rattle.ob0_language_values.specs.Values.{CallBound, Done, End, InputEnd, Outcome, Place, Store, Stuck, TurnBound, Value, ends_run_with, succeeds_with, initial_value, number, result_or_stuck, truth, write_place, ◌>>=◌}
 use Rattle.ob0_language_types.specs.WellTyped.{ParameterMode, by_place, by_value, parameter_section_mode}
@@ -85,9 +85,9 @@ unfoldable pub evaluate_argument : {N P : Type 0}
     → ParameterMode
     → Tree N expression
     → Outcome Argument
-unfolding designated_place evaluate
+unfolding designated_place evaluate_expression
 evaluate_argument meaning store by_value e = do
-  v ← evaluate meaning store e
+  v ← evaluate_expression meaning store e
   succeeds_with (value_argument v)
 evaluate_argument meaning store by_place e = do
   d ← result_or_stuck (lone_designator e)
@@ -154,32 +154,32 @@ execute_repeat (suc t) condition turn s =
 -- Executes a statement. An assignment first determines the place on its left side, then evaluates its right side, and
 -- then stores a copy of the value.
 unfoldable mutual
-  unfolding evaluate designated_place evaluate_arguments
+  unfolding evaluate_expression designated_place evaluate_arguments
 
   -- executes one statement; `enter` performs calls of declared procedures, and `t` bounds the iterations of each loop
-  pub execute : {N : Type 0}
+  pub execute_statement : {N : Type 0}
       → Meanings N Place (List ParameterMode)
       → CallFunction N
       → ℕ
       → Tree N statement
       → State
       → Progress
-  execute meaning enter t empty s = running s
-  execute meaning enter t (assigns x path e) s =
+  execute_statement meaning enter t empty s = running s
+  execute_statement meaning enter t (assigns x path e) s =
       continue_with_result s (designated_place meaning s.store x path)
-      (λ p. continue_with_result s (evaluate meaning s.store e) (store_value_at_place s p))
-  execute meaning enter t (calls x es) s =
+      (λ p. continue_with_result s (evaluate_expression meaning s.store e) (store_value_at_place s p))
+  execute_statement meaning enter t (calls x es) s =
       continue_with_result s (argument_modes_of (meaning.object_for x) >>=
       (λ modes. evaluate_arguments meaning s.store modes (call_arguments es)))
       (λ args. perform_call (meaning.object_for x) (enter x) args s)
-  execute meaning enter t (branches e statements rest last) s =
-      continue_with_result s (evaluate meaning s.store e) (λ v. choose_by_truth_value s v
+  execute_statement meaning enter t (branches e statements rest last) s =
+      continue_with_result s (evaluate_expression meaning s.store e) (λ v. choose_by_truth_value s v
       (execute_sequence meaning enter t statements)
       (execute_elsifs meaning enter t rest (execute_else meaning enter t last)))
-  execute meaning enter t (while_loop e statements) s =
-      execute_while t (λ s'. evaluate meaning s'.store e) (execute_sequence meaning enter t statements) s
-  execute meaning enter t (repeat_loop statements e) s =
-      execute_repeat (t - 1) (λ s'. evaluate meaning s'.store e)
+  execute_statement meaning enter t (while_loop e statements) s =
+      execute_while t (λ s'. evaluate_expression meaning s'.store e) (execute_sequence meaning enter t statements) s
+  execute_statement meaning enter t (repeat_loop statements e) s =
+      execute_repeat (t - 1) (λ s'. evaluate_expression meaning s'.store e)
       (execute_sequence meaning enter t statements) s
 
   -- executes a sequence of statements in text order; stops if a statement ends the run
@@ -191,7 +191,7 @@ unfoldable mutual
       → State
       → Progress
   execute_sequence meaning enter t (runs a rest) s =
-      continue_if_running (execute meaning enter t a s) (execute_further_statements meaning enter t rest)
+      continue_if_running (execute_statement meaning enter t a s) (execute_further_statements meaning enter t rest)
 
   -- executes the statements of a sequence after the first one
   pub execute_further_statements : {N : Type 0}
@@ -203,7 +203,7 @@ unfoldable mutual
       → Progress
   execute_further_statements meaning enter t end s = running s
   execute_further_statements meaning enter t (more (semicolon_then_statement a) rest) s =
-      continue_if_running (execute meaning enter t a s) (execute_further_statements meaning enter t rest)
+      continue_if_running (execute_statement meaning enter t a s) (execute_further_statements meaning enter t rest)
 
   -- executes the statements of the first ELSIF part whose condition is TRUE; if no condition is TRUE, continues with
   -- `otherwise`
@@ -217,7 +217,7 @@ unfoldable mutual
       → Progress
   execute_elsifs meaning enter t end otherwise s = otherwise s
   execute_elsifs meaning enter t (more (elsif_branch e statements) rest) otherwise s =
-      continue_with_result s (evaluate meaning s.store e) (λ v. choose_by_truth_value s v
+      continue_with_result s (evaluate_expression meaning s.store e) (λ v. choose_by_truth_value s v
       (execute_sequence meaning enter t statements) (execute_elsifs meaning enter t rest otherwise))
 
   -- executes the statements of the ELSE part; does nothing if there is no ELSE part
@@ -232,14 +232,15 @@ unfoldable mutual
   execute_else meaning enter t (one (else_branch statements)) s =
       execute_sequence meaning enter t statements s
 
--- A procedure in a run, with its text. `constructors_before` is the count of words ARRAY and RECORD
--- before the procedure; the procedure's array and record types are numbered from this count.
+-- The data about a procedure in a run: its tree (`text`), and the number of words ARRAY and RECORD
+-- before it (`constructors_before`). The procedure's array and record types are numbered from this
+-- number.
 pub record ProcedureText (N : Type 0) : Type 0 where
   pub constructors_before : ℕ
   pub text : Tree N (item procedure)
 
--- the bindings of names in an activation: an environment that has the place of each variable and the text of each
--- procedure
+-- the bindings of names in an activation: an environment with the place of each variable and the
+-- `ProcedureText` of each procedure
 abbrev pub RunEnvironment : Type 0 → Type 0
 RunEnvironment N = Environment N Place (ProcedureText N)
 
@@ -275,9 +276,8 @@ declare_variables naming k (more (declares_variable ns u) gs) f =
     (add_variables_to_frame (names_in_list ns) (initial_value s) f))
     (denoted_type (meanings naming f.env) k u)
 
--- Returns the environment `env` with these procedures added. Each procedure gets its text and the
--- count of words ARRAY and RECORD before it; its array and record types are numbered from this
--- count. `k` is the count for the first procedure.
+-- Returns the environment `env` with these procedures added. Each is bound to its tree and to the
+-- number of words ARRAY and RECORD before it. `k` is this number for the first procedure.
 abbrev pub declare_procedures : {N : Type 0}
     → ℕ
     → Tree N (items procedure)
@@ -309,9 +309,9 @@ declare_block_in_frame naming k b f =
     record { env = env; store = f.store }))
     (declare_constants_and_types naming f.env k b)
 
--- Returns the frame with a parameter bound to its argument. A VAR parameter is bound to the argument's place. Any other
--- parameter is bound to a separate variable with the argument's value. Returns None if a VAR parameter gets a value, or
--- another parameter gets a place.
+-- Returns the frame with a parameter bound to its argument. A VAR parameter is bound to the
+-- argument's place. Any other parameter is bound to a new variable with the argument's value.
+-- Returns None if a VAR parameter gets a value, or another parameter gets a place.
 abbrev pub bind_parameter : {N : Type 0} → ParameterMode → N → Argument → Frame N → Option (Frame N)
 bind_parameter by_place x (place_argument p) f =
     Some record { env = (x, a_variable p) ∷ f.env; store = f.store }
@@ -324,10 +324,10 @@ pub record Parameter (N : Type 0) : Type 0 where
   pub name : N
 
 -- returns the formal parameters of a procedure heading, in text order
-abbrev pub parameters : {N : Type 0} → Tree N (items section_after_semicolon) → List (Parameter N)
-parameters end = []
-parameters (more (semicolon_then_section f) fs) =
-    map (λ x. record { mode = parameter_section_mode f; name = x }) (parameter_section_names f) ++ parameters fs
+abbrev pub formal_parameters_in_sections : {N : Type 0} → Tree N (items section_after_semicolon) → List (Parameter N)
+formal_parameters_in_sections end = []
+formal_parameters_in_sections (more (semicolon_then_section f) fs) =
+    map (λ x. record { mode = parameter_section_mode f; name = x }) (parameter_section_names f) ++ formal_parameters_in_sections fs
 
 -- returns the frame with all parameters of a procedure bound to the arguments of a call; None if there are more or
 -- fewer arguments than parameters, or if `bind_parameter` returns None for one of them
@@ -377,13 +377,13 @@ unfoldable pub execute_body : {N : Type 0}
     → Tree N (maybe body)
     → State
     → Progress
-unfolding execute
+unfolding execute_statement
 execute_body naming env enter t none s = running s
 execute_body naming env enter t (one (begins statements)) s =
     execute_sequence (meanings_for_statements naming env) enter t statements s
 
--- continues a run with the function `next` in a frame; the run gets the frame's store; ends the run with Stuck if the
--- frame is None
+-- continues a run from the state `s`, with the store of the given frame, by applying `next`; ends
+-- the run with Stuck if the frame is None
 abbrev pub continue_in_frame : {N : Type 0}
     → State
     → Option (Frame N)
@@ -408,7 +408,7 @@ execute_newest_procedure naming enter t ((x, a_procedure code) ∷ rest) args s 
     continue_in_frame s (option_and_then
     (declare_block_in_frame naming (constructor_count_before_procedure_block code.constructors_before code.text)
     (procedure_block code.text))
-    (bind_parameters (parameters (procedure_formals code.text)) args
+    (bind_parameters (formal_parameters_in_sections (procedure_formals code.text)) args
     record { env = (x, a_procedure code) ∷ rest; store = s.store }))
     (λ f. execute_body naming f.env (enter f.env) t (block_statements (procedure_block code.text)))
 execute_newest_procedure naming enter t _ args s = stopped Stuck s.output
@@ -416,11 +416,11 @@ execute_newest_procedure naming enter t _ args s = stopped Stuck s.output
 -- Performs the call of the procedure `x`. The first number is how many nested calls are still allowed, including this
 -- call. If this number is 0, the run ends with CallBound. The second number bounds the iterations of each loop. The
 -- store keeps the call's variables after the call returns.
-unfoldable pub call : {N : Type 0} → Naming N → ℕ → ℕ → RunEnvironment N → CallFunction N
+unfoldable pub call_keeping_variables : {N : Type 0} → Naming N → ℕ → ℕ → RunEnvironment N → CallFunction N
 unfolding execute_newest_procedure
-call naming zero t env x args s = stopped CallBound s.output
-call naming (suc c) t env x args s =
-    execute_newest_procedure naming (call naming c t) t (suffix_from_newest_binding naming env x) args s
+call_keeping_variables naming zero t env x args s = stopped CallBound s.output
+call_keeping_variables naming (suc c) t env x args s =
+    execute_newest_procedure naming (call_keeping_variables naming c t) t (suffix_from_newest_binding naming env x) args s
 
 -- the result of a run: its output and the reason why it ended (`End`)
 pub record Run : Type 0 where
@@ -452,8 +452,8 @@ run_with_call_function naming enter t m input =
 -- returns the result of running a module's tree whose names are interpreted by `naming`; `c` bounds the number of open
 -- calls, and `t` bounds the iterations of each loop
 unfoldable pub run_with_naming : {N : Type 0} → Naming N → Tree N module_text → List ℤ → ℕ → ℕ → Run
-unfolding run_with_call_function call
-run_with_naming naming m input c t = run_with_call_function naming (call naming c t) t m input
+unfolding run_with_call_function call_keeping_variables
+run_with_naming naming m input c t = run_with_call_function naming (call_keeping_variables naming c t) t m input
 
 -- returns the result of running a module with this input; the first number bounds the open calls, and the second number
 -- bounds the iterations of each loop

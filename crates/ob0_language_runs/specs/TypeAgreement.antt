@@ -1,4 +1,5 @@
--- States which values, places and meanings of names in a run agree with the types that the checker gives them.
+-- Defines when the values, places and meanings of names in a run agree with the types that the
+-- checker gives them.
 -- Rule: docs/LANGUAGE.md, Runs 11.
 use Rattle.std.specs.Prelude.{◌≡◌, true, List, [], ◌∷◌, map, if◌then◌else◌, nat_lt, slice_get, Some, None, Option, option_and_then}
 use Rattle.ob0_language_names.specs.Names.{Naming}
@@ -6,7 +7,7 @@ use Rattle.ob0_language_names.specs.BlockParts.{procedure_formals}
 use Rattle.ob0_language_types.specs.Expressions.{Meanings, Object, a_constant, a_procedure, a_standard_procedure, a_type, a_variable}
 use Rattle.ob0_language_types.specs.Typing.{named_field_shape}
 use Rattle.ob0_language_types.specs.WellTyped.{ParameterMode, Signature, TypeEnvironment, TypeMeanings, TypedParameter, bind_typed_parameters, by_place, by_value, bind_procedure, procedure_is_well_typed, typed_parameters}
-use Rattle.ob0_language_values.specs.Values.{FieldShapes, Members, Place, Shape, PathStep, Store, Value, Values, array_shape, at_field, at_index, boolean_shape, count_values, elements, integer_shape, members, next_field_shape, next_member, next_value, no_field_shape, no_member, no_value, number, record_shape, truth}
+use Rattle.ob0_language_values.specs.Values.{FieldShapes, Members, Place, Shape, PathStep, Store, Value, Values, array_shape, at_field, at_index, boolean_shape, value_count, elements, integer_shape, members, next_field_shape, next_member, next_value, no_field_shape, no_member, no_value, number, record_shape, truth}
 use Rattle.ob0_language_runs.specs.Runs.{RunEnvironment, Argument, ProcedureText, object_for_statements, place_argument, value_argument}
 
 -- States that a value has a type, including the types of the value's parts.
@@ -17,7 +18,7 @@ abbrev mutual
   pub HasShape : Value → Shape → Type 0
   HasShape (number n) integer_shape = Unit {0}
   HasShape (truth b) boolean_shape = Unit {0}
-  HasShape (elements vs) (array_shape k n s) = (count_values vs ≡ n) × EachElementHasShape vs s
+  HasShape (elements vs) (array_shape k n s) = (value_count vs ≡ n) × EachElementHasShape vs s
   HasShape (members j ms) (record_shape k fs) = (j ≡ k) × MembersHaveShapes ms fs
   HasShape _ _ = ⊥
 
@@ -101,9 +102,10 @@ ArgumentsMatchSignature typing (f ∷ fs) (value_argument v ∷ args) =
     (f.mode ≡ by_value) × HasShape v f.shape × ArgumentsMatchSignature typing fs args
 ArgumentsMatchSignature typing _ _ = ⊥
 
--- States that the object of the name `x` in an activation agrees with the object of `x` in the checked environment.
--- `checked` has the bindings of that environment that are older than the binding of `x`. A procedure must also be
--- well-typed, given these older bindings.
+-- States that the object of the name `x` in an activation agrees with the object of `x` in the
+-- checked environment. `checked` has the bindings of that environment that are older than the
+-- binding of `x`. A procedure's signature must have the modes and types of the parameters in its
+-- heading, and the procedure must be well-typed, both given these older bindings.
 abbrev pub RunBindingAgreesWithCheckedBinding : {N : Type 0}
     → Naming N
     → StoreTyping

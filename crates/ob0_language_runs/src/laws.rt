@@ -3,10 +3,10 @@
 //! replaced by the ordinal of its declaration.
 //!
 //! In the definition `run`, the store keeps every variable until the run ends. In
-//! `run_freeing_variables` (`specs/FreedVariables`), a call's variables are dropped when the call returns.
+//! `run_freeing_variables` (`specs/FreedVariables`), each call drops its variables when it returns.
 //! `dropping_variables_keeps_runs` states that both runs have the same result.
 //! `specs/TypeAgreement` defines when a value, a store, a place or an environment agrees with the
-//! types of a checked module. Throughout a run of a well-typed module all of them agree, so the run
+//! types of a checked module. In a run of a well-typed module all of them always agree, so the run
 //! doesn't get stuck.
 
 ghost use Rattle.ob0_language_runs.specs.Laws.{NumberingKeepsRuns, NumberedTreeDecidesRuns, RenamingToFreeNameKeepsRuns, DroppingVariablesKeepsRuns, RunsNeverGetStuck, InliningKeepsExecution};
@@ -43,8 +43,8 @@ pub fn runs_never_get_stuck()
     ensures { RunsNeverGetStuck }
 {}
 
-/// Proves that replacing uses of a constant by a factor with the constant's value leaves the
-/// execution of a statement unchanged.
+/// Proves that replacing uses of a constant by a factor leaves the execution of a statement
+/// unchanged. The factor must have the constant's value in every store.
 pub fn inlining_keeps_execution()
     ensures { InliningKeepsExecution }
 {}

@@ -1,5 +1,6 @@
--- The newest binding of an ordinal in two joined environments is its newest binding in the first one, or else in the
--- second. This is applied to the environments of parameters and of a procedure.
+-- The newest binding of an ordinal in two joined environments is the newest one in the first
+-- environment. If the first has none, it is the newest one in the second. This is applied to the
+-- environments of parameters and of a procedure.
 use Rattle.std.proofs.Common.{◌≡◌, ℕ, ◌+◌, Bool, true, false, cond, List, [], ◌∷◌, ◌++◌, take, Some, None, Option, refl, sym, ap, ◌∙◌, arith, length-append}
 use Rattle.std.proofs.Math.Seq.{take-append_seam}
 use Rattle.ob0_tree.specs.Tree.{Tree, block, declares_procedure, formals, maybe}

@@ -1,10 +1,10 @@
 -- A constant expression has the same value in a run as in the checker.
 use Rattle.std.proofs.Common.{◌≡◌, Bool, true, false, List, [], ◌∷◌, Some, None, Option, option_map, option_and_then, refl, ap, ◌∙◌, subst}
 use Rattle.ob0_tree.specs.Tree.{Tree, addend, adds, compares, designator, end, expression, factor, field, index, integer, items, more, multiplier, multiplies, negation, none, one, parenthesised, product, relates, selector, simple, sum, term}
-use Rattle.ob0_language_types.specs.Expressions.{Meanings, Object, a_constant, a_procedure, a_standard_procedure, a_type, a_variable, element_step, evaluate, evaluate_addends, evaluate_factor, evaluate_multipliers, evaluate_simple_expression, evaluate_term, evaluate_selectors, object_value}
+use Rattle.ob0_language_types.specs.Expressions.{Meanings, Object, a_constant, a_procedure, a_standard_procedure, a_type, a_variable, element_step, evaluate_expression, evaluate_addends, evaluate_factor, evaluate_multipliers, evaluate_simple_expression, evaluate_term, evaluate_selectors, object_value}
 use Rattle.ob0_language_types.specs.Laws.{ConstantsHaveSameValueInRunAndChecker}
 use Rattle.ob0_language_types.specs.Typing.{value_of_constant_object, constant_expression_value, meanings_in_constant_expressions, outcome_value, type_of_expression}
-use Rattle.ob0_language_values.specs.Values.{Outcome, Place, PathStep, Store, Value, add, add_operator_short_circuits, at_field, value_at_path, ends_run_with, succeeds_with, multiply, multiply_operator_short_circuits, negate, result_or_stuck, value_at_step, apply_relation, apply_sign, ◌>>=◌}
+use Rattle.ob0_language_values.specs.Values.{Outcome, Place, PathStep, Store, Value, apply_add_operator, add_operator_short_circuits, at_field, value_at_path, ends_run_with, succeeds_with, apply_multiply_operator, multiply_operator_short_circuits, apply_not, result_or_stuck, value_at_step, apply_relation, apply_sign, ◌>>=◌}
 
 pub then-gives : {A B : Type 0} (o : Outcome A) (next : A → Outcome B) (b : B) → o >>= next ≡ succeeds_with b → (a : A) × (o ≡ succeeds_with a) × (next a ≡ succeeds_with b)
 then-gives (succeeds_with a) next b h = (a, refl, h)
@@ -36,10 +36,10 @@ settled-held true x o o' y naming h = h
 settled-held false x o o' y naming h = naming y h
 
 mutual
-  unfolding evaluate
+  unfolding evaluate_expression
 
   pub evaluate-held : {N V P Q : Type 0} (checked : Meanings N V P) (active : Meanings N Place Q) (store : Store) → HasConstants checked active → (e : Tree N expression) (v : Value)
-      → evaluate {P = Unit {0}} (meanings_in_constant_expressions checked) [] e ≡ succeeds_with v → evaluate active store e ≡ succeeds_with v
+      → evaluate_expression {P = Unit {0}} (meanings_in_constant_expressions checked) [] e ≡ succeeds_with v → evaluate_expression active store e ≡ succeeds_with v
   evaluate-held checked active store has (compares a none) v h = evaluate_simple_expression-held checked active store has a v h
   evaluate-held checked active store has (compares a (one (relates r b))) v h =
       let (x, ex, h₁) = then-gives (evaluate_simple_expression {P = Unit {0}} (meanings_in_constant_expressions checked) [] a) (λ x. evaluate_simple_expression {P = Unit {0}} (meanings_in_constant_expressions checked) [] b >>= apply_relation r x) v h in
@@ -59,10 +59,10 @@ mutual
       → evaluate_addends {P = Unit {0}} (meanings_in_constant_expressions checked) [] x a ≡ succeeds_with v → evaluate_addends active store x a ≡ succeeds_with v
   evaluate_addends-held checked active store has x end v h = h
   evaluate_addends-held checked active store has x (more (adds o t) rest) v h =
-      let (y, ey, h₁) = then-gives (elim (add_operator_short_circuits o x) [ true ↦ succeeds_with x | false ↦ evaluate_term {P = Unit {0}} (meanings_in_constant_expressions checked) [] t >>= add o x ]) (λ y. evaluate_addends {P = Unit {0}} (meanings_in_constant_expressions checked) [] y rest) v h in
-      then-goes (elim (add_operator_short_circuits o x) [ true ↦ succeeds_with x | false ↦ evaluate_term active store t >>= add o x ]) (λ y. evaluate_addends active store y rest) y v
-      (settled-held (add_operator_short_circuits o x) x (evaluate_term {P = Unit {0}} (meanings_in_constant_expressions checked) [] t >>= add o x) (evaluate_term active store t >>= add o x) y
-      (λ z hz. let (w, ew, hw) = then-gives (evaluate_term {P = Unit {0}} (meanings_in_constant_expressions checked) [] t) (add o x) z hz in then-goes (evaluate_term active store t) (add o x) w z (evaluate_term-held checked active store has t w ew) hw) ey)
+      let (y, ey, h₁) = then-gives (elim (add_operator_short_circuits o x) [ true ↦ succeeds_with x | false ↦ evaluate_term {P = Unit {0}} (meanings_in_constant_expressions checked) [] t >>= apply_add_operator o x ]) (λ y. evaluate_addends {P = Unit {0}} (meanings_in_constant_expressions checked) [] y rest) v h in
+      then-goes (elim (add_operator_short_circuits o x) [ true ↦ succeeds_with x | false ↦ evaluate_term active store t >>= apply_add_operator o x ]) (λ y. evaluate_addends active store y rest) y v
+      (settled-held (add_operator_short_circuits o x) x (evaluate_term {P = Unit {0}} (meanings_in_constant_expressions checked) [] t >>= apply_add_operator o x) (evaluate_term active store t >>= apply_add_operator o x) y
+      (λ z hz. let (w, ew, hw) = then-gives (evaluate_term {P = Unit {0}} (meanings_in_constant_expressions checked) [] t) (apply_add_operator o x) z hz in then-goes (evaluate_term active store t) (apply_add_operator o x) w z (evaluate_term-held checked active store has t w ew) hw) ey)
       (evaluate_addends-held checked active store has y rest v h₁)
 
   pub evaluate_term-held : {N V P Q : Type 0} (checked : Meanings N V P) (active : Meanings N Place Q) (store : Store) → HasConstants checked active → (a : Tree N term) (v : Value)
@@ -76,10 +76,10 @@ mutual
       → evaluate_multipliers {P = Unit {0}} (meanings_in_constant_expressions checked) [] x a ≡ succeeds_with v → evaluate_multipliers active store x a ≡ succeeds_with v
   evaluate_multipliers-held checked active store has x end v h = h
   evaluate_multipliers-held checked active store has x (more (multiplies o f) rest) v h =
-      let (y, ey, h₁) = then-gives (elim (multiply_operator_short_circuits o x) [ true ↦ succeeds_with x | false ↦ evaluate_factor {P = Unit {0}} (meanings_in_constant_expressions checked) [] f >>= multiply o x ]) (λ y. evaluate_multipliers {P = Unit {0}} (meanings_in_constant_expressions checked) [] y rest) v h in
-      then-goes (elim (multiply_operator_short_circuits o x) [ true ↦ succeeds_with x | false ↦ evaluate_factor active store f >>= multiply o x ]) (λ y. evaluate_multipliers active store y rest) y v
-      (settled-held (multiply_operator_short_circuits o x) x (evaluate_factor {P = Unit {0}} (meanings_in_constant_expressions checked) [] f >>= multiply o x) (evaluate_factor active store f >>= multiply o x) y
-      (λ z hz. let (w, ew, hw) = then-gives (evaluate_factor {P = Unit {0}} (meanings_in_constant_expressions checked) [] f) (multiply o x) z hz in then-goes (evaluate_factor active store f) (multiply o x) w z (evaluate_factor-held checked active store has f w ew) hw) ey)
+      let (y, ey, h₁) = then-gives (elim (multiply_operator_short_circuits o x) [ true ↦ succeeds_with x | false ↦ evaluate_factor {P = Unit {0}} (meanings_in_constant_expressions checked) [] f >>= apply_multiply_operator o x ]) (λ y. evaluate_multipliers {P = Unit {0}} (meanings_in_constant_expressions checked) [] y rest) v h in
+      then-goes (elim (multiply_operator_short_circuits o x) [ true ↦ succeeds_with x | false ↦ evaluate_factor active store f >>= apply_multiply_operator o x ]) (λ y. evaluate_multipliers active store y rest) y v
+      (settled-held (multiply_operator_short_circuits o x) x (evaluate_factor {P = Unit {0}} (meanings_in_constant_expressions checked) [] f >>= apply_multiply_operator o x) (evaluate_factor active store f >>= apply_multiply_operator o x) y
+      (λ z hz. let (w, ew, hw) = then-gives (evaluate_factor {P = Unit {0}} (meanings_in_constant_expressions checked) [] f) (apply_multiply_operator o x) z hz in then-goes (evaluate_factor active store f) (apply_multiply_operator o x) w z (evaluate_factor-held checked active store has f w ew) hw) ey)
       (evaluate_multipliers-held checked active store has y rest v h₁)
 
   pub evaluate_factor-held : {N V P Q : Type 0} (checked : Meanings N V P) (active : Meanings N Place Q) (store : Store) → HasConstants checked active → (a : Tree N factor) (v : Value)
@@ -92,8 +92,8 @@ mutual
   evaluate_factor-held checked active store has (integer n) v h = h
   evaluate_factor-held checked active store has (parenthesised e) v h = evaluate-held checked active store has e v h
   evaluate_factor-held checked active store has (negation f) v h =
-      let (x, ex, h₁) = then-gives (evaluate_factor {P = Unit {0}} (meanings_in_constant_expressions checked) [] f) negate v h in
-      then-goes (evaluate_factor active store f) negate x v (evaluate_factor-held checked active store has f x ex) h₁
+      let (x, ex, h₁) = then-gives (evaluate_factor {P = Unit {0}} (meanings_in_constant_expressions checked) [] f) apply_not v h in
+      then-goes (evaluate_factor active store f) apply_not x v (evaluate_factor-held checked active store has f x ex) h₁
 
   pub follow-held : {N V P Q : Type 0} (checked : Meanings N V P) (active : Meanings N Place Q) (store : Store) → HasConstants checked active → (w : Value) (a : Tree N (items selector)) (steps : List PathStep)
       → evaluate_selectors {P = Unit {0}} (meanings_in_constant_expressions checked) [] w a ≡ succeeds_with steps → evaluate_selectors active store w a ≡ succeeds_with steps
@@ -105,11 +105,11 @@ mutual
       then-goes (result_or_stuck (value_at_step w (at_field (checked.written x)))) (λ u. evaluate_selectors active store u rest >>= (λ steps. succeeds_with (at_field (checked.written x) ∷ steps))) u steps eu
       (then-goes (evaluate_selectors active store u rest) (λ steps. succeeds_with (at_field (checked.written x) ∷ steps)) others steps (follow-held checked active store has u rest others em) h₂))
   follow-held checked active store has w (more (index e) rest) steps h =
-      let (i, ei, h₁) = then-gives (evaluate {P = Unit {0}} (meanings_in_constant_expressions checked) [] e) (λ i. element_step w i >>= (λ s. result_or_stuck (value_at_step w s) >>= (λ u. evaluate_selectors {P = Unit {0}} (meanings_in_constant_expressions checked) [] u rest >>= (λ steps. succeeds_with (s ∷ steps))))) steps h in
+      let (i, ei, h₁) = then-gives (evaluate_expression {P = Unit {0}} (meanings_in_constant_expressions checked) [] e) (λ i. element_step w i >>= (λ s. result_or_stuck (value_at_step w s) >>= (λ u. evaluate_selectors {P = Unit {0}} (meanings_in_constant_expressions checked) [] u rest >>= (λ steps. succeeds_with (s ∷ steps))))) steps h in
       let (s, es, h₂) = then-gives (element_step w i) (λ s. result_or_stuck (value_at_step w s) >>= (λ u. evaluate_selectors {P = Unit {0}} (meanings_in_constant_expressions checked) [] u rest >>= (λ steps. succeeds_with (s ∷ steps)))) steps h₁ in
       let (u, eu, h₃) = then-gives (result_or_stuck (value_at_step w s)) (λ u. evaluate_selectors {P = Unit {0}} (meanings_in_constant_expressions checked) [] u rest >>= (λ steps. succeeds_with (s ∷ steps))) steps h₂ in
       let (others, em, h₄) = then-gives (evaluate_selectors {P = Unit {0}} (meanings_in_constant_expressions checked) [] u rest) (λ steps. succeeds_with (s ∷ steps)) steps h₃ in
-      then-goes (evaluate active store e) (λ i. element_step w i >>= (λ s. result_or_stuck (value_at_step w s) >>= (λ u. evaluate_selectors active store u rest >>= (λ steps. succeeds_with (s ∷ steps))))) i steps (evaluate-held checked active store has e i ei)
+      then-goes (evaluate_expression active store e) (λ i. element_step w i >>= (λ s. result_or_stuck (value_at_step w s) >>= (λ u. evaluate_selectors active store u rest >>= (λ steps. succeeds_with (s ∷ steps))))) i steps (evaluate-held checked active store has e i ei)
       (then-goes (element_step w i) (λ s. result_or_stuck (value_at_step w s) >>= (λ u. evaluate_selectors active store u rest >>= (λ steps. succeeds_with (s ∷ steps)))) s steps es
       (then-goes (result_or_stuck (value_at_step w s)) (λ u. evaluate_selectors active store u rest >>= (λ steps. succeeds_with (s ∷ steps))) u steps eu
       (then-goes (evaluate_selectors active store u rest) (λ steps. succeeds_with (s ∷ steps)) others steps (follow-held checked active store has u rest others em) h₄)))
@@ -126,4 +126,4 @@ pub constants_hold-holds : ConstantsHaveSameValueInRunAndChecker
 unfolding constant_expression_value
 constants_hold-holds checked active store e v written has h =
     evaluate-held checked active store (written, has) e v
-    (given-value (evaluate {P = Unit {0}} (meanings_in_constant_expressions checked) [] e) v (some-then (type_of_expression {P = Unit {0}} (meanings_in_constant_expressions checked) e) (λ s. outcome_value (evaluate {P = Unit {0}} (meanings_in_constant_expressions checked) [] e)) v h).1)
+    (given-value (evaluate_expression {P = Unit {0}} (meanings_in_constant_expressions checked) [] e) v (some-then (type_of_expression {P = Unit {0}} (meanings_in_constant_expressions checked) e) (λ s. outcome_value (evaluate_expression {P = Unit {0}} (meanings_in_constant_expressions checked) [] e)) v h).1)

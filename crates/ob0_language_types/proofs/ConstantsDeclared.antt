@@ -1,7 +1,8 @@
--- The value of a constant, found by its ordinal, is the value in the binding of its declaration in the numbered tree.
--- `constant_value_in_module` visits names and counts ordinals; `declared_object` visits the numbered tree. Each lemma
--- is about a whole block or list of procedures, whose bindings have only ordinals of one range (`Binds`). From the
--- start of the range on, the value of each ordinal is the value that it is bound to (`AreValuesBetween`).
+-- The value of a constant, found by its ordinal, is the value in the binding of its declaration in
+-- the numbered tree. `constant_value_in_module` visits names and counts ordinals; `declared_object`
+-- visits the numbered tree. Each lemma is about a whole block or list of procedures, whose bindings
+-- have only ordinals of one range (`Binds`). For each ordinal at or above the start of the range,
+-- the constant's value is the value in the ordinal's binding (`AreValuesBetween`).
 use Rattle.std.proofs.Common.{◌≡◌, ℕ, suc, ◌+◌, ◌<◌, ◌≤◌, ◌==◌, Bool, true, false, cond, if◌then◌else◌, nat_lt, ◌&&◌, List, [], ◌∷◌, ◌++◌, map, Some, None, Option, option_map, option_and_then, refl, sym, ap, ◌∙◌, subst, subst₂, append_assoc, arith, le_refl, le_of_lt, lit<, eq-eqb, eqb-true, true≢false}
 use Rattle.std.proofs.lemmas.Bool.{and_parts, le-ltb, lt-ltb, ltb-false, ltb-true, ne_eqb}
 use Rattle.std.proofs.lemmas.List.{append-nil}

@@ -1,7 +1,8 @@
--- In the environments in which statements are checked, names are bound to the objects of their declarations. `Has k n
--- all xs` states that `all` and `xs` bind the ordinals from k to n - 1 in the same way. `Includes all env` states that
--- `all` contains the bindings of `env`. Suppose that Q holds for each environment whose bindings are included in the
--- module's bindings. Then Q holds wherever procedures and statements of the module are checked (`module-has`).
+-- In the environments in which statements are checked, names are bound to the objects of their
+-- declarations. `Has k n all xs` states that `all` and `xs` bind the ordinals from k to n - 1 in
+-- the same way. `Includes all env` states that `all` contains the bindings of `env`. Suppose that Q
+-- holds for each environment whose bindings are included in the module's bindings. Then Q holds for
+-- each environment in which a procedure or the statements of a block are checked (`module-has`).
 use Rattle.std.proofs.Common.{◌≡◌, ℕ, suc, ◌+◌, ◌<◌, ◌≤◌, Bool, true, false, nat_lt, List, [], ◌∷◌, ◌++◌, All, Some, None, refl, sym, ap, ◌∙◌, subst, arith, le_refl, le_of_lt, Option}
 use Rattle.std.proofs.lemmas.Bool.{ltb-false, ltb-true}
 use Rattle.std.proofs.lemmas.List.{append-nil}

@@ -1,5 +1,5 @@
--- Replacing uses of a constant by its literal leaves the values of constant expressions and the types that texts denote
--- unchanged.
+-- Replacing uses of a constant by its literal leaves the values of constant expressions and the
+-- types that written types denote unchanged.
 use Rattle.std.proofs.Common.{List, Some, [], ap, length, map, option_and_then, option_map, refl, suc, ℕ, ◌+◌, ◌∙◌, ◌∷◌, ◌≡◌}
 use Rattle.ob0_tree.specs.Tree.{Tree, array_type, end, expression, factor, fields, fields_after_semicolon, items, more, named_type, no_fields, occurrences, record_type, some_fields, semicolon_then_fields, written_type}
 use Rattle.ob0_language_names.specs.Inlining.{OccurrenceSet, inline_in_tree}
@@ -8,7 +8,7 @@ use Rattle.ob0_language_names.specs.BlockParts.{names_in_list}
 use Rattle.ob0_language_values.specs.Values.{FieldShapes, Place, Shape, Value, array_shape, succeeds_with, record_shape}
 use Rattle.ob0_language_types.specs.Expressions.{Meanings, a_constant, evaluate_factor}
 use Rattle.ob0_language_types.specs.Laws.{EachUseSatisfies}
-use Rattle.ob0_language_types.specs.Typing.{array_length_from_value, value_of_constant_object, constant_expression_value, meanings_in_constant_expressions, constructor_count, denoted_type, denoted_group_fields, denoted_further_fields, outcome_value, group_constructor_count, later_groups_constructor_count, type_of_factor, value_type, prepend_fields, type_within_limits, ◌>>=◌}
+use Rattle.ob0_language_types.specs.Typing.{array_length_from_value, value_of_constant_object, constant_expression_value, meanings_in_constant_expressions, constructor_count, denoted_type, denoted_group_fields, denoted_further_fields, outcome_value, group_constructor_count, later_groups_constructor_count, type_of_factor, value_type, prepend_fields, type_if_within_limits, ◌>>=◌}
 use Rattle.ob0_language_types.proofs.Inlined.{evaluate-inlined, uses-split}
 use Rattle.ob0_language_types.proofs.InlinedTypes.{type_of_expression-inlined}
 
@@ -55,11 +55,11 @@ mutual
   denoted_type-written meaning uses v w h k j (named_type x) u = refl
   denoted_type-written meaning uses v w h k j (array_type e t) u =
       let s = uses-split uses (NamesConstant meaning w) k (occurrences e) (occurrences t) u in
-      λ i. constant_expression_value-written meaning uses v w h k e s.0 i >>= (λ z. array_length_from_value z >>= (λ n. denoted_type-written meaning uses v w h (k + length (occurrences e)) (suc j) t s.1 i >>= (λ s. type_within_limits (array_shape j n s))))
+      λ i. constant_expression_value-written meaning uses v w h k e s.0 i >>= (λ z. array_length_from_value z >>= (λ n. denoted_type-written meaning uses v w h (k + length (occurrences e)) (suc j) t s.1 i >>= (λ s. type_if_within_limits (array_shape j n s))))
   denoted_type-written meaning uses v w h k j (record_type g rest) u =
       let s = uses-split uses (NamesConstant meaning w) k (occurrences g) (occurrences rest) u in
       λ i. ((λ m. denoted_further_fields meaning (suc j + group_constructor_count-inlined uses v k g m) (inline_in_tree uses v (k + length (occurrences g)) rest)) ∙ denoted_further_fields-written meaning uses v w h (k + length (occurrences g)) (suc j + group_constructor_count g) rest s.1) i
-      >>= (λ later. denoted_group_fields-written meaning uses v w h k (suc j) later g s.0 i >>= (λ fs. type_within_limits (record_shape j fs)))
+      >>= (λ later. denoted_group_fields-written meaning uses v w h k (suc j) later g s.0 i >>= (λ fs. type_if_within_limits (record_shape j fs)))
 
   pub denoted_group_fields-written : {V P : Type 0} (meaning : Meanings Name V P) (uses : OccurrenceSet) (v : Tree Name factor) (w : Value) → ConstantWritten meaning v w → (k j : ℕ) (later : FieldShapes) (g : Tree Name fields) → EachUseSatisfies uses (NamesConstant meaning w) k (occurrences g)
       → denoted_group_fields meaning j later (inline_in_tree uses v k g) ≡ denoted_group_fields meaning j later g

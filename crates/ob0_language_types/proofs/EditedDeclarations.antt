@@ -1,4 +1,5 @@
--- After an edit, a block's constants and types have the same bindings as before, except a removed one.
+-- After an edit, a block's constants and types have the same bindings as before, except a removed
+-- constant.
 use Rattle.std.proofs.Common.{Bool, None, Option, Some, ap, arith, eq-eqb, eqb-true, false, if◌then◌else◌, le_refl, length, ne_eqb, option_and_then, refl, subst, subst₂, suc, sym, true, ℕ, ◌+◌, ◌<◌, ◌==◌, ◌∙◌, ◌∷◌, ◌≡◌, ◌≤◌}
 use Rattle.ob0_tree.specs.Tree.{Tree, constant, declares_constant, declares_type, end, expression, items, more, occurrences, type_definition}
 use Rattle.ob0_language_names.specs.Names.{Name, naming_by_spelling}

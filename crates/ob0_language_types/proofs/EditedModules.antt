@@ -1,4 +1,5 @@
--- An edited module is well-typed, because the facts that are known about the edit suffice for each part of the module.
+-- An edited module is well-typed if the original one is, because the required facts about the edit
+-- hold for each part of the module.
 use Rattle.std.proofs.Common.{IsTrue, List, None, Option, Some, [], add-zero, ap, arith, codes, false, if◌then◌else◌, le_refl, lit<, ltb-false, nat_lt, option_and_then, refl, slice_get, subst, suc, sym, true, true≢false, zero-add, ℕ, ◌+◌, ◌<◌, ◌∙◌, ◌∷◌, ◌≡◌, ◌≢◌, ◌≤◌}
 use Rattle.ob0_tree.specs.Tree.{Tree, factor, forms_module, module_text, occurrences}
 use Rattle.ob0_language_names.specs.Inlining.{OccurrenceSet, inline_in_tree}

@@ -1,5 +1,5 @@
--- The parts of an edited block: the bindings of its names, the value of its constant, and its number of words ARRAY and
--- RECORD.
+-- Facts about the parts of an edited block: the bindings of its names, the value of the inlined
+-- constant, and its number of words ARRAY and RECORD.
 use Rattle.std.proofs.Common.{List, None, Option, Some, [], ap, arith, if◌then◌else◌, le-ltb, le_refl, le_trans, length, lt-ltb, nat_lt, option_and_then, option_map, refl, subst, subst₂, suc, sym, ℕ, ◌++◌, ◌+◌, ◌∙◌, ◌∷◌, ◌≡◌, ◌≤◌}
 use Rattle.ob0_tree.specs.Tree.{Tree, block, constants, declares, declares_const_section, declares_procedure, declares_type, declares_type_section, declares_variable, declares_var_section, end, formals, section_after_semicolon, forms_block, item, items, maybe, more, no_formals, none, occurrences, one, procedure, section, some_formals, semicolon_then_section, type_definition, type_definitions, value_section, variable, variable_section, variables}
 use Rattle.ob0_language_names.specs.Names.{Name, naming_by_spelling}

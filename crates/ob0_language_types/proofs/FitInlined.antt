@@ -1,4 +1,5 @@
--- Replacing uses of a constant by its literal leaves a statement well-typed exactly if it was.
+-- After uses of a constant are replaced by its literal, a statement is well-typed exactly if it was
+-- before.
 use Rattle.std.proofs.Common.{List, None, Option, Some, [], ap, false, if◌then◌else◌, length, refl, suc, sym, true, ℕ, ◌&&◌, ◌++◌, ◌+◌, ◌∙◌, ◌∷◌, ◌≡◌}
 use Rattle.ob0_tree.specs.Tree.{Tree, addend, arguments, assigns, branches, calls, compares, comparison, designator, else_branch, else_part, elsif_branch, elsif_part, empty, end, expression, factor, argument_after_comma, statement_after_semicolon, integer, item, items, maybe, more, multiplier, negation, no_arguments, none, occurrences, one, parenthesised, product, repeat_loop, runs, selector, sequence, some_arguments, statement, sum, comma_then_argument, semicolon_then_statement, while_loop}
 use Rattle.ob0_language_names.specs.Inlining.{OccurrenceSet, inline_in_tree}

@@ -1,5 +1,5 @@
--- A statement in which names are mapped is well-typed exactly if the original statement is, with the meanings of the
--- new names.
+-- A statement in which names are mapped is well-typed, with the meanings of the new names, exactly
+-- if the original statement is.
 use Rattle.std.proofs.Common.{◌≡◌, ◌&&◌, List, [], ◌∷◌, map, Some, None, Option, option_map, refl, ap, ◌∙◌}
 use Rattle.ob0_tree.specs.Tree.{Tree, arguments, assigns, branches, calls, else_branch, else_part, elsif_branch, elsif_part, empty, end, expression, statement_after_semicolon, items, maybe, more, none, one, repeat_loop, runs, selector, sequence, statement, semicolon_then_statement, while_loop}
 use Rattle.ob0_language_names.specs.MappedNames.{map_names}

@@ -3,7 +3,7 @@ use Rattle.std.proofs.Common.{List, Some, [], ap, arith, codes, eq-eqb, false, i
 use Rattle.ob0_tree.specs.Tree.{Sort, Tree, adds, compares, end, factor, integer, forms_module, module_text, more, none, occurrences, parenthesised, product, sum}
 use Rattle.ob0_language_names.specs.Inlining.{OccurrenceSet, occurrences_bound_to_ordinal}
 use Rattle.ob0_language_names.specs.Names.{Label, Name, naming_by_spelling}
-use Rattle.ob0_language_names.specs.Occurrences.{bindings, ordinal_bound_at_occurrence, label_ordinal}
+use Rattle.ob0_language_names.specs.Occurrences.{labels_of_occurrences, ordinal_bound_at_occurrence, label_ordinal}
 use Rattle.ob0_language_names.specs.BlockParts.{module_block}
 use Rattle.ob0_language_names.specs.OccurrenceLookup.{naming_that_looks_up_one_name}
 use Rattle.ob0_language_names.proofs.EditedTrees.{Edit, inline-nothing, leaf, no_uses, writing}
@@ -91,7 +91,7 @@ all_kept v d scope (x ∷ xs) = (λ e. absurd (true≢false (sym e)), all_kept v
 abbrev pub Nothing : ℕ → Label → Type 0
 Nothing j l = Unit {0}
 
-bound-exactly : (m : Tree Name module_text) (d i : ℕ) (l : Label) → slice_get (bindings m) i ≡ Some l → IsUseOf (occurrences_bound_to_ordinal m d) d i l
+bound-exactly : (m : Tree Name module_text) (d i : ℕ) (l : Label) → slice_get (labels_of_occurrences m) i ≡ Some l → IsUseOf (occurrences_bound_to_ordinal m d) d i l
 bound-exactly m d i l e =
     let bound : ordinal_bound_at_occurrence m i ≡ label_ordinal l = ap (option_and_then label_ordinal) e in
     (λ u. sym bound ∙ same_ordinal-true (ordinal_bound_at_occurrence m i) d u, λ k. ap (λ o. same_ordinal o d) (bound ∙ k) ∙ eq-eqb d d refl)

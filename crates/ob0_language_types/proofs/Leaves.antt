@@ -1,6 +1,7 @@
--- Edited expressions and types mean the same in the environment after the edit as the original ones before. Two trees
--- mean the same if their occurrences mean the same. To prove this, each name is tagged with its meaning (`Tag`) and the
--- lemmas of naturality are used. So no induction over expressions or statements is needed.
+-- An edited expression or type means the same in the environment after the edit as the original one
+-- in the environment before. Two trees mean the same if their occurrences mean the same. To prove
+-- this, each name is tagged with its meaning (`Tag`) and the lemmas of naturality are used. So no
+-- induction over expressions or statements is needed.
 use Rattle.std.proofs.Common.{Bool, List, None, Option, Some, [], ap, codes, eqb-true, false, option_map, refl, suc, sym, true, true≢false, ℕ, ⊎_elim, ◌∙◌, ◌∷◌, ◌≡◌, ◌≤◌}
 use Rattle.ob0_tree.specs.Tree.{Tree, expression, occurrences, written_type}
 use Rattle.ob0_language_names.specs.MappedNames.{map_names}

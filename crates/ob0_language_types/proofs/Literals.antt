@@ -5,7 +5,7 @@ use Rattle.ob0_tree.specs.Tree.{Tree, adds, compares, end, factor, integer, more
 use Rattle.ob0_language_names.specs.Names.{Name}
 use Rattle.ob0_language_values.specs.Values.{Overflow, Place, Shape, Store, Value, value_at_path, elements, ends_run_with, fits_in_32_bits, succeeds_with, integer_shape, members, number, result_or_stuck, truth, ◌>>=◌}
 use Rattle.ob0_language_types.specs.EditLaws.{Is32BitScalar}
-use Rattle.ob0_language_types.specs.Expressions.{Meanings, a_constant, evaluate, evaluate_factor, object_value}
+use Rattle.ob0_language_types.specs.Expressions.{Meanings, a_constant, evaluate_expression, evaluate_factor, object_value}
 use Rattle.ob0_language_types.specs.Typing.{type_of_variable_or_constant, type_of_expression, type_of_factor, value_type}
 use Rattle.ob0_language_types.specs.ValueLiterals.{number_literal, value_literal}
 use Rattle.ob0_tree.specs.declared.tree.Sign.TheVariants as sign
@@ -21,13 +21,13 @@ IsSeen meaning (truth false) = meaning.object_for (codes "FALSE") ≡ Some (a_co
 IsSeen meaning _ = Unit {0}
 
 pub least-has_value : {P : Type 0} (meaning : Meanings Name Place P) (store : Store) (n : ℕ) → nat_lt n 2147483647 ≡ false → fits_in_32_bits (negsuc n) ≡ true → evaluate_factor meaning store (number_literal (negsuc n)) ≡ succeeds_with (number (negsuc n))
-unfolding evaluate
+unfolding evaluate_expression
 least-has_value meaning store n e h =
     let at : n ≡ 2147483647 = omega (arith, ltb-false n 2147483647 e, ltb-true n 2147483648 h) in
     subst (λ n. evaluate_factor meaning store (number_literal (negsuc n)) ≡ succeeds_with (number (negsuc n))) (sym at) refl
 
 pub literal-has_value : {P : Type 0} (meaning : Meanings Name Place P) (store : Store) (v : Tree Name factor) (w : Value) → value_literal w ≡ Some v → Is32BitScalar w → IsSeen meaning w → evaluate_factor meaning store v ≡ succeeds_with w
-unfolding evaluate
+unfolding evaluate_expression
 literal-has_value meaning store v (number (pos n)) e h seen = subst (λ v. evaluate_factor meaning store v ≡ succeeds_with (number (pos n))) (some_inverse e) refl
 literal-has_value meaning store v (number (negsuc n)) e h seen =
     subst (λ v. evaluate_factor meaning store v ≡ succeeds_with (number (negsuc n))) (some_inverse e)

@@ -3,18 +3,18 @@ use Rattle.std.proofs.Common.{◌≡◌, true, false, ◌∷◌, ◌++◌, map, 
 use Rattle.ob0_tree.specs.Tree.{Tree, addend, adds, arguments, compares, designator, end, expression, factor, field, argument_after_comma, index, integer, items, maybe, more, multiplier, multiplies, negation, no_arguments, none, one, parenthesised, product, relates, selector, simple, some_arguments, sum, term, comma_then_argument}
 use Rattle.ob0_language_names.specs.MappedNames.{map_names}
 use Rattle.ob0_language_types.specs.Arguments.{call_arguments, further_arguments}
-use Rattle.ob0_language_types.specs.Expressions.{Meanings, designated_place, element_step, evaluate, evaluate_addends, evaluate_factor, evaluate_multipliers, evaluate_simple_expression, evaluate_term, evaluate_selectors, object_place, object_value}
+use Rattle.ob0_language_types.specs.Expressions.{Meanings, designated_place, element_step, evaluate_expression, evaluate_addends, evaluate_factor, evaluate_multipliers, evaluate_simple_expression, evaluate_term, evaluate_selectors, object_place, object_value}
 use Rattle.ob0_language_types.specs.Typing.{lone_designator}
-use Rattle.ob0_language_values.specs.Values.{Place, Store, Value, add, add_operator_short_circuits, at_field, value_at_path, succeeds_with, multiply, multiply_operator_short_circuits, negate, result_or_stuck, value_at_step, read_place, apply_relation, apply_sign, ◌>>=◌}
+use Rattle.ob0_language_values.specs.Values.{Place, Store, Value, apply_add_operator, add_operator_short_circuits, at_field, value_at_path, succeeds_with, apply_multiply_operator, multiply_operator_short_circuits, apply_not, result_or_stuck, value_at_step, read_place, apply_relation, apply_sign, ◌>>=◌}
 
 -- returns the meanings of names, each looked up under its new name
 abbrev pub through : {N M V P : Type 0} → (N → M) → (N → M) → Meanings M V P → Meanings N V P
 through f h meaning = record { object_for = λ x. meaning.object_for (f x); written = λ x. meaning.written (h x) }
 
 mutual
-  unfolding evaluate
+  unfolding evaluate_expression
 
-  pub evaluate-map : {N M P : Type 0} (f h : N → M) (meaning : Meanings M Place P) (store : Store) (e : Tree N expression) → evaluate meaning store (map_names f h e) ≡ evaluate (through f h meaning) store e
+  pub evaluate-map : {N M P : Type 0} (f h : N → M) (meaning : Meanings M Place P) (store : Store) (e : Tree N expression) → evaluate_expression meaning store (map_names f h e) ≡ evaluate_expression (through f h meaning) store e
   evaluate-map f h meaning store (compares a none) = evaluate_simple_expression-map f h meaning store a
   evaluate-map f h meaning store (compares a (one (relates r b))) = λ i.
       evaluate_simple_expression-map f h meaning store a i >>= (λ x. evaluate_simple_expression-map f h meaning store b i >>= (λ y. apply_relation r x y))
@@ -26,7 +26,7 @@ mutual
   pub evaluate_addends-map : {N M P : Type 0} (f h : N → M) (meaning : Meanings M Place P) (store : Store) (x : Value) (rest : Tree N (items addend)) → evaluate_addends meaning store x (map_names f h rest) ≡ evaluate_addends (through f h meaning) store x rest
   evaluate_addends-map f h meaning store x end = refl
   evaluate_addends-map f h meaning store x (more (adds o t) rest) = λ i.
-      (elim (add_operator_short_circuits o x) [ true ↦ succeeds_with x | false ↦ evaluate_term-map f h meaning store t i >>= add o x ])
+      (elim (add_operator_short_circuits o x) [ true ↦ succeeds_with x | false ↦ evaluate_term-map f h meaning store t i >>= apply_add_operator o x ])
       >>= (λ y. evaluate_addends-map f h meaning store y rest i)
 
   pub evaluate_term-map : {N M P : Type 0} (f h : N → M) (meaning : Meanings M Place P) (store : Store) (t : Tree N term) → evaluate_term meaning store (map_names f h t) ≡ evaluate_term (through f h meaning) store t
@@ -36,7 +36,7 @@ mutual
   pub evaluate_multipliers-map : {N M P : Type 0} (f h : N → M) (meaning : Meanings M Place P) (store : Store) (x : Value) (rest : Tree N (items multiplier)) → evaluate_multipliers meaning store x (map_names f h rest) ≡ evaluate_multipliers (through f h meaning) store x rest
   evaluate_multipliers-map f h meaning store x end = refl
   evaluate_multipliers-map f h meaning store x (more (multiplies o a) rest) = λ i.
-      (elim (multiply_operator_short_circuits o x) [ true ↦ succeeds_with x | false ↦ evaluate_factor-map f h meaning store a i >>= multiply o x ])
+      (elim (multiply_operator_short_circuits o x) [ true ↦ succeeds_with x | false ↦ evaluate_factor-map f h meaning store a i >>= apply_multiply_operator o x ])
       >>= (λ y. evaluate_multipliers-map f h meaning store y rest i)
 
   pub evaluate_factor-map : {N M P : Type 0} (f h : N → M) (meaning : Meanings M Place P) (store : Store) (a : Tree N factor) → evaluate_factor meaning store (map_names f h a) ≡ evaluate_factor (through f h meaning) store a
@@ -44,7 +44,7 @@ mutual
       object_value store (meaning.object_for (f x)) >>= (λ v. follow-map f h meaning store v path i >>= (λ steps. result_or_stuck (value_at_path steps v)))
   evaluate_factor-map f h meaning store (integer n) = refl
   evaluate_factor-map f h meaning store (parenthesised e) = evaluate-map f h meaning store e
-  evaluate_factor-map f h meaning store (negation a) = λ i. evaluate_factor-map f h meaning store a i >>= negate
+  evaluate_factor-map f h meaning store (negation a) = λ i. evaluate_factor-map f h meaning store a i >>= apply_not
 
   pub follow-map : {N M P : Type 0} (f h : N → M) (meaning : Meanings M Place P) (store : Store) (v : Value) (path : Tree N (items selector)) → evaluate_selectors meaning store v (map_names f h path) ≡ evaluate_selectors (through f h meaning) store v path
   follow-map f h meaning store v end = refl

@@ -4,8 +4,8 @@ use Rattle.std.proofs.Common.{◌≡◌, ℕ, suc, ◌+◌, [], ◌∷◌, map, 
 use Rattle.ob0_tree.specs.Tree.{Tree, addend, adds, array_type, compares, designator, end, expression, factor, field, fields, fields_after_semicolon, name_after_comma, index, integer, items, listed, more, multiplier, multiplies, named_type, names, negation, no_fields, none, one, parenthesised, product, record_type, relates, selector, simple, some_fields, sum, term, semicolon_then_fields, comma_then_name, written_type}
 use Rattle.ob0_language_names.specs.MappedNames.{map_names}
 use Rattle.ob0_language_names.specs.BlockParts.{names_after_first, names_in_list}
-use Rattle.ob0_language_types.specs.Expressions.{Meanings, a_constant, evaluate}
-use Rattle.ob0_language_types.specs.Typing.{addition_type, array_length_from_value, negation_type, value_of_constant_object, constant_expression_value, meanings_in_constant_expressions, constructor_count, denoted_type, denoted_group_fields, denoted_further_fields, element_type, field_type, outcome_value, group_constructor_count, later_groups_constructor_count, multiplication_type, type_of_variable_or_constant, relation_type, signed_operand_type, type_after_selectors, type_of_expression, type_after_addends, type_of_factor, type_after_multipliers, type_of_type_object, type_of_simple_expression, type_of_term, prepend_fields, type_within_limits, ◌>>=◌}
+use Rattle.ob0_language_types.specs.Expressions.{Meanings, a_constant, evaluate_expression}
+use Rattle.ob0_language_types.specs.Typing.{addition_type, array_length_from_value, negation_type, value_of_constant_object, constant_expression_value, meanings_in_constant_expressions, constructor_count, denoted_type, denoted_group_fields, denoted_further_fields, element_type, field_type, outcome_value, group_constructor_count, later_groups_constructor_count, multiplication_type, type_of_variable_or_constant, relation_type, signed_operand_type, type_after_selectors, type_of_expression, type_after_addends, type_of_factor, type_after_multipliers, type_of_type_object, type_of_simple_expression, type_of_term, prepend_fields, type_if_within_limits, ◌>>=◌}
 use Rattle.ob0_language_values.specs.Values.{FieldShapes, Shape, array_shape, record_shape}
 use Rattle.ob0_language_types.proofs.Naturality.{evaluate-map, through}
 
@@ -53,7 +53,7 @@ pub constant_expression_value-map : {N M V P W Q : Type 0} (f h : N → M) (ther
 unfolding constant_expression_value
 constant_expression_value-map f h there here e same_constants same_written = λ i.
     (type_of_expression-map {P = Unit {0}} f h (meanings_in_constant_expressions there) e ∙ (λ j. type_of_expression {P = Unit {0}} (record { object_for = λ x. option_map a_constant (same_constants x j); written = λ x. same_written x j }) e)) i
-    >>= (λ s. outcome_value ((evaluate-map {P = Unit {0}} f h (meanings_in_constant_expressions there) [] e ∙ (λ j. evaluate {P = Unit {0}} (record { object_for = λ x. option_map a_constant (same_constants x j); written = λ x. same_written x j }) [] e)) i))
+    >>= (λ s. outcome_value ((evaluate-map {P = Unit {0}} f h (meanings_in_constant_expressions there) [] e ∙ (λ j. evaluate_expression {P = Unit {0}} (record { object_for = λ x. option_map a_constant (same_constants x j); written = λ x. same_written x j }) [] e)) i))
 
 mutual
   pub constructor_count-map : {N M : Type 0} (f h : N → M) (t : Tree N written_type) → constructor_count (map_names f h t) ≡ constructor_count t
@@ -87,10 +87,10 @@ mutual
       → (k : ℕ) (t : Tree N written_type) → denoted_type there k (map_names f h t) ≡ denoted_type here k t
   denoted_type-map f h there here hc ht hw k (named_type x) = ht x
   denoted_type-map f h there here hc ht hw k (array_type e t) = λ i.
-      constant_expression_value-map f h there here e hc hw i >>= (λ v. array_length_from_value v >>= (λ n. denoted_type-map f h there here hc ht hw (suc k) t i >>= (λ s. type_within_limits (array_shape k n s))))
+      constant_expression_value-map f h there here e hc hw i >>= (λ v. array_length_from_value v >>= (λ n. denoted_type-map f h there here hc ht hw (suc k) t i >>= (λ s. type_if_within_limits (array_shape k n s))))
   denoted_type-map f h there here hc ht hw k (record_type g rest) = λ i.
       ((λ j. denoted_further_fields there (suc k + group_constructor_count-map f h g j) (map_names f h rest)) ∙ denoted_further_fields-map f h there here hc ht hw (suc k + group_constructor_count g) rest) i
-      >>= (λ later. denoted_group_fields-map f h there here hc ht hw (suc k) later g i >>= (λ fs. type_within_limits (record_shape k fs)))
+      >>= (λ later. denoted_group_fields-map f h there here hc ht hw (suc k) later g i >>= (λ fs. type_if_within_limits (record_shape k fs)))
 
   pub denoted_group_fields-map : {N M V P W Q : Type 0} (f h : N → M) (there : Meanings M V P) (here : Meanings N W Q)
       → ((x : N) → value_of_constant_object (there.object_for (f x)) ≡ value_of_constant_object (here.object_for x)) → ((x : N) → type_of_type_object (there.object_for (f x)) ≡ type_of_type_object (here.object_for x)) → ((x : N) → there.written (h x) ≡ here.written x)

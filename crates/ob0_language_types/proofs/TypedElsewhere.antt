@@ -7,8 +7,8 @@ use Rattle.ob0_language_names.specs.BlockParts.{names_in_list}
 use Rattle.ob0_language_names.proofs.InliningLeavesNoUse.{NoneOf, none-of-join}
 use Rattle.ob0_language_values.specs.Values.{FieldShapes, Shape, Value, array_shape, boolean_shape, elements, integer_shape, members, number, record_shape, truth}
 use Rattle.ob0_language_types.specs.Arguments.{call_arguments, further_arguments}
-use Rattle.ob0_language_types.specs.Expressions.{Meanings, Object, a_constant, a_procedure, a_standard_procedure, a_type, a_variable, evaluate}
-use Rattle.ob0_language_types.specs.Typing.{addition_type, array_length_from_value, negation_type, value_of_constant_object, constant_expression_value, meanings_in_constant_expressions, denoted_type, denoted_group_fields, denoted_further_fields, lone_designator, element_type, field_type, outcome_value, group_constructor_count, multiplication_type, type_of_variable_or_constant, relation_type, signed_operand_type, type_after_selectors, type_of_expression, type_after_addends, type_of_factor, type_after_multipliers, type_of_type_object, type_of_simple_expression, type_of_term, value_type, prepend_fields, type_within_limits}
+use Rattle.ob0_language_types.specs.Expressions.{Meanings, Object, a_constant, a_procedure, a_standard_procedure, a_type, a_variable, evaluate_expression}
+use Rattle.ob0_language_types.specs.Typing.{addition_type, array_length_from_value, negation_type, value_of_constant_object, constant_expression_value, meanings_in_constant_expressions, denoted_type, denoted_group_fields, denoted_further_fields, lone_designator, element_type, field_type, outcome_value, group_constructor_count, multiplication_type, type_of_variable_or_constant, relation_type, signed_operand_type, type_after_selectors, type_of_expression, type_after_addends, type_of_factor, type_after_multipliers, type_of_type_object, type_of_simple_expression, type_of_term, value_type, prepend_fields, type_if_within_limits}
 use Rattle.ob0_language_types.specs.WellTyped.{FormalParameter, ParameterMode, Signature, TypeMeanings, same_known_shape, argument_matches_parameter, arguments_match_signature, by_place, by_value, call_is_well_typed, condition_is_boolean, else_is_well_typed, elsifs_are_well_typed, sequence_is_well_typed, signature_of, statement_is_well_typed, further_statements_are_well_typed, assignable_type}
 use Rattle.std.proofs.lemmas.Bool.{and_parts}
 
@@ -97,7 +97,7 @@ mutual
 pub constant_expression_value-elsewhere : {V P : Type 0} (K : Name → Type 0) (meaning : Meanings Name V P) (w : Value) → AreConstant K meaning w → (e : Tree Name expression) (v : Value) → constant_expression_value meaning e ≡ Some v → NoneOf K (non_factor_occurrences e)
 unfolding constant_expression_value
 constant_expression_value-elsewhere K meaning w c e v h =
-    let (s, es, h₁) = then_some (type_of_expression {P = Unit {0}} (meanings_in_constant_expressions meaning) e) (λ s. outcome_value (evaluate {P = Unit {0}} (meanings_in_constant_expressions meaning) [] e)) v h in
+    let (s, es, h₁) = then_some (type_of_expression {P = Unit {0}} (meanings_in_constant_expressions meaning) e) (λ s. outcome_value (evaluate_expression {P = Unit {0}} (meanings_in_constant_expressions meaning) [] e)) v h in
     type_of_expression-elsewhere {P = Unit {0}} K (meanings_in_constant_expressions meaning) w (λ x k. ap (λ o. option_map a_constant (value_of_constant_object o)) (c x k)) e s es
 
 mutual
@@ -106,13 +106,13 @@ mutual
   pub denoted_type-elsewhere : {V P : Type 0} (K : Name → Type 0) (meaning : Meanings Name V P) (w : Value) → AreConstant K meaning w → (j : ℕ) (t : Tree Name written_type) (s : Shape) → denoted_type meaning j t ≡ Some s → NoneOf K (non_factor_occurrences t)
   denoted_type-elsewhere K meaning w c j (named_type x) s h = (λ k. let e : None ≡ Some s = sym (ap type_of_type_object (c x k)) ∙ h in absurd (cc), tt)
   denoted_type-elsewhere K meaning w c j (array_type e t) s h =
-      let (v, ev, h₁) = then_some (constant_expression_value meaning e) (λ v. option_and_then (λ n. option_and_then (λ s. type_within_limits (array_shape j n s)) (denoted_type meaning (suc j) t)) (array_length_from_value v)) s h in
-      let (n, en, h₂) = then_some (array_length_from_value v) (λ n. option_and_then (λ s. type_within_limits (array_shape j n s)) (denoted_type meaning (suc j) t)) s h₁ in
-      let (u, eu, h₃) = then_some (denoted_type meaning (suc j) t) (λ s. type_within_limits (array_shape j n s)) s h₂ in
+      let (v, ev, h₁) = then_some (constant_expression_value meaning e) (λ v. option_and_then (λ n. option_and_then (λ s. type_if_within_limits (array_shape j n s)) (denoted_type meaning (suc j) t)) (array_length_from_value v)) s h in
+      let (n, en, h₂) = then_some (array_length_from_value v) (λ n. option_and_then (λ s. type_if_within_limits (array_shape j n s)) (denoted_type meaning (suc j) t)) s h₁ in
+      let (u, eu, h₃) = then_some (denoted_type meaning (suc j) t) (λ s. type_if_within_limits (array_shape j n s)) s h₂ in
       none-of-join K (non_factor_occurrences e) (non_factor_occurrences t) (constant_expression_value-elsewhere K meaning w c e v ev) (denoted_type-elsewhere K meaning w c (suc j) t u eu)
   denoted_type-elsewhere K meaning w c j (record_type g rest) s h =
-      let (later, el, h₁) = then_some (denoted_further_fields meaning (suc j + group_constructor_count g) rest) (λ later. option_and_then (λ fs. type_within_limits (record_shape j fs)) (denoted_group_fields meaning (suc j) later g)) s h in
-      let (fs, ef, h₂) = then_some (denoted_group_fields meaning (suc j) later g) (λ fs. type_within_limits (record_shape j fs)) s h₁ in
+      let (later, el, h₁) = then_some (denoted_further_fields meaning (suc j + group_constructor_count g) rest) (λ later. option_and_then (λ fs. type_if_within_limits (record_shape j fs)) (denoted_group_fields meaning (suc j) later g)) s h in
+      let (fs, ef, h₂) = then_some (denoted_group_fields meaning (suc j) later g) (λ fs. type_if_within_limits (record_shape j fs)) s h₁ in
       none-of-join K (non_factor_occurrences g) (non_factor_occurrences rest) (denoted_group_fields-elsewhere K meaning w c (suc j) later g fs ef) (denoted_further_fields-elsewhere K meaning w c (suc j + group_constructor_count g) rest later el)
 
   pub denoted_group_fields-elsewhere : {V P : Type 0} (K : Name → Type 0) (meaning : Meanings Name V P) (w : Value) → AreConstant K meaning w → (j : ℕ) (later : FieldShapes) (g : Tree Name fields) (fs : FieldShapes) → denoted_group_fields meaning j later g ≡ Some fs → NoneOf K (non_factor_occurrences g)

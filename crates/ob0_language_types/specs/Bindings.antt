@@ -1,6 +1,5 @@
--- The bindings that all declarations of a module make, newest first. A binding has a name and an
--- object. The object results from checking the declaration in the environment that precedes the
--- declaration.
+-- Defines the bindings that all declarations of a module make, newest first. A binding has a name
+-- and an object. The object is the declaration's meaning in the environment before it.
 -- Rule: docs/LANGUAGE.md, Scopes 2 to 4.
 use Rattle.std.specs.Prelude.{ℕ, ◌+◌, ◌-◌, List, [], ◌++◌, length, take, Some, None, Option}
 use Rattle.ob0_tree.specs.Tree.{Tree, block, declares, declares_procedure, end, forms_block, item, items, module_text, more, procedure}
@@ -87,7 +86,7 @@ object_of_ordinal bindings k = newest_object (suffix_from_newest_binding naming_
 
 -- Returns the object of the declaration with ordinal `k`. A declaration's ordinal is its number in
 -- text order, after the predeclared names 0 to 6. Looks for `k` in the bindings of the numbered
--- tree, in which ordinals replace names. Returns None if `k` has no binding there.
+-- tree, in which ordinals replace names. Returns None if these bindings don't contain `k`.
 abbrev pub declared_object : Tree Name module_text → ℕ → Option (Object Shape Signature)
 declared_object m k = object_of_ordinal (module_bindings naming_by_label (numbered m)) k
 

@@ -1,4 +1,4 @@
--- The environments after the declarations of a procedure and of a block.
+-- Defines the environments after the declarations of a procedure and of a block.
 -- Rule: none; used in definitions of bindings, and in laws about inlining and renaming.
 use Rattle.std.specs.Prelude.{ℕ, if◌then◌else◌, Some, None, Option}
 use Rattle.ob0_tree.specs.Tree.{Tree, block, item, procedure}

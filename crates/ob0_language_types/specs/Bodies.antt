@@ -1,4 +1,5 @@
--- The bodies of a module: the statements of each block, with the environment in which they are checked.
+-- Defines the bodies of a module: the statements of each block, with the environment in which they
+-- are checked.
 -- Rule: docs/LANGUAGE.md, Scopes 2.
 use Rattle.std.specs.Prelude.{◌≡◌, ℕ, ◌+◌, List, [], ◌∷◌, ◌++◌, Some, All}
 use Rattle.ob0_tree.specs.Tree.{Tree, block, body, declares, declares_procedure, end, forms_block, item, items, maybe, module_text, more, procedure}
@@ -38,8 +39,8 @@ unfoldable mutual
 
   -- Returns the bodies of a list of procedures in text order, then the body `statements` of the
   -- block that contains these procedures. Array and record types are numbered from `k`, the count
-  -- of words ARRAY and RECORD before the procedures. If a parameter's type has an error, the result
-  -- ends before the bodies of that parameter's procedure.
+  -- of words ARRAY and RECORD before the procedures. If a parameter's type has an error, the bodies
+  -- of its procedure and all bodies after them are left out.
   pub procedure_list_bodies : {N : Type 0}
       → Naming N
       → TypeEnvironment N
@@ -118,10 +119,9 @@ abbrev mutual
   HoldsForProcedureEnvironments Q env k (declares_procedure x fs b closing) =
       HoldsForBlockEnvironments Q env (k + formals_constructor_count (formal_parameter_sections fs)) b
 
--- States that environments agree with declarations. Let a block's statements be checked in an
--- environment that binds an ordinal to an object. If the module is well-typed, `declared_object`
--- returns the same object for this ordinal. An ordinal is the number of a declaration in text
--- order.
+-- States that environments agree with declarations in a well-typed module. If the environment in
+-- which a block's statements are checked binds an ordinal to an object, `declared_object` returns
+-- the same object for this ordinal. An ordinal is the number of a declaration in text order.
 abbrev pub BindingsMatchDeclarations : Type 0
 BindingsMatchDeclarations =
     (m : Tree Name module_text) → WellTyped m

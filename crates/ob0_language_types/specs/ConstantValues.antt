@@ -1,5 +1,5 @@
--- The values of a module's constants, computed in environments that have only the values of
--- constants. Other names matter only because they can hide a constant's name.
+-- Defines the values of a module's constants, computed in environments that have only the values of
+-- constants. Other names are bound to a placeholder, because they can hide a constant's name.
 -- Rule: docs/LANGUAGE.md, Types 6, 7.
 use Rattle.std.specs.Prelude.{None, Option, Some, if◌then◌else◌, map, nat_lt, option_and_then, suc, ℕ, ◌++◌, ◌==◌, ◌∷◌}
 use Rattle.ob0_tree.specs.Tree.{Tree, block, constant, declares, declares_constant, declares_procedure, end, forms_block, item, items, module_text, more, procedure}

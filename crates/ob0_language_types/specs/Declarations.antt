@@ -1,6 +1,6 @@
--- The environments after declarations of constants and types, both in the checker and in a run.
--- Also counts of the words ARRAY and RECORD in declarations, by which array and record types are
--- numbered.
+-- Defines the environments after declarations of constants and types, both in the checker and in a
+-- run. Counts the words ARRAY and RECORD in declarations, because array and record types are
+-- numbered by these words.
 -- Rule: docs/LANGUAGE.md, Scopes 2, Types 1.
 use Rattle.std.specs.Prelude.{ℕ, ◌+◌, ◌∷◌, Some, Option}
 use Rattle.ob0_tree.specs.Tree.{Tree, block, constant, declares, declares_constant, declares_procedure, declares_type, declares_variable, end, section_after_semicolon, forms_block, item, items, more, procedure, semicolon_then_section, type_definition, variable}
@@ -53,41 +53,37 @@ declare_constants_and_types naming env k b = do
   with_constants ← declare_constants naming env (block_constants b)
   declare_types naming with_constants k (block_types b)
 
--- counts the words ARRAY and RECORD in declarations of types, to number array and record types
+-- counts the words ARRAY and RECORD in declarations of types
 abbrev pub types_constructor_count : {N : Type 0} → Tree N (items type_definition) → ℕ
 types_constructor_count end = 0
 types_constructor_count (more (declares_type x u) ds) = constructor_count u + types_constructor_count ds
 
--- counts the words ARRAY and RECORD in declarations of variables, to number array and record types
+-- counts the words ARRAY and RECORD in declarations of variables
 abbrev pub variables_constructor_count : {N : Type 0} → Tree N (items variable) → ℕ
 variables_constructor_count end = 0
 variables_constructor_count (more (declares_variable ns u) gs) =
     constructor_count u + variables_constructor_count gs
 
--- counts the words ARRAY and RECORD in the types of formal parameters, to number array and record
--- types
+-- counts the words ARRAY and RECORD in the types of formal parameters
 abbrev pub formals_constructor_count : {N : Type 0} → Tree N (items section_after_semicolon) → ℕ
 formals_constructor_count end = 0
 formals_constructor_count (more (semicolon_then_section f) fs) =
     constructor_count (parameter_section_type f) + formals_constructor_count fs
 
--- Counts the words ARRAY and RECORD in a block, including its procedures, to number array and
--- record types.
+-- Counts the words ARRAY and RECORD in a block, including its procedures.
 abbrev mutual
-  -- counts the words ARRAY and RECORD in the types, variables and procedures of a block, to number
-  -- array and record types
+  -- counts the words ARRAY and RECORD in the types, variables and procedures of a block
   pub block_constructor_count : {N : Type 0} → Tree N block → ℕ
   block_constructor_count (forms_block (declares cs ts vs ps) statements) =
       types_constructor_count (section_types ts)
       + (variables_constructor_count (section_variables vs) + procedure_list_constructor_count ps)
 
-  -- counts the words ARRAY and RECORD in procedures, to number array and record types
+  -- counts the words ARRAY and RECORD in procedures
   pub procedure_list_constructor_count : {N : Type 0} → Tree N (items procedure) → ℕ
   procedure_list_constructor_count end = 0
   procedure_list_constructor_count (more p rest) = procedure_constructor_count p + procedure_list_constructor_count rest
 
-  -- counts the words ARRAY and RECORD in the parameters and the block of a procedure, to number
-  -- array and record types
+  -- counts the words ARRAY and RECORD in the parameters and the block of a procedure
   pub procedure_constructor_count : {N : Type 0} → Tree N (item procedure) → ℕ
   procedure_constructor_count (declares_procedure x fs b closing) =
       formals_constructor_count (formal_parameter_sections fs) + block_constructor_count b

@@ -1,9 +1,9 @@
--- Laws of edits: which edits leave a module well-typed.
+-- Laws about edits that leave a module well-typed.
 -- Rule: none; states laws about edits and types.
 use Rattle.std.specs.Prelude.{All, IsTrue, Some, codes, false, true, ℕ, ◌≡◌, ◌≢◌}
 use Rattle.ob0_tree.specs.Tree.{Tree, factor, module_text}
 use Rattle.ob0_language_names.specs.NonFactorNames.{non_factor_occurrences}
-use Rattle.ob0_language_names.specs.Inlining.{OccurrenceSet, inlined, inlined_everywhere_and_removed, module_without_constant}
+use Rattle.ob0_language_names.specs.Inlining.{OccurrenceSet, inlined, module_with_constant_inlined_everywhere, module_without_constant}
 use Rattle.ob0_language_names.specs.Names.{Name, declared}
 use Rattle.ob0_language_names.specs.Occurrences.{IsFreeName, ordinal_bound_at_occurrence}
 use Rattle.ob0_language_names.specs.Scopes.{numbered, renamed}
@@ -29,17 +29,16 @@ Is32BitScalar (truth b) = Unit {0}
 Is32BitScalar (elements vs) = ⊥
 Is32BitScalar (members k ms) = ⊥
 
--- States that TRUE or FALSE, the word for the given truth value, means the predeclared constant at
--- an occurrence of a name. This means that the word would be bound to the predeclared constant if
--- it replaced the name at the occurrence with number `occurrence`. Occurrences of names are
--- numbered from 0 in text order. States nothing for a value that isn't a truth value.
+-- States that the word for a truth value, TRUE or FALSE, would be bound to the predeclared constant
+-- if it replaced an occurrence of a name. `occurrence` is the occurrence's number, counted from 0
+-- in text order. States nothing for a value that isn't a truth value.
 abbrev pub TruthWordMeansPredeclared : Tree Name module_text → ℕ → Value → Type 0
 TruthWordMeansPredeclared m occurrence (truth true) = resolve_name_at_occurrence m occurrence (codes "TRUE") ≡ Some 2
 TruthWordMeansPredeclared m occurrence (truth false) = resolve_name_at_occurrence m occurrence (codes "FALSE") ≡ Some 3
 TruthWordMeansPredeclared m occurrence _ = Unit {0}
 
--- States that a CONST section declares a constant with ordinal `d` and that its value `w` is a number or a truth value.
--- The factor `v` must be the literal for this value.
+-- States that a CONST section declares a constant with ordinal `d` and the value `w`. The value
+-- must be a 32-bit number or a truth value, and the factor `v` must be its literal.
 pub record IsConstantWithLiteral
     (m : Tree Name module_text) (d : ℕ) (w : Value) (v : Tree Name factor) : Type 0 where
   pub value : constant_value_in_module m d ≡ Some w
@@ -78,7 +77,7 @@ InliningEverywhereKeepsWellTyped =
     → IsConstantWithLiteral m d w v
     → ((k : ℕ) → ordinal_bound_at_occurrence m k ≡ Some d → TruthWordMeansPredeclared m k w)
     → WellTyped m
-    → WellTyped (inlined_everywhere_and_removed m d v)
+    → WellTyped (module_with_constant_inlined_everywhere m d v)
 
 -- States that each use of a constant in a well-typed module is a whole factor: a name without selectors in an
 -- expression. In particular, a use of a constant isn't the name of a type, a called procedure or the target of an

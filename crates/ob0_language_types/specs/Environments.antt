@@ -1,4 +1,4 @@
--- Environments, which bind each visible name to an object.
+-- Defines environments, which bind each visible name to an object.
 -- Rule: docs/LANGUAGE.md, Scopes 4.
 use Rattle.std.specs.Prelude.{true, false, List, [], ◌∷◌, Some, None, Option}
 use Rattle.ob0_language_names.specs.Names.{Naming}

@@ -1,10 +1,10 @@
--- The value of an expression, given the meanings of its names and a store with the values of variables. Evaluation
--- doesn't change the store.
+-- Defines the value of an expression, given the meanings of its names and a store with the values
+-- of variables. Evaluation doesn't change the store.
 -- Rule: docs/LANGUAGE.md, Runs 2 to 4.
 use Rattle.std.specs.Prelude.{true, false, List, [], ◌∷◌, ◌++◌, pos, negsuc, if◌then◌else◌, nat_lt, Some, Option}
 use Rattle.ob0_tree.specs.Tree.{Tree, addend, adds, compares, designator, end, expression, factor, field, index, integer, items, more, multiplier, multiplies, negation, none, one, parenthesised, product, relates, selector, simple, sum, term}
 use Rattle.ob0_language_names.specs.Names.{Name}
-use Rattle.ob0_language_values.specs.Values.{Index, Outcome, Place, Shape, PathStep, Store, Stuck, Value, add, add_operator_short_circuits, at_field, at_index, value_at_path, count_values, elements, ends_run_with, succeeds_with, multiply, multiply_operator_short_circuits, negate, number, result_or_stuck, value_at_step, read_place, apply_relation, apply_sign, ◌>>=◌}
+use Rattle.ob0_language_values.specs.Values.{Index, Outcome, Place, Shape, PathStep, Store, Stuck, Value, apply_add_operator, add_operator_short_circuits, at_field, at_index, value_at_path, value_count, elements, ends_run_with, succeeds_with, apply_multiply_operator, multiply_operator_short_circuits, apply_not, number, result_or_stuck, value_at_step, read_place, apply_relation, apply_sign, ◌>>=◌}
 
 -- the standard procedures: Read, Write and WriteLn
 pub data StandardProcedure : Type 0 where
@@ -25,22 +25,23 @@ pub record Meanings (N V P : Type 0) : Type 0 where
   pub object_for : N → Option (Object V P)
   pub written : N → Name
 
--- Returns the step of a path (`at_index`) that leads from an array to its element at an index. An
--- index below 0 or not below the array's length ends the run with Index. Returns the end Stuck if
--- the operands aren't an array and a number.
+-- Returns the step of a path (`at_index`) that leads from an array to its element at an index.
+-- Returns the end Index if the index is below 0 or not below the array's length. Returns the end
+-- Stuck if the values aren't an array and a number.
 abbrev pub element_step : Value → Value → Outcome PathStep
 element_step (elements vs) (number (pos i)) =
-    if nat_lt i (count_values vs) then succeeds_with (at_index i) else ends_run_with Index
+    if nat_lt i (value_count vs) then succeeds_with (at_index i) else ends_run_with Index
 element_step (elements vs) (number (negsuc i)) = ends_run_with Index
 element_step _ _ = ends_run_with Stuck
 
--- returns the place of a variable in the store (`Place`); the end Stuck for any other object
+-- returns the place of a variable in the store (`Place`); the end Stuck for any other object and
+-- for None
 abbrev pub object_place : {P : Type 0} → Option (Object Place P) → Outcome Place
 object_place (Some (a_variable p)) = succeeds_with p
 object_place _ = ends_run_with Stuck
 
--- returns the value of a constant, or the value at a variable's place; the end Stuck for any other
--- object
+-- returns the value of a constant, or the value at a variable's place in the store; the end Stuck
+-- if the place doesn't exist, for any other object and for None
 abbrev pub object_value : {P : Type 0} → Store → Option (Object Place P) → Outcome Value
 object_value store (Some (a_constant v)) = succeeds_with v
 object_value store (Some (a_variable p)) = result_or_stuck (read_place store p)
@@ -49,9 +50,9 @@ object_value store _ = ends_run_with Stuck
 -- Evaluates an expression from left to right: returns its value, or the reason why the run ends.
 unfoldable mutual
   -- evaluates an expression: one simple expression, or a relation between two simple expressions
-  pub evaluate : {N P : Type 0} → Meanings N Place P → Store → Tree N expression → Outcome Value
-  evaluate meaning store (compares a none) = evaluate_simple_expression meaning store a
-  evaluate meaning store (compares a (one (relates r b))) = do
+  pub evaluate_expression : {N P : Type 0} → Meanings N Place P → Store → Tree N expression → Outcome Value
+  evaluate_expression meaning store (compares a none) = evaluate_simple_expression meaning store a
+  evaluate_expression meaning store (compares a (one (relates r b))) = do
     x ← evaluate_simple_expression meaning store a
     y ← evaluate_simple_expression meaning store b
     apply_relation r x y
@@ -74,7 +75,7 @@ unfoldable mutual
   evaluate_addends meaning store x end = succeeds_with x
   evaluate_addends meaning store x (more (adds o t) rest) = do
     y ← elim (add_operator_short_circuits o x)
-        [ true ↦ succeeds_with x | false ↦ evaluate_term meaning store t >>= add o x ]
+        [ true ↦ succeeds_with x | false ↦ evaluate_term meaning store t >>= apply_add_operator o x ]
     evaluate_addends meaning store y rest
 
   -- evaluates a term: its first factor, then the further factors
@@ -94,7 +95,7 @@ unfoldable mutual
   evaluate_multipliers meaning store x end = succeeds_with x
   evaluate_multipliers meaning store x (more (multiplies o f) rest) = do
     y ← elim (multiply_operator_short_circuits o x)
-        [ true ↦ succeeds_with x | false ↦ evaluate_factor meaning store f >>= multiply o x ]
+        [ true ↦ succeeds_with x | false ↦ evaluate_factor meaning store f >>= apply_multiply_operator o x ]
     evaluate_multipliers meaning store y rest
 
   -- evaluates a factor: a designator, an integer, an expression in parentheses or a negation
@@ -104,12 +105,12 @@ unfoldable mutual
     steps ← evaluate_selectors meaning store v path
     result_or_stuck (value_at_path steps v)
   evaluate_factor meaning store (integer n) = succeeds_with (number (pos n))
-  evaluate_factor meaning store (parenthesised e) = evaluate meaning store e
-  evaluate_factor meaning store (negation f) = evaluate_factor meaning store f >>= negate
+  evaluate_factor meaning store (parenthesised e) = evaluate_expression meaning store e
+  evaluate_factor meaning store (negation f) = evaluate_factor meaning store f >>= apply_not
 
   -- Returns the path that selectors describe in the value `v`. Evaluates each index and checks it
-  -- against the length of its array. Returns the end Stuck if a selector doesn't fit the value,
-  -- such as an index after a record.
+  -- against the length of its array. Returns the end Stuck if a selector doesn't fit the value, for
+  -- example an index after a record.
   pub evaluate_selectors : {N P : Type 0}
       → Meanings N Place P
       → Store
@@ -122,7 +123,7 @@ unfoldable mutual
     steps ← evaluate_selectors meaning store w rest
     succeeds_with (at_field (meaning.written x) ∷ steps)
   evaluate_selectors meaning store v (more (index e) rest) = do
-    i ← evaluate meaning store e
+    i ← evaluate_expression meaning store e
     s ← element_step v i
     w ← result_or_stuck (value_at_step v s)
     steps ← evaluate_selectors meaning store w rest
@@ -137,7 +138,7 @@ unfoldable pub designated_place : {N P : Type 0}
     → N
     → Tree N (items selector)
     → Outcome Place
-unfolding evaluate
+unfolding evaluate_expression
 designated_place meaning store x path = do
   p ← object_place (meaning.object_for x)
   v ← result_or_stuck (read_place store p)

@@ -1,13 +1,14 @@
--- Laws about type checks, the values of constants, and evaluation. They are about numbering a module, and about
--- inlining a constant. In a module's numbered tree (`numbered`), each bound name is replaced by the ordinal of its
--- declaration.
+-- Laws about the type check and about evaluation. Numbering a module doesn't change its type check,
+-- and inlining a constant doesn't change types and values. A constant has the same value in a run
+-- as in the checker. In a module's numbered tree (`numbered`), each bound name is replaced by the
+-- ordinal of its declaration.
 -- Rule: none; states laws about types.
 use Rattle.std.specs.Prelude.{◌≡◌, ℕ, suc, true, ◌↔◌, List, [], ◌∷◌, IsTrue, Some}
 use Rattle.ob0_tree.specs.Tree.{Tree, expression, factor, module_text, occurrences}
 use Rattle.ob0_language_names.specs.Inlining.{OccurrenceSet, inline_in_tree}
 use Rattle.ob0_language_names.specs.Names.{Name, naming_by_label, naming_by_spelling}
 use Rattle.ob0_language_names.specs.Scopes.{numbered}
-use Rattle.ob0_language_types.specs.Expressions.{Meanings, a_constant, evaluate, evaluate_factor}
+use Rattle.ob0_language_types.specs.Expressions.{Meanings, a_constant, evaluate_expression, evaluate_factor}
 use Rattle.ob0_language_types.specs.Typing.{value_of_constant_object, constant_expression_value, type_of_expression, type_of_factor, value_type}
 use Rattle.ob0_language_values.specs.Values.{Place, Store, Value, succeeds_with}
 use Rattle.ob0_language_names.specs.ConsistentNames.{has_consistent_names}
@@ -40,7 +41,7 @@ ConstantsHaveSameValueInRunAndChecker =
     → ((x : Name) (w : Value)
     → value_of_constant_object (checked.object_for x) ≡ Some w
     → value_of_constant_object (active.object_for x) ≡ Some w)
-    → constant_expression_value checked e ≡ Some v → evaluate active store e ≡ succeeds_with v
+    → constant_expression_value checked e ≡ Some v → evaluate_expression active store e ≡ succeeds_with v
 
 -- States that `P` holds for each listed name whose occurrence number is in `uses`. The names are consecutive
 -- occurrences, and the first one has number `k`.
@@ -57,7 +58,7 @@ InliningKeepsEvaluation =
     (w : Value) (k : ℕ) (e : Tree Name expression)
     → evaluate_factor meaning store v ≡ succeeds_with w
     → EachUseSatisfies uses (λ x. meaning.object_for x ≡ Some (a_constant w)) k (occurrences e)
-    → evaluate meaning store (inline_in_tree uses v k e) ≡ evaluate meaning store e
+    → evaluate_expression meaning store (inline_in_tree uses v k e) ≡ evaluate_expression meaning store e
 
 -- States that replacing uses of a constant by a factor with the constant's type leaves an expression's type unchanged.
 -- `k` is the number of the first occurrence of a name in the expression. Occurrences are numbered from 0 in text order.

@@ -1,5 +1,5 @@
--- The type that a written type denotes, the types of expressions, and the values of constant
--- expressions. A written type is a type as it is written in the text.
+-- Defines the type that a written type denotes, the types of expressions, and the values of
+-- constant expressions. A written type is a type as it is written in the text.
 -- Rule: docs/LANGUAGE.md, Types 1 to 7, Nesting and limits 2.
 use Rattle.std.specs.Prelude.{ℕ, suc, ◌+◌, ◌*◌, max, ◌&&◌, List, [], ◌∷◌, map, pos, if◌then◌else◌, nat_lt, nat_le, Some, None, Option, option_map, option_and_then}
 use Rattle.ob0_tree.specs.declared.tree.Relation.{Relation}
@@ -13,11 +13,9 @@ use Rattle.ob0_tree.specs.declared.tree.MultiplyOperator.TheVariants as multiply
 use Rattle.ob0_tree.specs.Tree.{Tree, addend, adds, array_type, compares, designator, end, expression, factor, field, fields, fields_after_semicolon, index, integer, items, more, multiplier, multiplies, named_type, negation, no_fields, none, one, parenthesised, product, record_type, relates, selector, simple, some_fields, sum, term, semicolon_then_fields, written_type}
 use Rattle.ob0_language_names.specs.Names.{Name, same_name}
 use Rattle.ob0_language_names.specs.BlockParts.{names_in_list}
-use Rattle.ob0_language_types.specs.Expressions.{Meanings, Object, a_constant, a_type, a_variable, evaluate}
+use Rattle.ob0_language_types.specs.Expressions.{Meanings, Object, a_constant, a_type, a_variable, evaluate_expression}
 use Rattle.ob0_language_values.specs.Values.{FieldShapes, Outcome, Shape, Value, array_shape, boolean_shape, ends_run_with, succeeds_with, integer_shape, next_field_shape, no_field_shape, number, record_shape, truth}
 
--- applies the function on the right to the optional value on the left; None if there is no value or the function
--- returns None
 infixl 20 ◌>>=◌
 -- applies the function `next` to an optional value; None if there is no value or the function
 -- returns None
@@ -171,7 +169,7 @@ value_of_constant_object (Some (a_constant v)) = Some v
 value_of_constant_object _ = None
 
 -- Returns the meanings of names in constant expressions. The names of constants keep their meaning.
--- Any other name means nothing, because a constant expression may contain no other names.
+-- Any other name has no meaning, because a constant expression may only contain names of constants.
 abbrev pub meanings_in_constant_expressions : {N V P W Q : Type 0} → Meanings N V P → Meanings N W Q
 meanings_in_constant_expressions meaning =
     record {
@@ -185,13 +183,13 @@ abbrev pub outcome_value : Outcome Value → Option Value
 outcome_value (succeeds_with v) = Some v
 outcome_value (ends_run_with e) = None
 
--- Returns the value of a constant expression, in which only the names of constants have a meaning. Returns None if the
--- expression has no type or its evaluation ends with a fault.
+-- Returns the value of a constant expression, in which only the names of constants have a meaning.
+-- Returns None if the expression has no type or its evaluation ends the run.
 unfoldable pub constant_expression_value : {N V P : Type 0} → Meanings N V P → Tree N expression → Option Value
-unfolding type_of_expression evaluate
+unfolding type_of_expression evaluate_expression
 constant_expression_value meaning e = do
   s ← type_of_expression {P = Unit {0}} (meanings_in_constant_expressions meaning) e
-  outcome_value (evaluate {P = Unit {0}} (meanings_in_constant_expressions meaning) [] e)
+  outcome_value (evaluate_expression {P = Unit {0}} (meanings_in_constant_expressions meaning) [] e)
 
 -- the greatest number of scalars in a type, which is also the greatest number of elements in an array
 abbrev pub max_scalars_in_type : ℕ
@@ -211,16 +209,16 @@ array_length_from_value _ = None
 abbrev mutual
   -- Returns the number of scalars in a type. An array has the scalars of all its elements. A record
   -- has the scalars of all its fields, or one scalar if it has no fields.
-  pub scalars : Shape → ℕ
-  scalars integer_shape = 1
-  scalars boolean_shape = 1
-  scalars (array_shape k n s) = n * scalars s
-  scalars (record_shape k fs) = max 1 (scalar_count_of_fields fs)
+  pub scalar_count : Shape → ℕ
+  scalar_count integer_shape = 1
+  scalar_count boolean_shape = 1
+  scalar_count (array_shape k n s) = n * scalar_count s
+  scalar_count (record_shape k fs) = max 1 (scalar_count_of_fields fs)
 
   -- returns the number of scalars in several fields together
   pub scalar_count_of_fields : FieldShapes → ℕ
   scalar_count_of_fields no_field_shape = 0
-  scalar_count_of_fields (next_field_shape x s rest) = scalars s + scalar_count_of_fields rest
+  scalar_count_of_fields (next_field_shape x s rest) = scalar_count s + scalar_count_of_fields rest
 
 -- Returns the depth to which arrays and records are nested in a type. If a part of the type is written as a type's
 -- name, the arrays and records that this name means also count.
@@ -240,33 +238,32 @@ abbrev mutual
 
 -- returns the type `s` if it has at most 65,536 scalars and its arrays and records are nested at most 100 deep,
 -- otherwise None
-abbrev pub type_within_limits : Shape → Option Shape
-type_within_limits s =
-    if nat_le (scalars s) max_scalars_in_type && nat_le (depth s) max_type_depth then Some s else None
+abbrev pub type_if_within_limits : Shape → Option Shape
+type_if_within_limits s =
+    if nat_le (scalar_count s) max_scalars_in_type && nat_le (depth s) max_type_depth then Some s else None
 
--- Counts the words ARRAY and RECORD in a type as it is written. Array and record types are numbered
--- by these counts.
+-- Counts the words ARRAY and RECORD in a written type. Array and record types are numbered by these
+-- counts.
 abbrev mutual
-  -- counts the words ARRAY and RECORD in a type as it is written, to number array and record types;
-  -- a type's name counts 0, even if it means an array or a record
+  -- counts the words ARRAY and RECORD in a written type; a type's name counts 0, even if it means
+  -- an array or a record
   pub constructor_count : {N : Type 0} → Tree N written_type → ℕ
   constructor_count (named_type x) = 0
   constructor_count (array_type e t) = suc (constructor_count t)
   constructor_count (record_type g rest) = suc (group_constructor_count g + later_groups_constructor_count rest)
 
-  -- counts the words ARRAY and RECORD in a group of fields, such as `x, y: T`, to number array and
-  -- record types; the type is written once for all names of the group
+  -- counts the words ARRAY and RECORD in a group of fields, such as `x, y: T`; the type is written
+  -- once for all names of the group
   pub group_constructor_count : {N : Type 0} → Tree N fields → ℕ
   group_constructor_count no_fields = 0
   group_constructor_count (some_fields ns t) = constructor_count t
 
-  -- counts the words ARRAY and RECORD in the groups of fields after the first group, to number
-  -- array and record types
+  -- counts the words ARRAY and RECORD in the groups of fields after the first group
   pub later_groups_constructor_count : {N : Type 0} → Tree N (items fields_after_semicolon) → ℕ
   later_groups_constructor_count end = 0
   later_groups_constructor_count (more (semicolon_then_fields g) rest) = group_constructor_count g + later_groups_constructor_count rest
 
--- returns the type `s` of the object `a_type s`, which is a type; None for any other object
+-- returns the type `s` if the object is the type `s` (`a_type s`); None for any other object
 abbrev pub type_of_type_object : {V P : Type 0} → Option (Object V P) → Option Shape
 type_of_type_object (Some (a_type s)) = Some s
 type_of_type_object _ = None
@@ -290,11 +287,11 @@ unfoldable mutual
     v ← constant_expression_value meaning e
     n ← array_length_from_value v
     s ← denoted_type meaning (suc k) t
-    type_within_limits (array_shape k n s)
+    type_if_within_limits (array_shape k n s)
   denoted_type meaning k (record_type g rest) = do
     later ← denoted_further_fields meaning (suc k + group_constructor_count g) rest
     fs ← denoted_group_fields meaning (suc k) later g
-    type_within_limits (record_shape k fs)
+    type_if_within_limits (record_shape k fs)
 
   -- Returns the fields of a group, followed by the fields `later`. The group's array and record
   -- types are numbered from `k`, the count of words ARRAY and RECORD before the group. Returns None

@@ -1,4 +1,4 @@
--- Valid modules: the type checks of statements, declarations, blocks and modules.
+-- Defines well-typed modules, by the type checks of statements, declarations, blocks and modules.
 -- Rule: docs/LANGUAGE.md, Types 8.
 use Rattle.std.specs.Prelude.{ℕ, ◌+◌, Bool, true, false, ◌&&◌, List, [], ◌∷◌, ◌++◌, map, IsTrue, ◌==◌, Some, None, Option}
 use Rattle.ob0_tree.specs.Tree.{Tree, assigns, begins, block, body, branches, calls, declares, declares_procedure, declares_variable, else_branch, else_part, elsif_branch, elsif_part, empty, end, expression, section_after_semicolon, statement_after_semicolon, forms_block, item, items, maybe, module_text, more, none, one, procedure, repeat_loop, runs, section, selector, sequence, statement, semicolon_then_section, semicolon_then_statement, value_section, variable, variable_section, while_loop}
@@ -15,8 +15,8 @@ use Rattle.ob0_language_values.specs.Values.{FieldShapes, Shape, array_shape, bo
 -- Returns whether two types are equal.
 abbrev mutual
   -- Returns whether two types are equal. Scalar types are equal if both are INTEGER or both are
-  -- BOOLEAN. Array and record types are equal if both come from the same ARRAY or RECORD of the
-  -- text and their parts are equal.
+  -- BOOLEAN. Array types, and record types, are equal if both come from the same word ARRAY or
+  -- RECORD of the text and their parts are equal.
   pub same_shape : Shape → Shape → Bool
   same_shape integer_shape integer_shape = true
   same_shape boolean_shape boolean_shape = true

@@ -3,10 +3,9 @@
 
 ghost use Rattle.ob0_language_types.specs.Bodies.{BindingsMatchDeclarations};
 
-/// Proves that environments agree with declarations. Let a block's statements be checked in an
-/// environment that binds an ordinal to an object. If the module is well-typed, `declared_object`
-/// returns the same object for this ordinal. An ordinal is the number of a declaration in text
-/// order.
+/// Proves that environments agree with declarations in a well-typed module. If the environment in
+/// which a block's statements are checked binds an ordinal to an object, `declared_object` returns
+/// the same object for this ordinal. An ordinal is the number of a declaration in text order.
 pub fn bindings_match_declarations()
     ensures { BindingsMatchDeclarations }
 {}

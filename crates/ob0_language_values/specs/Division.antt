@@ -1,4 +1,4 @@
--- The results of DIV and MOD.
+-- Defines the results of DIV and MOD.
 -- Rule: docs/LANGUAGE.md, Runs 3.
 use Rattle.std.specs.Prelude.{ℕ, zero, suc, ◌-◌, ◌/◌, ◌%◌, ℤ, pos, negsuc, Option, Some, None}
 

@@ -1,5 +1,5 @@
--- Conversions from the code's scalars, faults and results of operators to the values and outcomes
--- of the definitions.
+-- Converts the code's scalars, faults and results of operators to the values and outcomes of the
+-- definitions.
 -- Rule: none; used in contracts of code that computes with scalars.
 use Rattle.std.specs.Prelude.{ℤ, Some, None, Ok, Err, Option, Result}
 use Rattle.ob0_language_values.specs.declared.scalar.OperatorFault.{OperatorFault}

@@ -1,4 +1,4 @@
--- Types, values, places and the store, and the results of operators.
+-- Defines types, values, places and the store, and the results of operators.
 -- Rule: docs/LANGUAGE.md, Types 1, Runs 2 to 5, 10.
 use Rattle.std.specs.Prelude.{ℕ, zero, suc, ◌^◌, Bool, true, false, not, ◌&&◌, ◌||◌, List, [], ◌∷◌, ℤ, pos, negsuc, ◌+ℤ◌, ◌-ℤ◌, ◌*ℤ◌, neg_ℤ, if◌then◌else◌, nat_lt, slice_get, slice_set, int_lt, int_le, Some, None, Option, option_map, option_and_then}
 use Rattle.ob0_tree.specs.declared.tree.Relation.{Relation}
@@ -92,21 +92,21 @@ division_outcome (Some n) = checked_number n
 
 -- Returns the result of `+`, `-` or OR. Returns the end Overflow if a number doesn't fit in 32
 -- bits. Returns the end Stuck if the operator isn't defined for the operands.
-abbrev pub add : AddOperator → Value → Value → Outcome Value
-add add_operator.Add (number a) (number b) = checked_number (a +ℤ b)
-add add_operator.Subtract (number a) (number b) = checked_number (a -ℤ b)
-add add_operator.Or (truth a) (truth b) = succeeds_with (truth (a || b))
-add _ _ _ = ends_run_with Stuck
+abbrev pub apply_add_operator : AddOperator → Value → Value → Outcome Value
+apply_add_operator add_operator.Add (number a) (number b) = checked_number (a +ℤ b)
+apply_add_operator add_operator.Subtract (number a) (number b) = checked_number (a -ℤ b)
+apply_add_operator add_operator.Or (truth a) (truth b) = succeeds_with (truth (a || b))
+apply_add_operator _ _ _ = ends_run_with Stuck
 
 -- Returns the result of `*`, DIV, MOD or `&`. Returns the end Overflow if a number doesn't fit in
 -- 32 bits, and Divisor if the divisor of DIV or MOD is below 1. Returns Stuck if the operator isn't
 -- defined for the operands.
-abbrev pub multiply : MultiplyOperator → Value → Value → Outcome Value
-multiply multiply_operator.Multiply (number a) (number b) = checked_number (a *ℤ b)
-multiply multiply_operator.Divide (number a) (number b) = division_outcome (checked_division quotient a b)
-multiply multiply_operator.Modulo (number a) (number b) = division_outcome (checked_division remainder a b)
-multiply multiply_operator.And (truth a) (truth b) = succeeds_with (truth (a && b))
-multiply _ _ _ = ends_run_with Stuck
+abbrev pub apply_multiply_operator : MultiplyOperator → Value → Value → Outcome Value
+apply_multiply_operator multiply_operator.Multiply (number a) (number b) = checked_number (a *ℤ b)
+apply_multiply_operator multiply_operator.Divide (number a) (number b) = division_outcome (checked_division quotient a b)
+apply_multiply_operator multiply_operator.Modulo (number a) (number b) = division_outcome (checked_division remainder a b)
+apply_multiply_operator multiply_operator.And (truth a) (truth b) = succeeds_with (truth (a && b))
+apply_multiply_operator _ _ _ = ends_run_with Stuck
 
 -- returns whether the operator is OR and the left operand is TRUE; the right operand isn't evaluated then
 abbrev pub add_operator_short_circuits : AddOperator → Value → Bool
@@ -140,8 +140,8 @@ apply_relation relation.Equal (truth a) (truth b) = succeeds_with (truth (same_t
 apply_relation relation.NotEqual (truth a) (truth b) = succeeds_with (truth (not (same_truth a b)))
 apply_relation _ _ _ = ends_run_with Stuck
 
--- returns the value with an optional sign applied; the end Overflow if the result doesn't fit in 32
--- bits, the end Stuck if a value that isn't a number has a sign
+-- Returns the value with an optional sign applied. If there is a sign, returns the end Overflow if
+-- the result doesn't fit in 32 bits, and the end Stuck if the value isn't a number.
 abbrev pub apply_sign : Option Sign → Value → Outcome Value
 apply_sign None v = succeeds_with v
 apply_sign (Some sign.Plus) (number a) = checked_number a
@@ -149,16 +149,16 @@ apply_sign (Some sign.Minus) (number a) = checked_number (neg_ℤ a)
 apply_sign _ _ = ends_run_with Stuck
 
 -- returns the result of `~`; the end Stuck if the value isn't a truth value
-abbrev pub negate : Value → Outcome Value
-negate (truth b) = succeeds_with (truth (not b))
-negate _ = ends_run_with Stuck
+abbrev pub apply_not : Value → Outcome Value
+apply_not (truth b) = succeeds_with (truth (not b))
+apply_not _ = ends_run_with Stuck
 
 -- a step of a path into a value: to an element of an array, or to a field of a record
 pub data PathStep : Type 0 where
   at_index : ℕ → PathStep
   at_field : Name → PathStep
 
--- A place, which a designator gives. `variable` is the index of a variable in the store, counted
+-- The place that a designator denotes. `variable` is the index of a variable in the store, counted
 -- from 0. `path` leads from the variable's value to an element or member within it. An empty path
 -- leads to the whole value.
 pub record Place : Type 0 where
@@ -208,12 +208,12 @@ with_value_at_step (elements vs) (at_index i) new = elements (with_nth_value vs 
 with_value_at_step (members k ms) (at_field x) new = members k (with_named_member ms x new)
 with_value_at_step v _ new = v
 
--- returns the value that a path leads to, starting at a value; None if a step selects nothing
+-- returns the part of a value to which a path leads; None if a step selects nothing
 abbrev pub value_at_path : List PathStep → Value → Option Value
 value_at_path [] v = Some v
 value_at_path (s ∷ path) v = option_and_then (value_at_path path) (value_at_step v s)
 
--- returns the value `v`, in which `new` replaces the value that a path leads to; None if a step
+-- returns the value `v` with `new` in place of the part to which a path leads; None if a step
 -- selects nothing
 abbrev pub with_value_at_path : List PathStep → Value → Value → Option Value
 with_value_at_path [] new v = Some new
@@ -231,9 +231,9 @@ write_place store p new =
     (slice_get store p.variable)
 
 -- returns the number of elements of an array
-abbrev pub count_values : Values → ℕ
-count_values no_value = 0
-count_values (next_value v rest) = suc (count_values rest)
+abbrev pub value_count : Values → ℕ
+value_count no_value = 0
+value_count (next_value v rest) = suc (value_count rest)
 
 -- returns `n` elements that all have the same value
 abbrev pub copies : ℕ → Value → Values

@@ -1,5 +1,5 @@
-//! Definitions of the values of Oberon-0: 32-bit numbers, truth values, arrays and records. The
-//! operators on scalars, including DIV and MOD, also exist in code (docs/LANGUAGE.md, Runs).
+//! Defines the values of Oberon-0: 32-bit numbers, truth values, arrays and records. The operators
+//! on scalars, including DIV and MOD, also exist in code (docs/LANGUAGE.md, Runs).
 #![tactic(auto)]
 
 ghost use Rattle.std.specs.Prelude.{◌≡◌};

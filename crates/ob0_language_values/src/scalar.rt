@@ -1,7 +1,8 @@
-//! Numbers and truth values, and the operators on them (Wirth, Compiler Construction, Oberon-0).
+//! Defines scalars, which are numbers and truth values, and the operators on them
+//! (docs/LANGUAGE.md, Runs 2 and 3).
 
 ghost use Rattle.std.specs.Prelude.{◌≡◌};
-ghost use Rattle.ob0_language_values.specs.Values.{add, add_operator_short_circuits, compare_numbers, division_outcome, checked_number, multiply, multiply_operator_short_circuits, negate, number, apply_relation, apply_sign, truth};
+ghost use Rattle.ob0_language_values.specs.Values.{apply_add_operator, add_operator_short_circuits, compare_numbers, division_outcome, checked_number, apply_multiply_operator, multiply_operator_short_circuits, apply_not, number, apply_relation, apply_sign, truth};
 ghost use Rattle.ob0_language_values.specs.Scalars.{number_outcome, scalar_outcome, scalar_value};
 ghost use Rattle.ob0_tree.specs.declared.tree.MultiplyOperator.TheVariants.{Divide, Modulo};
 
@@ -52,7 +53,7 @@ fn division_result(number: Option<i32>) -> Result<Scalar, OperatorFault>
 /// Returns the quotient `left DIV right`, rounded down. Returns the error `Divisor` if the divisor
 /// `right` is below 1.
 fn divide(left: i32, right: i32) -> Result<Scalar, OperatorFault>
-    ensures { scalar_outcome result ≡ multiply Divide (number left) (number right) }
+    ensures { scalar_outcome result ≡ apply_multiply_operator Divide (number left) (number right) }
 {
     division_result(crate::divide(left, right))
 }
@@ -60,7 +61,7 @@ fn divide(left: i32, right: i32) -> Result<Scalar, OperatorFault>
 /// Returns the remainder `left MOD right`, which is never negative. Returns the error `Divisor` if
 /// the divisor `right` is below 1.
 fn modulo(left: i32, right: i32) -> Result<Scalar, OperatorFault>
-    ensures { scalar_outcome result ≡ multiply Modulo (number left) (number right) }
+    ensures { scalar_outcome result ≡ apply_multiply_operator Modulo (number left) (number right) }
 {
     division_result(crate::modulo(left, right))
 }
@@ -71,8 +72,12 @@ fn modulo(left: i32, right: i32) -> Result<Scalar, OperatorFault>
 ///
 /// `Overflow` if the result doesn't fit in 32 bits, `Operand` if the operator isn't defined for the
 /// operands.
-pub fn add(operator: AddOperator, left: Scalar, right: Scalar) -> Result<Scalar, OperatorFault>
-    ensures { scalar_outcome result ≡ add operator (scalar_value left) (scalar_value right) }
+pub fn apply_add_operator(
+    operator: AddOperator,
+    left: Scalar,
+    right: Scalar,
+) -> Result<Scalar, OperatorFault>
+    ensures { scalar_outcome result ≡ apply_add_operator operator (scalar_value left) (scalar_value right) }
 {
     match left {
         Scalar::Number(a) => match right {
@@ -93,7 +98,7 @@ fn apply_add_operator_to_numbers(
     a: i32,
     b: i32,
 ) -> Result<Scalar, OperatorFault>
-    ensures { scalar_outcome result ≡ add operator (number a) (number b) }
+    ensures { scalar_outcome result ≡ apply_add_operator operator (number a) (number b) }
 {
     match operator {
         AddOperator::Add => checked_number(a.checked_add(b)),
@@ -108,7 +113,7 @@ fn apply_add_operator_to_truth_values(
     a: bool,
     b: bool,
 ) -> Result<Scalar, OperatorFault>
-    ensures { scalar_outcome result ≡ add operator (truth a) (truth b) }
+    ensures { scalar_outcome result ≡ apply_add_operator operator (truth a) (truth b) }
 {
     match operator {
         AddOperator::Add => Err(OperatorFault::Operand),
@@ -124,12 +129,12 @@ fn apply_add_operator_to_truth_values(
 ///
 /// `Overflow` if the result doesn't fit in 32 bits, `Divisor` if the divisor is below 1, `Operand`
 /// if the operator isn't defined for the operands.
-pub fn multiply(
+pub fn apply_multiply_operator(
     operator: MultiplyOperator,
     left: Scalar,
     right: Scalar,
 ) -> Result<Scalar, OperatorFault>
-    ensures { scalar_outcome result ≡ multiply operator (scalar_value left) (scalar_value right) }
+    ensures { scalar_outcome result ≡ apply_multiply_operator operator (scalar_value left) (scalar_value right) }
 {
     match left {
         Scalar::Number(a) => match right {
@@ -150,7 +155,7 @@ fn apply_multiply_operator_to_numbers(
     a: i32,
     b: i32,
 ) -> Result<Scalar, OperatorFault>
-    ensures { scalar_outcome result ≡ multiply operator (number a) (number b) }
+    ensures { scalar_outcome result ≡ apply_multiply_operator operator (number a) (number b) }
 {
     match operator {
         MultiplyOperator::Multiply => checked_number(a.checked_mul(b)),
@@ -166,7 +171,7 @@ fn apply_multiply_operator_to_truth_values(
     a: bool,
     b: bool,
 ) -> Result<Scalar, OperatorFault>
-    ensures { scalar_outcome result ≡ multiply operator (truth a) (truth b) }
+    ensures { scalar_outcome result ≡ apply_multiply_operator operator (truth a) (truth b) }
 {
     match operator {
         MultiplyOperator::Multiply => Err(OperatorFault::Operand),
@@ -288,8 +293,8 @@ pub fn apply_sign(sign: Option<Sign>, operand: Scalar) -> Result<Scalar, Operato
 /// # Errors
 ///
 /// `Operand` if the operand is a number.
-pub fn negate(operand: Scalar) -> Result<Scalar, OperatorFault>
-    ensures { scalar_outcome result ≡ negate (scalar_value operand) }
+pub fn apply_not(operand: Scalar) -> Result<Scalar, OperatorFault>
+    ensures { scalar_outcome result ≡ apply_not (scalar_value operand) }
 {
     match operand {
         Scalar::Number(_) => Err(OperatorFault::Operand),

@@ -1,7 +1,7 @@
 -- Proves one step of the pass over the tokens and comments of a text: which lexeme is next, and
 -- which gap is before it.
--- The loop needs only `at_comment`, `at_token` and `at_end`; `passing_moved` moves their facts
--- along equations.
+-- The loop needs only `at_comment`, `at_token` and `at_end`. `passing_moved` carries their facts
+-- over along equations.
 use Rattle.std.proofs.Common.{◌≡◌, ℕ, ◌+◌, ◌-◌, ◌*◌, ◌<◌, ◌≤◌, Bool, true, false, ◌||◌, cond, ◌⊎◌, inl, inr, Option, Some, None, List, [], ◌∷◌, ◌++◌, length, take, drop, map, replicate, slice_range, refl, sym, ap, ◌∙◌, subst, arith, append_assoc, append-nil, is_none}
 use Rattle.std.proofs.Math.Seq.{take-append-add}
 use Rattle.std.proofs.lemmas.Bool.Decides.{nat_tests}

@@ -30,7 +30,7 @@ use Rattle.ob0_layout.specs.declared.gap.Gap.TheVariants.{Nothing, Space}
 use Rattle.ob0_layout.specs.declared.line_role.LineRole.{LineRole}
 use Rattle.ob0_layout.specs.declared.line_role.LineRole.TheVariants.{BeginsLine, OpensParameters, JoinsNextToken, Plain}
 use Rattle.ob0_layout.specs.LineRoles.{line_roles}
-use Rattle.ob0_layout.specs.Layout.{LexemeWithRole, lexemes_with_roles, next_token_line_level, next_token_role, contains_line_break, comment_role, is_comment, has_no_space_before, has_no_space_after, indentation, gap_text_between, gap_between, gap_between_on_same_line, gap_text, white_space_lexeme_unless_empty, further_lexemes_with_formatted_gaps, lexemes_with_formatted_gaps, formatted_lexemes}
+use Rattle.ob0_layout.specs.Layout.{LexemeWithRole, lexemes_with_roles, next_token_line_level, next_token_role, contains_line_break, comment_role, is_comment, forbids_space_before, forbids_space_after, indentation, gap_text_between, gap_between, gap_between_on_same_line, gap_text, white_space_lexeme_unless_empty, further_lexemes_with_formatted_gaps, lexemes_with_formatted_gaps, formatted_lexemes}
 use Rattle.ob0_layout.proofs.Pairs.{Calm, calm_next, calm_paren, is_paren, is_star, calm_spelled}
 
 -- holds if a lexeme is a token or comment
@@ -70,7 +70,7 @@ differ : false ≡ true → ⊥
 differ e = cc
 
 -- A token that needs no space before it continues no token.
-quiet_symbol : (s : Symbol) (role : LineRole) → has_no_space_before (lexeme.Token (token.Symbol s)) role ≡ true → Quiet (get_or (symbol_text s) 0 0)
+quiet_symbol : (s : Symbol) (role : LineRole) → forbids_space_before (lexeme.Token (token.Symbol s)) role ≡ true → Quiet (get_or (symbol_text s) 0 0)
 quiet_symbol symbol.Dot role h = record { alone = refl; unequal = refl; starless = refl }
 quiet_symbol symbol.Comma role h = record { alone = refl; unequal = refl; starless = refl }
 quiet_symbol symbol.Semicolon role h = record { alone = refl; unequal = refl; starless = refl }
@@ -81,7 +81,7 @@ quiet_symbol symbol.LeftBracket role h = record { alone = refl; unequal = refl; 
 quiet_symbol symbol.RightBracket role h = record { alone = refl; unequal = refl; starless = refl }
 quiet_symbol _ role h = absurd (differ h)
 
-quiet_first : (k : LexemeKind) (text : List ℕ) (role : LineRole) → IsLexemeOfKind k text → has_no_space_before k role ≡ true → Quiet (get_or text 0 0)
+quiet_first : (k : LexemeKind) (text : List ℕ) (role : LineRole) → IsLexemeOfKind k text → forbids_space_before k role ≡ true → Quiet (get_or text 0 0)
 quiet_first (lexeme.Token (token.Symbol s)) text role b h = subst (λ t. Quiet (get_or t 0 0)) (sym b) (quiet_symbol s role h)
 quiet_first _ text role b h = absurd (differ h)
 
@@ -89,14 +89,14 @@ quiet_first _ text role b h = absurd (differ h)
 abbrev left_paren : LexemeKind
 left_paren = lexeme.Token (token.Symbol symbol.LeftParen)
 
-direct_symbol : (s : Symbol) (role : LineRole) (x : ℕ) → has_no_space_after (lexeme.Token (token.Symbol s)) role ≡ true → (lexeme.Token (token.Symbol s) ≡ left_paren → (x == 42) ≡ false) → continues_symbol s x ≡ false
+direct_symbol : (s : Symbol) (role : LineRole) (x : ℕ) → forbids_space_after (lexeme.Token (token.Symbol s)) role ≡ true → (lexeme.Token (token.Symbol s) ≡ left_paren → (x == 42) ≡ false) → continues_symbol s x ≡ false
 direct_symbol symbol.Less role x h star = absurd (differ h)
 direct_symbol symbol.Greater role x h star = absurd (differ h)
 direct_symbol symbol.Colon role x h star = absurd (differ h)
 direct_symbol symbol.LeftParen role x h star = star refl
 direct_symbol _ role x h star = refl
 
-direct_ends : (k : LexemeKind) (role : LineRole) (x : ℕ) → has_no_space_after k role ≡ true → (k ≡ left_paren → (x == 42) ≡ false) → continues_lexeme k x ≡ false
+direct_ends : (k : LexemeKind) (role : LineRole) (x : ℕ) → forbids_space_after k role ≡ true → (k ≡ left_paren → (x == 42) ≡ false) → continues_lexeme k x ≡ false
 direct_ends (lexeme.Token (token.Symbol s)) role x h star = direct_symbol s role x h star
 direct_ends _ role x h star = absurd (differ h)
 
@@ -146,14 +146,14 @@ record Neighbours (a b : LexemeWithRole) : Type 0 where
   starless : a.lexeme.kind ≡ left_paren → is_comment b.lexeme.kind ≡ false → (get_or b.lexeme.text 0 0 == 42) ≡ false
 
 joined_fits : (a b : LexemeWithRole) → Neighbours a b → is_comment b.lexeme.kind ≡ false
-    → (has_no_space_before b.lexeme.kind b.role || has_no_space_after a.lexeme.kind a.role) ≡ true → Fits a.lexeme.kind (get_or b.lexeme.text 0 0) []
+    → (forbids_space_before b.lexeme.kind b.role || forbids_space_after a.lexeme.kind a.role) ≡ true → Fits a.lexeme.kind (get_or b.lexeme.text 0 0) []
 joined_fits a b n uncommented h = directly (⊎_elim
     (λ f. quiet_ends a.lexeme.kind (get_or b.lexeme.text 0 0) n.left (quiet_first b.lexeme.kind b.lexeme.text b.role n.right_belongs f))
     (λ p. direct_ends a.lexeme.kind a.role (get_or b.lexeme.text 0 0) p (λ paren. n.starless paren uncommented))
-    (either_true (has_no_space_before b.lexeme.kind b.role) (has_no_space_after a.lexeme.kind a.role) h))
+    (either_true (forbids_space_before b.lexeme.kind b.role) (forbids_space_after a.lexeme.kind a.role) h))
 
 in_line_fits : (indent : Indent) (a b : LexemeWithRole) → Neighbours a b → (c d : Bool) → (is_comment a.lexeme.kind || is_comment b.lexeme.kind) ≡ c
-    → (has_no_space_before b.lexeme.kind b.role || has_no_space_after a.lexeme.kind a.role) ≡ d
+    → (forbids_space_before b.lexeme.kind b.role || forbids_space_after a.lexeme.kind a.role) ≡ d
     → Fits a.lexeme.kind (get_or b.lexeme.text 0 0) (gap_text indent (cond c Space (cond d Nothing Space)))
 in_line_fits indent a b n false true e f = joined_fits a b n (both_false (is_comment a.lexeme.kind) (is_comment b.lexeme.kind) e) f
 in_line_fits indent a b n _ _ e f = space_fits a.lexeme.kind (get_or b.lexeme.text 0 0)

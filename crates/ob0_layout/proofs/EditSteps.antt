@@ -1,4 +1,4 @@
--- Proves that the loop makes the edits of the gaps one after another.
+-- Proves that each step of the loop over the changed gaps makes the edit of the next gap.
 use Rattle.std.proofs.Common.{◌≡◌, ℕ, ◌+◌, ◌<◌, List, [], ◌∷◌, ◌++◌, length, map, take, get_or, sym, ap, ◌∙◌, arith}
 use Rattle.std.proofs.lemmas.List.{get_or-map, map-append, map_more, length-map}
 use Rattle.ob0_text.specs.declared.edits.Edit.{Edit}

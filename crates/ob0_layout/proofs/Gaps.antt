@@ -1,6 +1,6 @@
 -- Proves that the gaps of a text lie between its tokens and comments, and that replacing them gives
 -- the formatted text.
--- Gaps that don't change can be omitted. So the length of the formatted text can be counted from
+-- Gaps that don't change can be omitted. So the length of the formatted text can be computed from
 -- the gaps that change (`changed_length`).
 use Rattle.std.proofs.Common.{◌≡◌, ℕ, zero, suc, ◌-◌, ◌<◌, ◌≤◌, Bool, true, false, not, cond, Some, List, [], ◌∷◌, ◌++◌, length, take, drop, map, slice_range, refl, sym, ap, ap₂, ◌∙◌, subst, arith, append_assoc}
 use Rattle.std.proofs.Math.Seq.{drop-length}
@@ -16,9 +16,9 @@ use Rattle.ob0_scan.specs.TextWithTokens.{TextWithTokens, IsScan}
 use Rattle.ob0_text.specs.declared.edits.Edit.{Edit}
 use Rattle.ob0_text.specs.declared.edits.Indent.{Indent}
 use Rattle.ob0_text.specs.declared.position_types.Unit as counting
-use Rattle.ob0_text.specs.Patches.{Cut, patched_text, text_from_place_with_cuts}
+use Rattle.ob0_text.specs.Patches.{Cut, patched_text, text_after_cuts_from_offset}
 use Rattle.ob0_text.specs.Units.{width_of}
-use Rattle.ob0_edits_tokens.specs.ByteCuts.{edit_of_cut, length_from_place_with_cuts}
+use Rattle.ob0_edits_tokens.specs.ByteCuts.{edit_of_cut, length_after_cuts_from_offset}
 use Rattle.ob0_edits_tokens.specs.Replacements.{range_and_text}
 use Rattle.ob0_edits_tokens.proofs.TextCuts.{AreCuts, cuts_from, made_length, made_utf8, patched_at_cuts, pieced_here, pieced_later, two_parts}
 use Rattle.ob0_layout.specs.declared.gap.Gap.{Gap}
@@ -92,22 +92,22 @@ module _ (text : List ℕ) where
   ]
 
   -- Gaps that don't change can be omitted.
-  kept_or_changed : (at : ℕ) (cs : List Cut) → AreCuts text at cs → text_from_place_with_cuts text at (changed_gaps text cs) ≡ text_from_place_with_cuts text at cs
-  unfolding text_from_place_with_cuts
+  kept_or_changed : (at : ℕ) (cs : List Cut) → AreCuts text at cs → text_after_cuts_from_offset text at (changed_gaps text cs) ≡ text_after_cuts_from_offset text at cs
+  unfolding text_after_cuts_from_offset
   kept_or_changed at [] are = refl
   kept_or_changed at (c ∷ cs) are = by_test (bytes_eq (slice_range text c.from c.to) c.new) refl (kept_or_changed c.to cs are.1)
     where
-      by_test : (b : Bool) → bytes_eq (slice_range text c.from c.to) c.new ≡ b → text_from_place_with_cuts text c.to (changed_gaps text cs) ≡ text_from_place_with_cuts text c.to cs → text_from_place_with_cuts text at (changed_gaps text (c ∷ cs)) ≡ text_from_place_with_cuts text at (c ∷ cs)
+      by_test : (b : Bool) → bytes_eq (slice_range text c.from c.to) c.new ≡ b → text_after_cuts_from_offset text c.to (changed_gaps text cs) ≡ text_after_cuts_from_offset text c.to cs → text_after_cuts_from_offset text at (changed_gaps text (c ∷ cs)) ≡ text_after_cuts_from_offset text at (c ∷ cs)
       by_test true e more =
           let stays : slice_range text c.from c.to ≡ c.new = (bytes_eq-Decides (slice_range text c.from c.to) c.new).0 e in
-          ap (λ b. text_from_place_with_cuts text at (cond (not b) (c ∷ changed_gaps text cs) (changed_gaps text cs))) e
+          ap (λ b. text_after_cuts_from_offset text at (cond (not b) (c ∷ changed_gaps text cs) (changed_gaps text cs))) e
           ∙ pieced_later text at c.to (changed_gaps text cs) (omega (arith, are.0.up, are.0.ordered)) (changed_are c.to cs are.1)
           ∙ ap (λ xs. take (c.to - at) (drop at text) ++ xs) more
-          ∙ ap (λ xs. xs ++ text_from_place_with_cuts text c.to cs) (two_parts text at c.from c.to are.0.up are.0.ordered)
-          ∙ append_assoc (take (c.from - at) (drop at text)) (slice_range text c.from c.to) (text_from_place_with_cuts text c.to cs)
-          ∙ ap (λ xs. take (c.from - at) (drop at text) ++ (xs ++ text_from_place_with_cuts text c.to cs)) stays
+          ∙ ap (λ xs. xs ++ text_after_cuts_from_offset text c.to cs) (two_parts text at c.from c.to are.0.up are.0.ordered)
+          ∙ append_assoc (take (c.from - at) (drop at text)) (slice_range text c.from c.to) (text_after_cuts_from_offset text c.to cs)
+          ∙ ap (λ xs. take (c.from - at) (drop at text) ++ (xs ++ text_after_cuts_from_offset text c.to cs)) stays
       by_test false e more =
-          ap (λ b. text_from_place_with_cuts text at (cond (not b) (c ∷ changed_gaps text cs) (changed_gaps text cs))) e
+          ap (λ b. text_after_cuts_from_offset text at (cond (not b) (c ∷ changed_gaps text cs) (changed_gaps text cs))) e
           ∙ ap (λ xs. take (c.from - at) (drop at text) ++ (c.new ++ xs)) more
 
   module _ (indent : Indent) where
@@ -125,19 +125,19 @@ module _ (text : List ℕ) where
         first_gap 0 (record { from = 0; to = b.span.start; new = [] }) (gaps_after_token_or_comment indent (length text) b bs) (omega arith) h.0 no_white
         (gaps_from b.span.end b.span.start (gaps_after_token_or_comment indent (length text) b bs) h.1.ordered (after_are b bs h.2))
 
-    nothing_after : text_from_place_with_cuts text (length text) [] ≡ []
-    unfolding text_from_place_with_cuts
+    nothing_after : text_after_cuts_from_offset text (length text) [] ≡ []
+    unfolding text_after_cuts_from_offset
     nothing_after = drop-length text
 
     -- A token or comment and the gaps after it give the token or comment and the formatted lexemes
     -- after it.
-    over : (b : LexemeWithRole) (bs : List LexemeWithRole) → IsAt text b → AreIn text b.span.end bs → text_from_place_with_cuts text b.span.end (gaps_after_token_or_comment indent (length text) b bs) ≡ text_of_lexemes (further_lexemes_with_formatted_gaps indent b bs)
-        → text_from_place_with_cuts text b.span.start (gaps_after_token_or_comment indent (length text) b bs) ≡ text_of_lexemes (b.lexeme ∷ further_lexemes_with_formatted_gaps indent b bs)
+    over : (b : LexemeWithRole) (bs : List LexemeWithRole) → IsAt text b → AreIn text b.span.end bs → text_after_cuts_from_offset text b.span.end (gaps_after_token_or_comment indent (length text) b bs) ≡ text_of_lexemes (further_lexemes_with_formatted_gaps indent b bs)
+        → text_after_cuts_from_offset text b.span.start (gaps_after_token_or_comment indent (length text) b bs) ≡ text_of_lexemes (b.lexeme ∷ further_lexemes_with_formatted_gaps indent b bs)
     over b bs is h more =
         pieced_later text b.span.start b.span.end (gaps_after_token_or_comment indent (length text) b bs) is.ordered (after_are b bs h).cuts
         ∙ ap₂ (λ xs ys. xs ++ ys) is.here more
 
-    after_made : (a : LexemeWithRole) (bs : List LexemeWithRole) → AreIn text a.span.end bs → text_from_place_with_cuts text a.span.end (gaps_after_token_or_comment indent (length text) a bs) ≡ text_of_lexemes (further_lexemes_with_formatted_gaps indent a bs)
+    after_made : (a : LexemeWithRole) (bs : List LexemeWithRole) → AreIn text a.span.end bs → text_after_cuts_from_offset text a.span.end (gaps_after_token_or_comment indent (length text) a bs) ≡ text_of_lexemes (further_lexemes_with_formatted_gaps indent a bs)
     unfolding AreIn
     after_made a [] h = pieced_here text a.span.end (record { from = a.span.end; to = length text; new = 10 ∷ [] }) (length text) [] refl refl ∙ ap (λ xs. 10 ∷ xs) nothing_after
     after_made a (b ∷ bs) h =
@@ -145,7 +145,7 @@ module _ (text : List ℕ) where
         ∙ ap (λ xs. gap_text_between indent a b ++ xs) (over b bs h.1 h.2 (after_made b bs h.2))
         ∙ sym (joined_spaced (gap_text_between indent a b) (b.lexeme ∷ further_lexemes_with_formatted_gaps indent b bs))
 
-    gaps_made : (bs : List LexemeWithRole) → AreIn text 0 bs → text_from_place_with_cuts text 0 (gaps_of_lexemes indent (length text) bs) ≡ text_of_lexemes (lexemes_with_formatted_gaps indent bs)
+    gaps_made : (bs : List LexemeWithRole) → AreIn text 0 bs → text_after_cuts_from_offset text 0 (gaps_of_lexemes indent (length text) bs) ≡ text_of_lexemes (lexemes_with_formatted_gaps indent bs)
     unfolding AreIn
     gaps_made [] h = pieced_here text 0 (record { from = 0; to = length text; new = [] }) (length text) [] refl refl ∙ nothing_after
     gaps_made (b ∷ bs) h = pieced_here text 0 (record { from = 0; to = b.span.start; new = [] }) b.span.start (gaps_after_token_or_comment indent (length text) b bs) refl refl ∙ over b bs h.1 h.2 (after_made b bs h.2)
@@ -164,16 +164,16 @@ module _ (indent : Indent) (s : TextWithTokens) (scan : IsScan s) (ss : List Lin
   pub all_changed_are : AreCuts s.text 0 (changed_gaps s.text gaps)
   all_changed_are = changed_are s.text 0 gaps all_are.cuts
 
-  pub all_made : text_from_place_with_cuts s.text 0 gaps ≡ formatted
+  pub all_made : text_after_cuts_from_offset s.text 0 gaps ≡ formatted
   all_made = gaps_made s.text indent (lexemes_with_roles 0 0 true ss scan.lexemes) (all_in s scan ss)
 
-  pub changed_made : text_from_place_with_cuts s.text 0 (changed_gaps s.text gaps) ≡ formatted
+  pub changed_made : text_after_cuts_from_offset s.text 0 (changed_gaps s.text gaps) ≡ formatted
   changed_made = kept_or_changed s.text 0 gaps all_are.cuts ∙ all_made
 
-  pub all_length : length_from_place_with_cuts (length s.text) 0 gaps ≡ length formatted
+  pub all_length : length_after_cuts_from_offset (length s.text) 0 gaps ≡ length formatted
   all_length = sym (made_length s.text 0 gaps all_are.cuts) ∙ ap length all_made
 
-  pub changed_length : length_from_place_with_cuts (length s.text) 0 (changed_gaps s.text gaps) ≡ length formatted
+  pub changed_length : length_after_cuts_from_offset (length s.text) 0 (changed_gaps s.text gaps) ≡ length formatted
   changed_length = sym (made_length s.text 0 (changed_gaps s.text gaps) all_changed_are) ∙ ap length changed_made
 
   pub formatted_utf8 : IsUtf8 formatted

@@ -1,4 +1,4 @@
--- Proves that the code's tests say if bytes are the text of a gap.
+-- Proves that the code tests correctly whether bytes are the text of a gap.
 use Rattle.std.proofs.Common.{◌≡◌, ℕ, ◌*◌, ◌&&◌, List, [], ◌∷◌, length, replicate, refl, ap, ◌∙◌}
 use Rattle.std.specs.Prelude.{bytes_eq, ◌==◌}
 use Rattle.std.proofs.lemmas.List.{length-replicate}

@@ -1,5 +1,5 @@
--- Defines the role of each token of a tree in its line: whether the token begins the line, and
--- whether a space may stand next to it.
+-- Defines the line role of each token of a tree: whether the token begins a line, and whether a
+-- space may stand next to it.
 -- Rule: docs/LANGUAGE.md, Layout 2 to 4.
 use Rattle.std.specs.Prelude.{ℕ, ◌+◌, Bool, true, false, Option, Some, None, List, [], ◌∷◌, ◌++◌}
 use Rattle.ob0_tree.specs.declared.tree.Sign.{Sign}

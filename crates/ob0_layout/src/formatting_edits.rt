@@ -8,7 +8,7 @@ ghost use Rattle.ob0_text.specs.Patches.{patched_text};
 ghost use Rattle.ob0_text.specs.Units.{width_of};
 ghost use Rattle.ob0_text.specs.declared.refusals.EditRefusal.TheVariants.{TooLong, Memory};
 ghost use Rattle.ob0_tree.specs.ParsedModule.{named_tree_of};
-ghost use Rattle.ob0_edits_tokens.specs.ByteCuts.{edit_of_cut, length_from_place_with_cuts};
+ghost use Rattle.ob0_edits_tokens.specs.ByteCuts.{edit_of_cut, length_after_cuts_from_offset};
 ghost use Rattle.ob0_edits_tokens.specs.Replacements.{range_and_text};
 ghost use Rattle.ob0_layout.specs.Layout.{formatted_text};
 ghost use Rattle.ob0_layout.specs.LineRoles.{line_roles};
@@ -60,12 +60,12 @@ pub fn format<T: TextStore>(
 }
 
 /// Returns whether a text of `len` bytes has at most `MAX_TEXT_LENGTH` bytes after formatting.
-/// Formatting changes only the gaps `gap_sites`.
+/// `gap_sites` are the gaps that formatting changes.
 fn is_formatted_text_within_limit(gap_sites: &[GapSite], len: usize, indent: Indent) -> bool
     requires length { len ≤ max_text_length }
     requires within { All (GapLiesInText len) gap_sites.now }
     ensures { IsTrue result
-        ↔ length_from_place_with_cuts len 0 (map (gap_cut indent) gap_sites.now) ≤ max_text_length }
+        ↔ length_after_cuts_from_offset len 0 (map (gap_cut indent) gap_sites.now) ≤ max_text_length }
 {
     let mut made = 0;
     let mut at = 0;

@@ -198,8 +198,8 @@ fn without_first_item<T>(items: &[T]) -> &[T]
 }
 
 /// Returns the role of a comment. `broken` is true if the comment is preceded by a line break or by
-/// the start of the text. Then the comment begins a line of the level `level`. Otherwise its role
-/// is `Plain`.
+/// the start of the text. If `broken` is true, the comment begins a line of the level `level`.
+/// Otherwise its role is `Plain`.
 fn comment_role(broken: bool, level: u32) -> LineRole
     ensures { result ≡ comment_role broken level }
 {
@@ -210,9 +210,8 @@ fn comment_role(broken: bool, level: u32) -> LineRole
     }
 }
 
-/// Returns whether a comment begins a line. It does if the gap before the comment has a line break,
-/// or if the comment is the first token or comment of the text (`before` is None). `gap` has the
-/// bytes of that gap.
+/// Returns whether a comment begins a line. It does if a line break precedes it, or if no token or
+/// comment precedes it (`before` is None). `gap` has the bytes of the gap before the comment.
 fn comment_begins_line(before: Option<KindAndRole>, gap: &[u8]) -> bool
     ensures { result ≡ (is_none before || contains_line_break gap.now) }
 {

@@ -8,11 +8,11 @@ ghost use Rattle.std.specs.Str.{IsUtf8};
 ghost use Rattle.ob0_scan.specs.LexemeClasses.{is_white_space};
 ghost use Rattle.ob0_scan.specs.TextLexemes.{LexesInto};
 ghost use Rattle.ob0_scan.specs.TextWithTokens.{TextWithTokens, IsScan};
-ghost use Rattle.ob0_text.specs.Patches.{Cut, text_from_place_with_cuts};
+ghost use Rattle.ob0_text.specs.Patches.{Cut, text_after_cuts_from_offset};
 ghost use Rattle.ob0_text.specs.declared.edits.Indent.{Indent};
 ghost use Rattle.ob0_tree.specs.Tree.{Tree, module_text};
 ghost use Rattle.ob0_tree.specs.Module.{IsModuleWithTree};
-ghost use Rattle.ob0_edits_tokens.specs.ByteCuts.{length_from_place_with_cuts};
+ghost use Rattle.ob0_edits_tokens.specs.ByteCuts.{length_after_cuts_from_offset};
 ghost use Rattle.ob0_layout.specs.Layout.{lexemes_without_white_space, formatted_lexemes, formatted_text};
 ghost use Rattle.ob0_layout.specs.Gaps.{ReplacesOnlyWhiteSpace, all_gaps, changed_gaps};
 ghost use Rattle.ob0_layout.specs.LineRoles.{line_roles};
@@ -46,20 +46,20 @@ pub fn formatting_is_idempotent()
 {}
 
 /// Proves that replacing the gaps that formatting changes gives the formatted text. Also proves
-/// that the formatted text is UTF-8, and that `length_from_place_with_cuts` computes its length in
-/// bytes.
+/// that the formatted text is UTF-8, and that `length_after_cuts_from_offset` computes the formatted
+/// text's length in bytes.
 pub fn replacing_gaps_gives_formatted_text()
     ensures utf8 { (indent : Indent) (s : TextWithTokens) (scan : IsScan s)
         (tree : Tree (List ℕ) module_text)
         → IsUtf8 (formatted_text indent tree scan.lexemes) }
     ensures made { (indent : Indent) (s : TextWithTokens) (scan : IsScan s)
         (tree : Tree (List ℕ) module_text)
-        → text_from_place_with_cuts s.text 0
+        → text_after_cuts_from_offset s.text 0
         (changed_gaps s.text (all_gaps indent s.text (line_roles 0 tree) scan.lexemes))
         ≡ formatted_text indent tree scan.lexemes }
     ensures length { (indent : Indent) (s : TextWithTokens) (scan : IsScan s)
         (tree : Tree (List ℕ) module_text)
-        → length_from_place_with_cuts (length s.text) 0
+        → length_after_cuts_from_offset (length s.text) 0
         (all_gaps indent s.text (line_roles 0 tree) scan.lexemes)
         ≡ length (formatted_text indent tree scan.lexemes) }
 {}

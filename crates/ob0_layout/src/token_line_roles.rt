@@ -10,8 +10,8 @@ ghost use Rattle.ob0_tree.specs.View.{items_of, expression_of, compound_expressi
 use crate::line_role::LineRole;
 use ob0_tree::{
     Assignment, Block, Call, CompoundExpression, ConstantDeclaration, Designator, Elsif,
-    Expression, Factor, If, Module, Names, OptionalFieldGroup, ParameterSection, Procedure,
-    RecordType, Selector, Sign, SimpleExpression, Statement, Term, TypeDeclaration,
+    Expression, Factor, IdentifierList, If, Module, OptionalFieldGroup, ParameterSection,
+    Procedure, RecordType, Selector, Sign, SimpleExpression, Statement, Term, TypeDeclaration,
     VariableDeclaration, WrittenType,
 };
 use std::alloc::{AllocError, Global};
@@ -330,7 +330,7 @@ fn add_elsif_roles(
 fn add_name_list_roles(
     out: &mut Vec<LineRole>,
     first: LineRole,
-    ns: &Names,
+    ns: &IdentifierList,
 ) -> Result<(), AllocError>
     ensures { IfOk result (λ _. out.new.items
         ≡ out.old.items ++ (first ∷ line_roles 0 (items_of comma_then_name ns.now.more.items))) }

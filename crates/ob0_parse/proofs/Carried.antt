@@ -1,4 +1,4 @@
--- Proves which kept trees are in place in another text.
+-- Proves which kept trees match the tokens of a changed text, and in which ranges.
 use Rattle.std.proofs.Common.{◌≡◌, ℕ, ◌+◌, ◌-◌, ◌<◌, ◌≤◌, Bool, true, false, cond, All, List, [], ◌∷◌, take, drop, length, refl, sym, ◌∙◌, ap, subst, arith, slice_range, length-drop}
 use Rattle.std.specs.List.Retain.{RetainsInTurn}
 use Rattle.std.proofs.lemmas.List.{drop-drop, drop-take, length-map, take-take}

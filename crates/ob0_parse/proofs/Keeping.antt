@@ -1,4 +1,5 @@
--- Proves which tokens a tree has in its range, from the tokens that remain at the range's ends.
+-- Proves which tokens are in a tree's range, given the remaining tokens of the text at the start
+-- and at the end of the range.
 use Rattle.std.proofs.Common.{◌≡◌, ℕ, ◌+◌, ◌-◌, ◌<◌, ◌≤◌, List, [], ◌∷◌, ◌++◌, take, drop, length, refl, sym, ◌∙◌, ap, arith, append_assoc, length-append, length-drop, slice_range}
 use Rattle.std.proofs.lemmas.List.{append_cancel_right, drop-append-le, drop-drop, drop_at, length-map, length-take-le, take-append-drop}
 use Rattle.ob0_scan.specs.declared.lexeme.TokenKind.{TokenKind}

@@ -1,4 +1,5 @@
--- Proves facts about lists whose items are moved one after another.
+-- Proves that shifting the leaves of each item of a list, one item after another, shifts the leaves
+-- of the list's tree.
 use Rattle.std.proofs.Common.{◌≡◌, ◌≢◌, ℕ, zero, suc, ◌≤◌, ◌<◌, ◌+◌, List, [], ◌∷◌, length, set, get_or, length-set, get_or-set_other, refl, sym, ◌∙◌, ap, subst, arith, add-one}
 use Rattle.ob0_tree.specs.declared.tree.Expression.{Expression}
 use Rattle.ob0_tree.specs.declared.tree.Statement.{Statement}

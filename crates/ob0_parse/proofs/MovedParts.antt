@@ -1,4 +1,5 @@
--- Proves facts about the trees of values whose parts are moved one after another.
+-- Proves that shifting the leaves of each part of a value, one part after another, shifts the
+-- leaves of the value's tree.
 use Rattle.std.proofs.Common.{◌≡◌, ℕ, Box, Option, sym, ◌∙◌, ap}
 use Rattle.std.specs.declared.vec.Vec.{Vec}
 use Rattle.std.specs.declared.alloc.Global.{Global}

@@ -1,4 +1,4 @@
--- Proves that a tree whose leaves are moved spells the tokens at its new place.
+-- Proves that a tree whose leaves were shifted spells the tokens at its new place.
 use Rattle.std.proofs.Common.{◌≡◌, ℕ, ◌+◌, ◌-◌, ◌^◌, ◌≤◌, List, map, length, ◌∙◌, ap, arith, slice_range}
 use Rattle.ob0_scan.specs.declared.lexeme.TokenKind.{TokenKind}
 use Rattle.ob0_scan.specs.declared.lexeme.Token.{Token}

@@ -1,5 +1,6 @@
--- Proves facts about a text whose tokens have the same kinds as before, one by one. It has the same
--- tree over token indexes, or the parser refuses it at the same token.
+-- Proves facts about two texts whose tokens have the same kinds in the same order. If one text is a
+-- module, the other has the same tree of token indexes. If a refusal is right for one text, it is
+-- right for the other.
 use Rattle.std.proofs.Common.{◌≡◌, ℕ, ◌+◌, ◌≤◌, List, [], ◌∷◌, ◌++◌, map, take, length, sym, ap, ◌∙◌, subst}
 use Rattle.std.proofs.lemmas.List.{map-append, length-map, take-map}
 use Rattle.ob0_scan.specs.declared.lexeme.Token.{Token}

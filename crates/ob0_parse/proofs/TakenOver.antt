@@ -1,4 +1,4 @@
--- Proves that the parser may reuse the kept trees.
+-- Proves that the parser may reuse a kept tree if the token after the tree can't continue the tree.
 use Rattle.std.proofs.Common.{◌≡◌, ℕ, ◌+◌, ◌<◌, Bool, true, false, List, ◌∷◌, ◌++◌, Result, Ok, Err, is_ok, length, sym, ◌∙◌, ap, subst, arith}
 use Rattle.std.proofs.lemmas.Bool.{false≢true}
 use Rattle.ob0_scan.specs.declared.lexeme.Token.{Token}

@@ -30,12 +30,12 @@ indexed_terminals_of_kinds i [] = []
 indexed_terminals_of_kinds i (k ∷ ks) = indexed_terminal i k ∷ indexed_terminals_of_kinds (i + 1) ks
 
 -- Returns the sort of the construct's tree.
-abbrev pub sort_of : ReusableConstruct → Sort
-sort_of (construct.Procedure p) = item procedure
-sort_of (construct.Body statements) = maybe body
+abbrev pub sort_of_construct : ReusableConstruct → Sort
+sort_of_construct (construct.Procedure p) = item procedure
+sort_of_construct (construct.Body statements) = maybe body
 
 -- Returns the construct's tree. The tree of a body spells BEGIN before the statements.
-abbrev pub tree_of_construct : (c : ReusableConstruct) → Tree ℕ (sort_of c)
+abbrev pub tree_of_construct : (c : ReusableConstruct) → Tree ℕ (sort_of_construct c)
 tree_of_construct (construct.Procedure p) = procedure_of p
 tree_of_construct (construct.Body statements) = body_of (Some statements)
 
@@ -73,8 +73,9 @@ pub record TokensContainProcedures (ts : List Token) (ps : List Procedure) : Typ
   pub shallow : nesting (items_of procedure_of ps) ≤ max_nesting
   pub within : next ≤ length ts
 
--- States that `ts` has the tokens of the procedures `ps` and then of the body `statements`. One
--- token follows the body, and `closing` is the index after it.
+-- States that `ts` has the tokens of the procedures `ps`, directly followed by the tokens of the
+-- optional body `statements`. One token stands between these tokens and the token with the index
+-- `closing`.
 pub record ModuleEndsWithParts
     (ts : List Token) (ps : List Procedure) (statements : Option (Vec Statement Global)) (closing : ℕ)
     : Type 0 where
@@ -95,7 +96,7 @@ RelocatesTree same a b there =
 
 -- States that the token with the index `next` can't continue a tree of the construct.
 abbrev pub TokenEndsTree : List Token → ReusableConstruct → ℕ → Type 0
-TokenEndsTree ts c next = NextTokenEndsConstruct (max_continuing_rank (sort_of c)) (remaining_terminals ts next)
+TokenEndsTree ts c next = NextTokenEndsConstruct (max_continuing_rank (sort_of_construct c)) (remaining_terminals ts next)
 
 -- States that the construct `x.0` has the tokens `at..x.1` of `ts`, as if the parser had read it
 -- there.

@@ -7,12 +7,12 @@
 //! kinds (`KeptTrees::move_to_changed_text`). If a text has a syntax error, the procedures before
 //! the error are kept. The trees from earlier texts after the error are also kept.
 //!
-//! Whichever parse made a kept tree, the tree can be reused if the token after it can't continue
-//! it. No token can continue a procedure, because a procedure ends with a semicolon (`stops_zero`).
-//! The token after a reused body is END, which can't continue a body. In both cases no other tree
-//! has the same tokens (the lemma `same`). The descent reads every tree that the tokens spell (the
-//! lemma `finishes`). So the tree fulfils `IsReadTree` if it spells the tokens (the lemma
-//! `is_read_tree_at`).
+//! A kept tree can be reused, whichever parse made it, if the token after the tree can't continue
+//! the tree. No token can continue a procedure, because a procedure's tokens end with a semicolon
+//! (`stops_zero`). The token after a reused body is END, which can't continue a body. In both cases
+//! no other tree has the same tokens (the lemma `same`). The descent reads every tree that the
+//! tokens spell (the lemma `finishes`). So the tree fulfils `IsReadTree` if it spells the tokens
+//! (the lemma `is_read_tree_at`).
 //!
 //! The leaves of a procedure determine the range of its tokens. A procedure's name is its second
 //! token, and its closing name is its second-last token. The leaves of a body don't determine the
@@ -98,9 +98,8 @@ impl KeptTrees {
     }
 
     /// Returns the kept trees whose tokens are also in the changed text, with the ranges of these
-    /// tokens in the changed text. `same` describes the tokens that the old and the changed text
-    /// share: those before and those after the change. The trees whose tokens have changed are
-    /// dropped.
+    /// tokens in the changed text. `same` describes the tokens before the change and the tokens
+    /// after it, which both texts share. The trees whose tokens have changed are dropped.
     pub fn move_to_changed_text(self, same: CommonPrefixAndSuffix) -> KeptTrees
         ensures { (old new : List Token)
             → PrefixAndSuffixHaveSameKinds same old new
@@ -144,7 +143,7 @@ fn kept_tree_of_body(
 /// Moves procedures to the end of `kept`, beginning with the last procedure, so that `kept` is in
 /// reverse text order. The leaves of the procedures must be the indexes of their tokens in the
 /// present text, because the leaves determine the ranges. If the index after a procedure's last
-/// token would be out of range, this procedure and those before it are dropped.
+/// token would be out of range, this procedure and the procedures before it are dropped.
 pub(crate) fn keep_procedures(
     kept: &mut Vec<KeptTree>,
     mut procedures: Vec<Procedure>,
@@ -171,8 +170,8 @@ pub(crate) fn keep_procedures(
 
 /// Removes from `kept` the tree that begins at the token `at`, and adapts its leaves to the present
 /// text. Returns that tree and the index of the token after it. Returns None if no kept tree begins
-/// at the token `at`, or if the token after the tree could continue it. Drops the trees that begin
-/// before the token `at`.
+/// at the token `at`, or if the token after the tree could continue the tree. Drops the trees that
+/// begin before the token `at`.
 pub(crate) fn take_tree_at(
     parser: &Parser<'_>,
     kept: &mut Vec<KeptTree>,
@@ -198,7 +197,7 @@ pub(crate) fn take_tree_at(
 impl KeptTree {
     /// Changes the tree's range to the range of its tokens in the changed text, and returns true.
     /// Returns false if the changed text doesn't have these tokens. `same` describes the tokens
-    /// that the old and the changed text share.
+    /// before the change and the tokens after it, which both texts share.
     fn move_to_changed_text(&mut self, same: CommonPrefixAndSuffix) -> bool
         ensures { RelocatesTree same self.old self.new result }
     {

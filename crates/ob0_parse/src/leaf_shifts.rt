@@ -3,15 +3,15 @@
 
 ghost use Rattle.std.specs.Prelude.{◌≡◌};
 ghost use Rattle.ob0_tree.specs.Tree.{comma_then_name};
-ghost use Rattle.ob0_tree.specs.View.{expression_of, compound_expression_of, maybe_comparison_of, comparison_of, simple_expression_of, addend_of, term_of, multiplier_of, factor_of, designator_of, selector_of, items_of, names_of, assignment_of, call_of, arguments_of_vec, statement_of, if_of, elsif_of, elsifs_of_vec, sequence_of_vec, type_of, record_type_of_list, optional_field_group_of, parameter_section_of, formals_of, formals_of_list, constant_of, constant_section_of, constant_declarations_of_vec, type_declaration_of, type_section_of, type_declarations_of_vec, variable_of, variable_section_of, variable_declarations_of_vec, body_of, procedure_of, procedures_of_vec, block_of};
+ghost use Rattle.ob0_tree.specs.View.{expression_of, compound_expression_of, maybe_comparison_of, comparison_of, simple_expression_of, addend_of, term_of, multiplier_of, factor_of, designator_of, selector_of, items_of, names_of, assignment_of, call_of, arguments_of_vec, statement_of, if_of, elsif_of, elsifs_of_vec, sequence_of_vec, type_of, record_type_of_list, optional_field_group_of, parameter_section_of, formals_of, formals_of_list, constant_declaration_of, constant_section_of, constant_declarations_of_vec, type_declaration_of, type_section_of, type_declarations_of_vec, variable_declaration_of, variable_section_of, variable_declarations_of_vec, body_of, procedure_of, procedures_of_vec, block_of};
 ghost use Rattle.ob0_tree.specs.declared.tree.CompoundExpression.{back-CompoundExpression-compared};
 ghost use Rattle.ob0_parse.specs.ShiftedTrees.{tree_with_shifted_leaves, shifted_leaf};
 
 use ob0_tree::{
     Addend, Assignment, Block, Call, Comparison, CompoundExpression, ConstantDeclaration,
-    Designator, Elsif, Expression, Factor, FieldGroup, If, Multiplier, Names, OptionalFieldGroup,
-    ParameterSection, Procedure, Repeat, Selector, SimpleExpression, Statement, Term,
-    TypeDeclaration, VariableDeclaration, While, WrittenType,
+    Designator, Elsif, Expression, Factor, FieldGroup, IdentifierList, If, Multiplier,
+    OptionalFieldGroup, ParameterSection, Procedure, Repeat, Selector, SimpleExpression, Statement,
+    Term, TypeDeclaration, VariableDeclaration, While, WrittenType,
 };
 
 /// A shift of a tree's token indexes by a change of the text. The tree's first token has the index
@@ -286,7 +286,7 @@ fn shift_indexes_in_elsif(e: &mut Elsif, by: TokenIndexShift)
 }
 
 /// Applies the shift `by` to each token index in a list of names.
-fn shift_indexes_in_names(ns: &mut Names, by: TokenIndexShift)
+fn shift_indexes_in_names(ns: &mut IdentifierList, by: TokenIndexShift)
     ensures { names_of ns.new ≡ tree_with_shifted_leaves by (names_of ns.old) }
 {
     ns.first = by.shifted_leaf(ns.first);
@@ -408,7 +408,7 @@ fn shift_indexes_in_constant_declarations(
 
 /// Applies the shift `by` to each token index in the declaration of a constant.
 fn shift_indexes_in_constant_declaration(c: &mut ConstantDeclaration, by: TokenIndexShift)
-    ensures { constant_of c.new ≡ tree_with_shifted_leaves by (constant_of c.old) }
+    ensures { constant_declaration_of c.new ≡ tree_with_shifted_leaves by (constant_declaration_of c.old) }
 {
     c.name = by.shifted_leaf(c.name);
     shift_indexes_in_expression(&mut c.value, by);
@@ -470,7 +470,7 @@ fn shift_indexes_in_variable_declarations(
 
 /// Applies the shift `by` to each token index in a declaration of variables of one type.
 fn shift_indexes_in_variable_declaration(v: &mut VariableDeclaration, by: TokenIndexShift)
-    ensures { variable_of v.new ≡ tree_with_shifted_leaves by (variable_of v.old) }
+    ensures { variable_declaration_of v.new ≡ tree_with_shifted_leaves by (variable_declaration_of v.old) }
 {
     shift_indexes_in_names(&mut v.names, by);
     shift_indexes_in_type(&mut v.written, by);

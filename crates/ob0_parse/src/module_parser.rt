@@ -15,7 +15,7 @@ use ob0_scan::Tokens;
 use ob0_tree::{Module, ModuleTree};
 use std::alloc::Global;
 
-/// Returns the module that the tokens spell. Returns a refusal if the tokens spell no module or an
+/// Returns the module that the tokens form. Returns a refusal if the tokens form no module or an
 /// allocation fails.
 pub fn parse<'t>(alloc: Global, tokens: &'t Tokens) -> Result<Module<'t>, ParseRefusal>
     ensures found { IfOk result (λ m. (m.source ≡ tokens.now) × TreeMatchesText m) }
@@ -27,7 +27,7 @@ pub fn parse<'t>(alloc: Global, tokens: &'t Tokens) -> Result<Module<'t>, ParseR
     Ok(Module::new(tokens, tree))
 }
 
-/// Returns the tree of the module that the tokens spell. Returns a refusal if the tokens spell no
+/// Returns the tree of the module that the tokens form. Returns a refusal if the tokens form no
 /// module or an allocation fails. The tree borrows nothing, so it can be kept next to the tokens.
 pub fn parse_tree(alloc: Global, tokens: &Tokens) -> Result<ModuleTree, ParseRefusal>
     ensures found { IfOk result (λ tree. TreeMatchesText (parsed_module tokens.now tree)) }
@@ -39,7 +39,7 @@ pub fn parse_tree(alloc: Global, tokens: &Tokens) -> Result<ModuleTree, ParseRef
     reparse_tree(alloc, tokens, &mut none)
 }
 
-/// Returns the tree of the module that the tokens spell. Returns a refusal if the tokens spell no
+/// Returns the tree of the module that the tokens form. Returns a refusal if the tokens form no
 /// module or an allocation fails. Reuses the procedures and the body that `kept` has from earlier
 /// parses. The tokens in the range of each kept tree must have the kinds that the tree spells
 /// (`KeptTreesMatchTokens`). If the result is a refusal, `kept` may then also have procedures that

@@ -1,5 +1,5 @@
--- Proves that lists that begin with different tokens aren't equal. Citing these lemmas costs little
--- even if many facts are in scope.
+-- Proves that lists that begin with different tokens aren't equal. Proofs cite these lemmas because
+-- they cost the prover little time, even if many facts are in scope.
 use Rattle.std.proofs.Common.{◌≡◌, ℕ, List, ◌∷◌}
 use Rattle.ob0_scan.specs.declared.lexeme.TokenKind.{TokenKind}
 use Rattle.ob0_scan.specs.declared.lexeme.TokenKind.TheVariants as kind

@@ -1,4 +1,5 @@
--- Computes the stop of the descent, with a bound on its steps, and proves the result right.
+-- Computes the end of a descent in at most a given number of steps (`stop_of`). Proves that a
+-- computed end is the end that `Descends` defines.
 use Rattle.std.proofs.Common.{◌≡◌, ◌==◌, ℕ, zero, suc, ◌+◌, Bool, true, false, Option, Some, None, List, [], ◌∷◌, ◌++◌, refl, sym, ◌∙◌, ap, subst, eqb-true, eq-eqb, true≢false, if◌then◌else◌}
 use Rattle.ob0_scan.specs.declared.lexeme.TokenKind.TheVariants as kind
 use Rattle.ob0_scan.specs.declared.lexeme.ReservedWord.{ReservedWord}

@@ -73,7 +73,7 @@ no_section (WordOrSymbol (kind.ReservedWord reserved.Var)) w p o = absurd (o ref
 no_section x w p o = refl
 
 -- If an identifier is next, a section of formal parameters may begin. The next lemmas prove the
--- other answers of `has_parameter_section_start_at`.
+-- other answers of `parameter_section_starts_at`.
 pub name_is_section : (ts : List Token) (at : ℕ) → TellsIfIdentifierAt ts at true → TellsIfParameterSectionStartsAt ts at true
 name_is_section ts at h = (record { fault = Name at; here = h.0; differs = λ e. cc; within = omega (arith, h.1) }, ap is_parameter_section_next h.0)
 

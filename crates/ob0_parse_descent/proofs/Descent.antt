@@ -1,11 +1,12 @@
--- Proves that the descent has only one stop, and that it reads parts one after another.
+-- Proves that the descent over given parts and tokens has at most one end. Also proves that the
+-- descent reads parts one after another.
 use Rattle.std.proofs.Common.{◌≡◌, ℕ, suc, ◌+◌, ◌<◌, Bool, true, false, Option, Some, None, List, [], ◌∷◌, ◌++◌, length, refl, sym, ◌∙◌, ap, subst, arith, eqb-true, eq-eqb, if◌then◌else◌}
 use Rattle.ob0_scan.specs.declared.lexeme.TokenKind.{TokenKind}
 use Rattle.ob0_scan.specs.declared.lexeme.Token.{Token}
 use Rattle.ob0_tree.specs.Terminals.{Terminal, Name, Number, WordOrSymbol}
 use Rattle.ob0_tree.specs.Tree.{GrammarItem, item, items, maybe, Sort}
 use Rattle.ob0_parse_descent.specs.TokenRanks.{terminal_rank, item_start_rank, NextTokenHasRank}
-use Rattle.ob0_parse_descent.specs.Descent.{ProductionPart, token, name, number, nonterminal, parts, missing, too_deep, nested_construct_choice, is_item_next, chosen_production, MatchesPart, DescentEnd, Expects, Descends, done, taken, other, made, absent, deep}
+use Rattle.ob0_parse_descent.specs.Descent.{ProductionPart, token, name, number, nonterminal, parts, missing, too_deep, production_of_nested_construct, is_item_next, chosen_production, MatchesPart, DescentEnd, Expects, Descends, done, taken, other, made, absent, deep}
 use Rattle.ob0_parse_descent.specs.ParserPromises.{remaining_terminals, DescentsHaveSameEnd}
 use Rattle.ob0_parse_descent.specs.declared.refusal.ExpectedSyntax.{ExpectedSyntax}
 
@@ -105,10 +106,10 @@ read_led {s = s} {room = room} {k = k} qs c here =
 
 -- The descent reads a construct that counts for nesting as the parts after its first token, with
 -- one level less.
-pub read_opened : {s : Sort} {room : ℕ} {k : TokenKind} {ts : List Token} {at : ℕ} (inner : ℕ) (f : ℕ → List ProductionPart) → chosen_production s room (WordOrSymbol k ∷ remaining_terminals ts (at + 1)) ≡ nested_construct_choice room (λ n. token k ∷ f n) → room ≡ inner + 1 → remaining_terminals ts at ≡ WordOrSymbol k ∷ remaining_terminals ts (at + 1) → DescentsHaveSameEnd (nonterminal s room ∷ []) (f inner) ts at (at + 1)
+pub read_opened : {s : Sort} {room : ℕ} {k : TokenKind} {ts : List Token} {at : ℕ} (inner : ℕ) (f : ℕ → List ProductionPart) → chosen_production s room (WordOrSymbol k ∷ remaining_terminals ts (at + 1)) ≡ production_of_nested_construct room (λ n. token k ∷ f n) → room ≡ inner + 1 → remaining_terminals ts at ≡ WordOrSymbol k ∷ remaining_terminals ts (at + 1) → DescentsHaveSameEnd (nonterminal s room ∷ []) (f inner) ts at (at + 1)
 read_opened {k = k} inner f c d here =
     let one : inner + 1 ≡ suc inner = omega arith in
-    read_led (f inner) (c ∙ ap (λ n. nested_construct_choice n (λ m. token k ∷ f m)) (d ∙ one)) here
+    read_led (f inner) (c ∙ ap (λ n. production_of_nested_construct n (λ m. token k ∷ f m)) (d ∙ one)) here
 
 -- Proves that `is_item_next` computes whether an item is next.
 

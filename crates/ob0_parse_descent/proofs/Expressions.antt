@@ -25,7 +25,7 @@ use Rattle.ob0_parse_descent.proofs.Unique as unique
 use Rattle.ob0_parse_descent.proofs.Leads.{fails_here}
 use Rattle.ob0_parse_descent.proofs.Refusals.{head_following, starts_back, fails_by, fails_weaken, fails_in, fails_pass, fails_following, fails_maybe, fails_pass_name, at_once, select}
 use Rattle.ob0_parse_descent.proofs.Items.{Taking, taking_fails}
-use Rattle.ob0_parse_descent.specs.Descent.{parts, missing, chosen_production, TooDeepAt, absent, deep, operator_with_operand_choice}
+use Rattle.ob0_parse_descent.specs.Descent.{parts, missing, chosen_production, TooDeepAt, absent, deep, production_of_operator_and_operand}
 use Rattle.ob0_parse_descent.specs.declared.refusal.ExpectedSyntax.TheVariants as expected
 use Rattle.ob0_parse_descent.proofs.Descent.{as_is, both, by, read_token, read_name, read_number, read_mark, read_made, read_led, read_opened, read_one, read_none}
 use Rattle.ob0_parse_descent.proofs.OneToken.{mark_is, name_is, number_is, rank_of}
@@ -60,7 +60,7 @@ multiply_mark_lexeme multiply_operator.Modulo i z = refl
 multiply_mark_lexeme multiply_operator.And i z = refl
 
 -- The descent reads an item that is an operator and its right side.
-read_operator : {i : GrammarItem} {s : Sort} {room : ℕ} {ts : List Token} {at : ℕ} (j k : TokenKind) → j ≡ k → ((z : List (Terminal ℕ)) → indexed_terminal at k ∷ z ≡ WordOrSymbol k ∷ z) → chosen_production (item i) room (WordOrSymbol k ∷ remaining_terminals ts (at + 1)) ≡ operator_with_operand_choice s room (WordOrSymbol k ∷ remaining_terminals ts (at + 1)) → remaining_terminals ts at ≡ indexed_terminal at j ∷ remaining_terminals ts (at + 1) → DescentsHaveSameEnd (nonterminal (item i) room ∷ []) (nonterminal s room ∷ []) ts at (at + 1)
+read_operator : {i : GrammarItem} {s : Sort} {room : ℕ} {ts : List Token} {at : ℕ} (j k : TokenKind) → j ≡ k → ((z : List (Terminal ℕ)) → indexed_terminal at k ∷ z ≡ WordOrSymbol k ∷ z) → chosen_production (item i) room (WordOrSymbol k ∷ remaining_terminals ts (at + 1)) ≡ production_of_operator_and_operand s room (WordOrSymbol k ∷ remaining_terminals ts (at + 1)) → remaining_terminals ts at ≡ indexed_terminal at j ∷ remaining_terminals ts (at + 1) → DescentsHaveSameEnd (nonterminal (item i) room ∷ []) (nonterminal s room ∷ []) ts at (at + 1)
 read_operator {s = s} {room = room} {ts = ts} {at = at} j k is single_token_list c here = read_led (nonterminal s room ∷ []) c (subst (λ y. remaining_terminals ts at ≡ indexed_terminal at y ∷ remaining_terminals ts (at + 1)) is here ∙ single_token_list (remaining_terminals ts (at + 1)))
 
 -- Lemmas on expressions: `simple [relation simple]`.

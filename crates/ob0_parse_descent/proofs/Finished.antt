@@ -1,4 +1,6 @@
--- Proves that the descent reads the tokens of a tree, whatever it reads after them.
+-- Proves that the descent reads all tokens of a tree, whatever parts it reads after the tree. The
+-- tree must have at most the allowed levels of nesting, and the token after the tree must be one
+-- that can't continue the tree.
 use Rattle.std.proofs.Common.{◌≡◌, ℕ, zero, suc, ◌+◌, ◌≤◌, true, false, Some, None, List, [], ◌∷◌, ◌++◌, length, refl, sym, ◌∙◌, ap, subst, arith, append_assoc, if◌then◌else◌}
 use Rattle.ob0_scan.specs.declared.lexeme.TokenKind.{TokenKind}
 use Rattle.ob0_scan.specs.declared.lexeme.TokenKind.TheVariants as kind

@@ -1,4 +1,5 @@
--- Proves facts about productions that consist of a reserved word or symbol and one part.
+-- Proves facts about productions that consist of a reserved word or symbol, followed by one
+-- construct.
 use Rattle.std.proofs.Common.{◌≡◌, ℕ, ◌+◌, ◌≤◌, List, [], ◌∷◌, ◌++◌, refl, sym, ◌∙◌, ap, subst, arith}
 use Rattle.ob0_scan.specs.declared.lexeme.TokenKind.{TokenKind}
 use Rattle.ob0_scan.specs.declared.lexeme.TokenKind.TheVariants as kind

@@ -1,4 +1,4 @@
--- Proves facts about operands of one token that isn't continued.
+-- Proves facts about operands that consist of one token, if the next token doesn't continue them.
 use Rattle.std.proofs.Common.{◌≡◌, false, is_some, ℕ, ◌+◌, ◌<◌, ◌≤◌, Option, Some, None, List, [], ◌∷◌, length, refl, sym, ap, ◌∙◌, subst, arith}
 use Rattle.ob0_scan.specs.declared.lexeme.TokenKind.{TokenKind}
 use Rattle.ob0_scan.specs.declared.lexeme.Token.{Token}

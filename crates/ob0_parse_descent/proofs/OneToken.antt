@@ -1,4 +1,5 @@
--- Proves that a token follows from its kind, and its kind from the token.
+-- Proves that the kind and the index of a token determine how a tree spells the token, and that the
+-- spelled token determines the kind.
 use Rattle.std.proofs.Common.{◌≡◌, ℕ, Option, Some, None, List, [], ◌∷◌, refl}
 use Rattle.ob0_scan.specs.declared.lexeme.TokenKind.{TokenKind}
 use Rattle.ob0_scan.specs.declared.lexeme.TokenKind.TheVariants as kind

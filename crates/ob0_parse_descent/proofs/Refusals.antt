@@ -1,4 +1,5 @@
--- Proves that the refusal of a part implies the refusal of the whole.
+-- Proves that if a part of a production is refused, the whole production is refused at the same
+-- token.
 use Rattle.std.proofs.Common.{◌≡◌, ℕ, ◌+◌, List, [], ◌∷◌, ◌++◌, refl, sym, ◌∙◌, ap, subst, arith, append_assoc}
 use Rattle.ob0_scan.specs.declared.lexeme.TokenKind.{TokenKind}
 use Rattle.ob0_scan.specs.declared.lexeme.Token.{Token}

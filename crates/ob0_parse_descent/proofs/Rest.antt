@@ -1,4 +1,5 @@
--- Proves what the remaining tokens are, one token at a time.
+-- Proves that the remaining tokens at an index are the token at this index, followed by the
+-- remaining tokens at the next index.
 use Rattle.std.proofs.Common.{◌≡◌, ℕ, zero, suc, ◌+◌, ◌<◌, List, [], ◌∷◌, length, get_or, drop, refl, arith, add-one, add-zero}
 use Rattle.ob0_scan.specs.declared.lexeme.Token.{Token}
 use Rattle.ob0_tree.specs.Terminals.{EndOfText}

@@ -1,5 +1,5 @@
--- Proves that a list of tokens begins with at most one tree of a sort that the tokens after it
--- don't continue.
+-- Proves that a list of tokens begins with at most one tree of a given sort, if the token after the
+-- tree can't continue the tree.
 use Rattle.std.proofs.Common.{◌≡◌, ℕ, ◌<◌, ◌≤◌, Option, Some, None, List, [], ◌∷◌, ◌++◌, refl, sym, ◌∙◌, ap, subst, arith, append_assoc}
 use Rattle.ob0_scan.specs.declared.lexeme.TokenKind.{TokenKind}
 use Rattle.ob0_scan.specs.declared.lexeme.TokenKind.TheVariants as kind

@@ -48,9 +48,9 @@ symbol_part s = token (kind.Symbol s)
 -- left. `inside` returns the construct's parts, given the number of levels left inside the
 -- construct, which is one less. If no level is left, the construct is too deep (LANGUAGE.md,
 -- Nesting and limits).
-abbrev pub nested_construct_choice : ℕ → (ℕ → List ProductionPart) → ProductionChoice
-nested_construct_choice zero inside = too_deep
-nested_construct_choice (suc room) inside = parts (inside room)
+abbrev pub production_of_nested_construct : ℕ → (ℕ → List ProductionPart) → ProductionChoice
+production_of_nested_construct zero inside = too_deep
+production_of_nested_construct (suc room) inside = parts (inside room)
 
 -- Returns whether the next token begins the item `i`. If no token is left, the result is false.
 abbrev pub is_item_next : GrammarItem → List (Terminal ℕ) → Bool
@@ -79,9 +79,9 @@ is_assignment_next tokens = is_item_next selector tokens
 -- Returns the production of an item that consists of an operator and a construct of the sort `s`.
 -- This function is used only if the next token is the operator, so its value for any other token
 -- doesn't matter.
-abbrev pub operator_with_operand_choice : Sort → ℕ → List (Terminal ℕ) → ProductionChoice
-operator_with_operand_choice s room (WordOrSymbol k ∷ tokens) = parts (token k ∷ nonterminal s room ∷ [])
-operator_with_operand_choice s room tokens = missing expected.Expression
+abbrev pub production_of_operator_and_operand : Sort → ℕ → List (Terminal ℕ) → ProductionChoice
+production_of_operator_and_operand s room (WordOrSymbol k ∷ tokens) = parts (token k ∷ nonterminal s room ∷ [])
+production_of_operator_and_operand s room tokens = missing expected.Expression
 
 -- Returns the production that the next tokens determine for an item, with `room` levels of nesting
 -- left. This function is used only if the next token begins the item, so its value for any other
@@ -89,15 +89,15 @@ operator_with_operand_choice s room tokens = missing expected.Expression
 abbrev pub chosen_item_production : GrammarItem → (room : ℕ) → List (Terminal ℕ) → ProductionChoice
 -- selector = "[" expression "]" | "." ident
 chosen_item_production selector room (WordOrSymbol (kind.Symbol symbol.LeftBracket) ∷ tokens) =
-    nested_construct_choice room
+    production_of_nested_construct room
     (λ inner. symbol_part symbol.LeftBracket ∷ nonterminal expression inner ∷ symbol_part symbol.RightBracket ∷ [])
 chosen_item_production selector room tokens = parts (symbol_part symbol.Dot ∷ name ∷ [])
 -- multiplier = ("*" | DIV | MOD | "&") factor
-chosen_item_production multiplier room tokens = operator_with_operand_choice factor room tokens
+chosen_item_production multiplier room tokens = production_of_operator_and_operand factor room tokens
 -- addend = ("+" | "-" | OR) term
-chosen_item_production addend room tokens = operator_with_operand_choice term room tokens
+chosen_item_production addend room tokens = production_of_operator_and_operand term room tokens
 -- comparison = ("=" | "#" | "<" | "<=" | ">" | ">=") simple
-chosen_item_production comparison room tokens = operator_with_operand_choice simple room tokens
+chosen_item_production comparison room tokens = production_of_operator_and_operand simple room tokens
 -- arguments = "(" [expression {argument_after_comma}] ")"
 chosen_item_production arguments room tokens =
     if is_expression_next (drop 1 tokens)
@@ -149,7 +149,7 @@ chosen_item_production variable room tokens =
 chosen_item_production variables room tokens = parts (reserved_word_part reserved.Var ∷ nonterminal (items variable) room ∷ [])
 -- procedure = PROCEDURE ident [formals] ";" block END ident ";"
 chosen_item_production procedure room tokens =
-    nested_construct_choice room (λ inner. reserved_word_part reserved.Procedure
+    production_of_nested_construct room (λ inner. reserved_word_part reserved.Procedure
     ∷ name
     ∷ nonterminal (maybe formals) inner
     ∷ symbol_part symbol.Semicolon
@@ -184,10 +184,10 @@ chosen_production term room tokens = parts (nonterminal factor room ∷ nontermi
 chosen_production factor room (Name n ∷ tokens) = parts (name ∷ nonterminal (items selector) room ∷ [])
 chosen_production factor room (Number n ∷ tokens) = parts (number ∷ [])
 chosen_production factor room (WordOrSymbol (kind.Symbol symbol.LeftParen) ∷ tokens) =
-    nested_construct_choice room
+    production_of_nested_construct room
     (λ inner. symbol_part symbol.LeftParen ∷ nonterminal expression inner ∷ symbol_part symbol.RightParen ∷ [])
 chosen_production factor room (WordOrSymbol (kind.Symbol symbol.Not) ∷ tokens) =
-    nested_construct_choice room (λ inner. symbol_part symbol.Not ∷ nonterminal factor inner ∷ [])
+    production_of_nested_construct room (λ inner. symbol_part symbol.Not ∷ nonterminal factor inner ∷ [])
 chosen_production factor room tokens = missing expected.Expression
 -- statement = [assignment | call | if | while | repeat]
 -- assignment = ident {selector} ":=" expression
@@ -199,7 +199,7 @@ chosen_production statement room (Name n ∷ tokens) =
     else parts (name ∷ nonterminal (maybe arguments) room ∷ [])
 -- if = IF expression THEN sequence {elsif_part} [else_part] END
 chosen_production statement room (WordOrSymbol (kind.ReservedWord reserved.If) ∷ tokens) =
-    nested_construct_choice room (λ inner. reserved_word_part reserved.If
+    production_of_nested_construct room (λ inner. reserved_word_part reserved.If
     ∷ nonterminal expression inner
     ∷ reserved_word_part reserved.Then
     ∷ nonterminal sequence inner
@@ -209,7 +209,7 @@ chosen_production statement room (WordOrSymbol (kind.ReservedWord reserved.If) �
     ∷ [])
 -- while = WHILE expression DO sequence END
 chosen_production statement room (WordOrSymbol (kind.ReservedWord reserved.While) ∷ tokens) =
-    nested_construct_choice room (λ inner. reserved_word_part reserved.While
+    production_of_nested_construct room (λ inner. reserved_word_part reserved.While
     ∷ nonterminal expression inner
     ∷ reserved_word_part reserved.Do
     ∷ nonterminal sequence inner
@@ -217,7 +217,7 @@ chosen_production statement room (WordOrSymbol (kind.ReservedWord reserved.While
     ∷ [])
 -- repeat = REPEAT sequence UNTIL expression
 chosen_production statement room (WordOrSymbol (kind.ReservedWord reserved.Repeat) ∷ tokens) =
-    nested_construct_choice room (λ inner. reserved_word_part reserved.Repeat
+    production_of_nested_construct room (λ inner. reserved_word_part reserved.Repeat
     ∷ nonterminal sequence inner
     ∷ reserved_word_part reserved.Until
     ∷ nonterminal expression inner
@@ -230,13 +230,13 @@ chosen_production names room tokens = parts (name ∷ nonterminal (items name_af
 -- type = ident | ARRAY expression OF type | RECORD fields {fields_after_semicolon} END
 chosen_production written_type room (Name n ∷ tokens) = parts (name ∷ [])
 chosen_production written_type room (WordOrSymbol (kind.ReservedWord reserved.Array) ∷ tokens) =
-    nested_construct_choice room (λ inner. reserved_word_part reserved.Array
+    production_of_nested_construct room (λ inner. reserved_word_part reserved.Array
     ∷ nonterminal expression inner
     ∷ reserved_word_part reserved.Of
     ∷ nonterminal written_type inner
     ∷ [])
 chosen_production written_type room (WordOrSymbol (kind.ReservedWord reserved.Record) ∷ tokens) =
-    nested_construct_choice room (λ inner. reserved_word_part reserved.Record
+    production_of_nested_construct room (λ inner. reserved_word_part reserved.Record
     ∷ nonterminal fields inner
     ∷ nonterminal (items fields_after_semicolon) inner
     ∷ reserved_word_part reserved.End

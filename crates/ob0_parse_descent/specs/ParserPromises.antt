@@ -11,7 +11,7 @@ use Rattle.ob0_scan.specs.declared.lexeme.Token.{Token}
 use Rattle.ob0_tree.specs.Terminals.{Terminal, Name, Number, WordOrSymbol, EndOfText, sign_tokens}
 use Rattle.ob0_tree.specs.declared.tree.Sign.{Sign}
 use Rattle.ob0_tree.specs.declared.tree.Designator.{Designator}
-use Rattle.ob0_tree.specs.declared.tree.Names.{Names}
+use Rattle.ob0_tree.specs.declared.tree.IdentifierList.{IdentifierList}
 use Rattle.ob0_tree.specs.declared.tree.WrittenType.{WrittenType}
 use Rattle.ob0_scan.specs.declared.lexeme.ReservedWord.TheVariants as reserved
 use Rattle.ob0_tree.specs.Tree.{GrammarItem, Sort, item, items, selector, factor, names, written_type, Tree, designator, some_fields, spell, nesting}
@@ -250,7 +250,7 @@ abbrev pub IsOperatorOfKind : {A : Type 0} → (A → TokenKind) → ℕ → Tok
 IsOperatorOfKind mark r k (Some a) = k ≡ mark a
 IsOperatorOfKind mark r k None = kind_rank k ≢ r
 
--- States that the tokens `at..next` spell the list `xs`: its first element, then the further
+-- States that the list `xs` is read from the tokens `at..next`: its first element, then the further
 -- elements, each with the separator before it. `view` returns the tree of the first element, and
 -- `further` returns the tree of a further element with its separator.
 pub record IsReadList
@@ -284,7 +284,7 @@ ReadsList {s = s} {i = i} view further room ts at (Err e) =
 abbrev pub ReadsTypedNames : ℕ
     → List Token
     → ℕ
-    → Result ((Names × WrittenType) × ℕ) ParseRefusal
+    → Result ((IdentifierList × WrittenType) × ℕ) ParseRefusal
     → Type 0
 ReadsTypedNames room ts at (Ok x) = IsReadTree (some_fields (names_of x.0.0) (type_of x.0.1)) room ts at x.1
 ReadsTypedNames room ts at (Err e) =

@@ -1,20 +1,24 @@
 //! Parses declarations and blocks. The parameters `at` and `room` are described in `parser.rt`.
 
 ghost use Rattle.std.specs.Prelude.{◌≤◌, length};
-ghost use Rattle.ob0_tree.specs.View.{parameter_section_of, parameter_section_after_semicolon_of, formals_of, constant_of, constant_section_of, constant_declarations_of_vec, type_declaration_of, type_section_of, type_declarations_of_vec, variable_of, variable_section_of, variable_declarations_of_vec, body_of, block_of, procedure_of, procedures_of_vec};
+ghost use Rattle.ob0_tree.specs.View.{parameter_section_of, parameter_section_after_semicolon_of, formals_of, constant_declaration_of, constant_section_of, constant_declarations_of_vec, type_declaration_of, type_section_of, type_declarations_of_vec, variable_declaration_of, variable_section_of, variable_declarations_of_vec, body_of, block_of, procedure_of, procedures_of_vec};
 ghost use Rattle.ob0_parse_descent.specs.ParserPromises.{Reads, ReadsList, ReadsItem, ReadsTypedNames, TellsIfParameterSectionStartsAt};
 
 use crate::list_growth::push_with_doubling;
 use crate::parser::{ConstructResult, ItemResult, Parser, levels_left_inside};
 use ob0_scan::{ReservedWord, Symbol};
 use ob0_tree::{
-    Block, ConstantDeclaration, Names, ParameterSection, Procedure, Statement, TypeDeclaration,
-    VariableDeclaration, WrittenType,
+    Block, ConstantDeclaration, IdentifierList, ParameterSection, Procedure, Statement,
+    TypeDeclaration, VariableDeclaration, WrittenType,
 };
 
 impl<'t> Parser<'t> {
     /// Parses names and their type, `names ":" type`.
-    fn parse_typed_names(&self, at: usize, room: u32) -> ConstructResult<(Names, WrittenType)>
+    fn parse_typed_names(
+        &self,
+        at: usize,
+        room: u32,
+    ) -> ConstructResult<(IdentifierList, WrittenType)>
         requires { at ≤ length self.now.tokens.now }
         ensures { ReadsTypedNames room self.now.tokens.now at result }
     {
@@ -54,7 +58,7 @@ impl<'t> Parser<'t> {
     }
 
     /// Returns whether a section of formal parameters may begin at the token `at`.
-    fn has_parameter_section_start_at(&self, at: usize) -> bool
+    fn parameter_section_starts_at(&self, at: usize) -> bool
         requires { at ≤ length self.now.tokens.now }
         ensures { TellsIfParameterSectionStartsAt self.now.tokens.now at result }
     {
@@ -111,7 +115,7 @@ impl<'t> Parser<'t> {
         if !self.has_symbol_at(at, Symbol::LeftParen) {
             return Ok((None, at));
         }
-        if !self.has_parameter_section_start_at(at + 1) {
+        if !self.parameter_section_starts_at(at + 1) {
             let end = self.expect_symbol(at + 1, Symbol::RightParen)?;
             return Ok((Some(Vec::new(self.alloc)), end));
         }
@@ -159,7 +163,7 @@ impl<'t> Parser<'t> {
     /// at `at` isn't an identifier.
     fn parse_constant_declaration(&self, at: usize, room: u32) -> ItemResult<ConstantDeclaration>
         requires { at ≤ length self.now.tokens.now }
-        ensures { ReadsItem constant_of room self.now.tokens.now at result }
+        ensures { ReadsItem constant_declaration_of room self.now.tokens.now at result }
     {
         if !self.has_identifier_at(at) {
             return Ok(None);
@@ -255,7 +259,7 @@ impl<'t> Parser<'t> {
     /// isn't an identifier.
     fn parse_variable_declaration(&self, at: usize, room: u32) -> ItemResult<VariableDeclaration>
         requires { at ≤ length self.now.tokens.now }
-        ensures { ReadsItem variable_of room self.now.tokens.now at result }
+        ensures { ReadsItem variable_declaration_of room self.now.tokens.now at result }
     {
         if !self.has_identifier_at(at) {
             return Ok(None);

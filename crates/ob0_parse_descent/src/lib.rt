@@ -1,7 +1,7 @@
-//! Parses by recursive descent, with one function for each production of the grammar. Each function
-//! returns the tree of the construct that begins at a given token, or a refusal with the token at
-//! which the parser stops. The rules are in docs/LANGUAGE.md, in the sections Grammar, Nesting and
-//! limits, and Syntax faults.
+//! Parses the constructs of a module by recursive descent: expressions, types, statements,
+//! declarations and blocks. Each function returns the tree of the construct that begins at a given
+//! token, or the reason why it can't be parsed (`ParseRefusal`). The rules are in docs/LANGUAGE.md,
+//! in the sections Grammar, Nesting and limits, and Syntax faults.
 #![tactic(auto)]
 
 mod declarations;

@@ -1,5 +1,4 @@
-//! Adds items to lists. The capacity of such a list begins with one item and doubles whenever the
-//! list is full.
+//! Adds items to lists whose capacity begins with one item and doubles whenever the list is full.
 
 ghost use Rattle.std.specs.Prelude.{◌≡◌, ◌≤◌, ◌++◌, ◌∷◌, [], ◌<◌, OnErr, OnOk, vec_capacity, vec_len};
 

@@ -1,6 +1,6 @@
-//! Parses names and expressions by recursive descent. Each function takes the index `at` of the
-//! construct's first token, and the number `room` of nesting levels that are left. It returns the
-//! construct's tree and the index of the token after the construct.
+//! Parses names and expressions by recursive descent. Most functions take the index `at` of the
+//! construct's first token, and the number `room` of nesting levels that are left. Each of these
+//! functions returns the construct's tree and the index of the token after the construct.
 
 ghost use Rattle.std.specs.Prelude.{true, ◌≡◌, ◌+◌, ◌<◌, ◌≤◌, ◌∷◌, length, IfSome, IfNone, IfOk, IfErr};
 ghost use Rattle.ob0_scan.specs.declared.lexeme.TokenKind.TheVariants as kind;
@@ -18,7 +18,7 @@ use crate::refusal::{ExpectedSyntax, ParseRefusal};
 use ob0_scan::{ReservedWord, Symbol, Token, TokenKind};
 use ob0_tree::{
     AddOperator, Addend, Comparison, CompoundExpression, Designator, Expression, Factor,
-    Multiplier, MultiplyOperator, Names, Relation, Selector, Sign, SimpleExpression, Term,
+    IdentifierList, Multiplier, MultiplyOperator, Relation, Selector, Sign, SimpleExpression, Term,
 };
 use std::alloc::{AllocError, Global};
 
@@ -38,8 +38,8 @@ const ADDITION_RANK: u8 = 3;
 /// with a lower rank bind more strongly.
 const COMPARISON_RANK: u8 = 4;
 
-/// The binding rank (`binding_rank`) of every other token: it is no operator and begins no
-/// selector. Such a token doesn't bind the operand before it.
+/// The binding rank (`binding_rank`) of every token that is no operator and begins no selector, and
+/// of the end of the text. Such a token doesn't bind the operand before it.
 const NON_OPERATOR_RANK: u8 = 5;
 
 /// The result of parsing a construct: the construct's tree and the index of the token after the
@@ -154,7 +154,7 @@ impl<'t> Parser<'t> {
     }
 
     /// Parses a list of names, `ident {"," ident}`.
-    pub(crate) fn parse_names(&self, at: usize) -> ConstructResult<Names>
+    pub(crate) fn parse_names(&self, at: usize) -> ConstructResult<IdentifierList>
         requires { at ≤ length self.now.tokens.now }
         ensures { Reads names_of 0 self.now.tokens.now at result }
     {
@@ -164,7 +164,7 @@ impl<'t> Parser<'t> {
             push_with_doubling(&mut more, name)?;
             next = end;
         }
-        Ok((Names { first, more }, next))
+        Ok((IdentifierList { first, more }, next))
     }
 
     /// Parses an expression, `simple [relation simple]`. If it is a single token, returns its tree
@@ -359,7 +359,7 @@ impl<'t> Parser<'t> {
     }
 
     /// Parses a further term with the operator before it, `("+" | "-" | OR) term`. Returns None if
-    /// the token at `at` is no such operator.
+    /// the token at `at` isn't one of these operators.
     #[cycle(expressions)]
     fn parse_addend(&self, at: usize, room: u32) -> ItemResult<Addend>
         requires { at ≤ length self.now.tokens.now }
@@ -392,7 +392,7 @@ impl<'t> Parser<'t> {
     }
 
     /// Parses a further factor with the operator before it, `("*" | DIV | MOD | "&") factor`.
-    /// Returns None if the token at `at` is no such operator.
+    /// Returns None if the token at `at` isn't one of these operators.
     #[cycle(expressions)]
     fn parse_multiplier(&self, at: usize, room: u32) -> ItemResult<Multiplier>
         requires { at ≤ length self.now.tokens.now }

@@ -1,4 +1,4 @@
--- The number of fields of a record in the table is the number of fields of its shape.
+-- Proves that a record in the table of types has as many fields as its shape.
 use Rattle.std.proofs.Common.{◌≡◌, List, [], ◌∷◌, length, refl, arith}
 use Rattle.ob0_refs.specs.Hovers.{field_count}
 use Rattle.ob0_types_table.specs.DeclarationTableView.{field_shapes}

@@ -1,6 +1,7 @@
--- Gathering parameters from two parallel lists, the names and the signature, gives all parameters. `Gathered` states
--- that the parameters found so far and the parameters of the remaining items are all parameters. It takes any two
--- lists, each with a function. So code and definition can be compared without a `map` between them.
+-- Proves that gathering parameters from two parallel lists, the names and the signature, gives all
+-- parameters. `Gathered` states that the parameters found so far, followed by the parameters of the
+-- remaining items, are all parameters. It takes any two lists, each with a function. So code and
+-- definition can be compared without a `map` between them.
 use Rattle.std.proofs.Common.{◌≡◌, ℕ, ◌<◌, zero, suc, min, List, [], ◌∷◌, ◌++◌, length, drop, map, get_or, refl, ap, sym, ◌∙◌, arith, append_assoc, append-nil}
 use Rattle.ob0_refs.specs.DeclarationTexts.{hover_parameter_of_formal, hover_parameters_of_signature}
 use Rattle.ob0_refs.specs.Hovers.{HoverParameter}

@@ -1,4 +1,5 @@
--- The first declaring identifiers after a procedure's name are the names of its parameters.
+-- Proves that the first identifiers declared after a procedure's name are the names of its
+-- parameters.
 use Rattle.std.proofs.Common.{◌≡◌, ℕ, suc, ◌+◌, ◌-◌, false, if◌then◌else◌, List, [], ◌∷◌, ◌++◌, map, length, take, drop, nat_lt, slice_get, Some, None, refl, sym, ap, ◌∙◌, subst, arith, append_assoc, All, le-ltb}
 use Rattle.std.proofs.lemmas.List.Elements.{All-append, All-cons, All-nil, All-weaker}
 use Rattle.ob0_tree.specs.declared.tree.Role.{Role}

@@ -11,26 +11,27 @@ use Rattle.ob0_language_names.specs.BlockParts.{formal_parameter_names, formal_p
 use Rattle.ob0_scope_table.specs.Resolution.{declaring_names, declaration_token}
 use Rattle.ob0_refs.specs.DeclarationTexts.{names_declared_after_declaration}
 
--- Returns the heading of each procedure, in text order. Here a heading is a pair of token indexes:
--- the index of the procedure's name, and the list of the indexes of its parameters' names.
+-- Returns the heading of each procedure, in text order. Here a heading is a pair: the token index
+-- of the procedure's name, and the list of the token indexes of its parameters' names.
 abbrev mutual
   -- returns the heading of each procedure in a block, at any depth
   pub block_headings : Tree ℕ block → List (ℕ × List ℕ)
   block_headings (forms_block (declares cs ts vs ps) statements) = procedure_list_headings ps
 
-  -- returns the heading of each of these procedures, followed by the heading of each procedure in
-  -- its block
+  -- returns the headings of the procedures in a list, each followed by the headings of the
+  -- procedures in its block
   pub procedure_list_headings : Tree ℕ (items procedure) → List (ℕ × List ℕ)
   procedure_list_headings end = []
   procedure_list_headings (more p rest) = procedure_headings p ++ procedure_list_headings rest
 
-  -- returns the heading of this procedure, followed by the heading of each procedure in its block
+  -- returns the heading of this procedure, followed by the headings of the procedures in its block
   pub procedure_headings : Tree ℕ (item procedure) → List (ℕ × List ℕ)
   procedure_headings (declares_procedure x fs b closing) =
       (x, formal_parameter_names (formal_parameter_sections fs)) ∷ block_headings b
 
 -- States that the first names declared after a procedure's name are the names of its parameters, in
--- order. `heading` has the token of the procedure's name and the tokens of the parameters' names.
+-- order. `heading` is the procedure's heading: the token index of its name, and the token indexes
+-- of its parameters' names.
 pub record DeclaresParametersAfterName (m : ParsedModule) (heading : ℕ × List ℕ) : Type 0 where
   pub ordinal : ℕ
   pub declares : declaration_token (declaring_names (identifiers role.DeclaringName (tree_of m))) ordinal

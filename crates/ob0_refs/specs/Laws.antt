@@ -11,8 +11,9 @@ use Rattle.ob0_types.specs.CheckedModules.{IsWellTyped}
 use Rattle.ob0_refs.specs.Questions.{hover_at_offset, definition_at_offset, references_at_offset, answer_at_offset}
 use Rattle.ob0_refs.specs.declared.answer_types.Of.TheVariants as answer_of
 
--- States that the identifier at the byte offset `offset` has the span `span` and refers to a field.
--- The field has the index `index`, counted from 0, in the record with the ordinal `k`.
+-- States that the identifier at the byte offset `offset` has the span `span` and refers to a field
+-- of the record with the ordinal `k`. `index` is the field's index in that record
+-- (`field_index_or_zero`).
 abbrev pub IdentifierRefersToField : Resolution → ℕ → Span → ℕ → ℕ → Type 0
 IdentifierRefersToField r offset span k index =
     answer_at_offset r offset ≡ Some record { span = span; of = answer_of.Field k index }

@@ -1,5 +1,5 @@
--- Defines the answer of `at` about a name: the name's span, and the declaration to which the name
--- refers.
+-- Defines the answer of `at`, the lookup at a byte offset, about a name: the name's span, and the
+-- declaration to which the name refers.
 -- Rule: docs/PROTOCOL.md, Requests on documents 3, 4.
 use Rattle.std.specs.Prelude.{ℕ, nat_lt, if◌then◌else◌}
 use Rattle.ob0_tree.specs.ParsedModule.{ParsedModule}

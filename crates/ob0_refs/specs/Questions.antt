@@ -78,7 +78,8 @@ definition_of_identifier m token (Name ordinal) = declaring_identifier_span m or
 definition_of_identifier m token (Field k) = definition_of_field m (record { token = token; owner = k })
 
 -- Returns the span of the identifier that declares the name or field at a byte offset. Returns None
--- if there is no name or field at the offset, or if the name is predeclared.
+-- if there is no name or field at the offset, if the name is predeclared, or if the field isn't
+-- found.
 abbrev pub definition_at_offset : Resolution → ℕ → Option Span
 definition_at_offset r offset =
     option_and_then (λ (x : IdentifierWithMeaning). definition_of_identifier r.module_read x.token x.means)
@@ -147,14 +148,14 @@ abbrev pub hover_of_field : Resolution → FieldIdentifier → Option HoverTextW
 hover_of_field r x = option_map (λ f. hover_of_field_with_type r x.token f.shape) (typed_field r x)
 
 -- Returns the hover text of the identifier with this token index and this meaning. Returns None if
--- the declaration or field that it refers to isn't found.
+-- the name has no hover text or the field isn't found.
 abbrev pub hover_of_identifier : Resolution → ℕ → IdentifierMeaning → Option HoverTextWithSpan
 hover_of_identifier r token (Name ordinal) =
     hover_of_name r.module_read (record { token = token; ordinal = ordinal })
 hover_of_identifier r token (Field k) = hover_of_field r (record { token = token; owner = k })
 
 -- Returns the hover text of the identifier at a byte offset. Returns None if there is no name or
--- field at the offset, or if its declaration isn't found.
+-- field at the offset, if the name has no hover text, or if the field isn't found.
 abbrev pub hover_at_offset : Resolution → ℕ → Option HoverTextWithSpan
 hover_at_offset r offset =
     option_and_then (λ (x : IdentifierWithMeaning). hover_of_identifier r x.token x.means) (identifier_meaning_at_offset r offset)

@@ -1,6 +1,6 @@
-//! Defines the answers about an identifier. `At` and `Of` say to which declaration or field the
-//! identifier refers. `Hover` has its hover text. `NameConflict` shows at which span a new name for
-//! its declaration has a conflict.
+//! Defines the answers to questions about an identifier. `At` and `Of` say which declaration or
+//! field the identifier refers to. `Hover` has the identifier's hover text. `NameConflict` has the
+//! span at which a new name for a declaration has a conflict.
 
 use ob0_scan::Span;
 
@@ -11,13 +11,14 @@ pub enum Of {
     /// The ordinal of a declaration of the text.
     Declared(usize),
     Predeclared,
-    /// A field, given by its record's ordinal and its index among the record's fields, counted from
-    /// 0. The ordinals number array and record types from 0, in the order of their words ARRAY and
-    /// RECORD in the text.
+    /// The field with the index `index`, counted from 0, of the record with the ordinal `ordinal`.
+    /// Array and record types share one numbering: their ordinals count the words ARRAY and RECORD
+    /// of the text from 0.
     Field { ordinal: usize, index: usize },
 }
 
-/// The answer of `at` about an identifier of the text: its span in bytes, and what it refers to.
+/// The answer of `at`, the lookup at a byte offset. It has the identifier's span in bytes, and the
+/// declaration or field that the identifier refers to.
 #[derive(Clone, Copy, PartialEq, Eq)]
 pub struct At {
     pub span: Span,

@@ -6,9 +6,9 @@
 //! `hovers_at_places` makes the hover text in the same way. Renaming also uses
 //! `identifier_meaning_at_offset`, so it renames the name or field that these answers are about.
 //!
-//! The references to a field are the identifiers that its renaming changes. The references to a
-//! name are found in one pass over the table of ordinals, which starts at the declaring token. The
-//! references to a field are found in one pass over the module's fields.
+//! The references to a field are the identifiers that a renaming of the field changes. They are
+//! found in one pass over the module's fields. The references to a name are found in one pass over
+//! the table of ordinals, starting at the token that declares the name.
 
 ghost use Rattle.std.specs.Prelude.{◌≡◌, IfOk, Some};
 ghost use Rattle.ob0_refs.specs.Questions.{AreReferencesAtOffset, answer_about_field, answer_about_identifier, definition_of_identifier, definition_at_offset, definition_of_field, field_reference_spans, field_reference_tokens, field_index_or_zero, answer_at_offset, references_of_identifier, list_without_optional_token, renamable_span_at_offset, renamable_span_of_identifier};

@@ -66,7 +66,7 @@ fn object_hover_text(
 {
     let text = token_text_at(names.tokens(), name.token);
     match object {
-        Object::Named(of) => Ok(Some(type_hover_text(alloc, known, text, *of)?)),
+        Object::TypeName(of) => Ok(Some(type_hover_text(alloc, known, text, *of)?)),
         Object::Constant(value) => Ok(Some(constant_text(alloc, text, *value)?)),
         Object::FaultyConstant => Ok(None),
         Object::Variable(of) => Ok(Some(variable_hover_text(alloc, known, text, *of)?)),
@@ -170,9 +170,8 @@ fn declaring_tokens_after_declaration<'r>(names: &'r Resolved<'_>, ordinal: usiz
 }
 
 /// Returns the parameters of a procedure for its hover text, each with its name and the text of its
-/// type. `formals` is the procedure's signature. `following` has the token indexes of the declaring
-/// identifiers after the procedure's name. The first of these identifiers are the parameters'
-/// names.
+/// type. `formals` is the procedure's signature. `following` has the token indexes of the
+/// identifiers that are declared after the procedure's name, the names of the parameters first.
 fn hover_parameters_of_signature<'s>(
     alloc: Global,
     known: &DeclarationTable,

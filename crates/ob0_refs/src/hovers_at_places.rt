@@ -22,8 +22,8 @@ use std::alloc::{AllocError, Global};
 
 /// Returns the hover text of the identifier that contains the byte offset `offset` or ends there.
 /// The text of a name shows its declaration, and the text of a field shows its type. A procedure's
-/// closing name has the same text as the procedure. Returns None if there is no such identifier, or
-/// if it is the module's name.
+/// closing name has the same text as the procedure. Returns None if there is no such identifier, if
+/// it is the module's name, or if it has no hover text.
 pub fn hover(
     alloc: Global,
     well_typed: &WellTyped<'_>,
@@ -38,7 +38,7 @@ pub fn hover(
 }
 
 /// Returns the hover text of the identifier `found`, which refers to a name or a field. Returns
-/// None if the declaration or the field isn't found.
+/// None if the name has no hover text or the field isn't found.
 fn hover_of_identifier(
     alloc: Global,
     well_typed: &WellTyped<'_>,
@@ -62,8 +62,8 @@ fn hover_of_identifier(
     }
 }
 
-/// Returns the hover text of a name, with the name's span. Returns None if the name has no
-/// declaration.
+/// Returns the hover text of a name, with the name's span. Returns None if the name has no hover
+/// text.
 fn hover_of_name(
     alloc: Global,
     well_typed: &WellTyped<'_>,

@@ -1,7 +1,7 @@
--- Proves the answer for a field: a refusal because of another field of its record, or the edits.
--- By `field_there`, the tree with the new name at the tokens of a field is the module with the
--- field renamed. If the new name is the old one, each of these tokens already has it
--- (`written-so`).
+-- Proves that the answer to the renaming of a field is right: a refusal because of another field of
+-- its record, or the edits. By `field_there`, the tree with the new name at the tokens of a field
+-- is the module with the field renamed. If the new name is the old name, each of these tokens
+-- already has it (`written-so`).
 use Rattle.std.proofs.Common.{◌≡◌, ℕ, ◌<◌, Bool, true, false, not, is_some, ◌&&◌, ◌||◌, ◌==◌, if◌then◌else◌, Option, Some, None, Result, Ok, Err, Vec, List, [], ◌∷◌, length, option_map, inl, inr, refl, sym, ap, ◌∙◌, subst, arith, eqb-true}
 use Rattle.std.specs.List.{list_any}
 use Rattle.std.specs.declared.alloc.Global.{Global}

@@ -1,4 +1,4 @@
--- Proves that the places of names are identifiers in ascending order.
+-- Proves that the tokens of names are identifiers, and that their indexes ascend.
 use Rattle.std.proofs.Common.{◌≡◌, ℕ, suc, ◌+◌, ◌==◌, ◌||◌, Result, Ok, Err, Vec, List, [], ◌∷◌, length, refl, ap, add-one, subst}
 use Rattle.std.specs.Prelude.{IfOk}
 use Rattle.std.specs.declared.alloc.Global.{Global}

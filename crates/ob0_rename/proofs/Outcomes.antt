@@ -1,11 +1,12 @@
--- Proves the answer for a declaration: a refusal because of a conflict, or the edits.
+-- Proves that the answer to the renaming of a declaration is right: a refusal because of a
+-- conflict, or the edits.
 use Rattle.std.proofs.Common.{◌≡◌, ◌⊎◌, ℕ, ◌≤◌, ◌<◌, Bool, true, false, if◌then◌else◌, Option, Some, None, Result, Ok, Err, Vec, List, [], ◌∷◌, length, map, slice_get, option_map, option_and_then, inl, inr, refl, sym, ap, ◌∙◌, subst, arith}
 use Rattle.std.proofs.lemmas.Bool.{ltb-false, ltb-true}
 use Rattle.std.specs.Prelude.{IfErr, IfOk, IsErrOf, nat_lt}
 use Rattle.std.specs.declared.alloc.Global.{Global}
 use Rattle.ob0_scan.specs.LexemeClasses.{IsIdentifier}
 use Rattle.ob0_scan.specs.TextWithTokens.{IsScan, TextWithTokens, Word, max_text_length}
-use Rattle.ob0_text.specs.Patches.{text_from_place_with_cuts}
+use Rattle.ob0_text.specs.Patches.{text_after_cuts_from_offset}
 use Rattle.ob0_text.specs.declared.edits.Edit.{Edit}
 use Rattle.ob0_text.specs.declared.position_types.Position.{Position}
 use Rattle.ob0_text.specs.declared.position_types.Unit as counting
@@ -15,7 +16,7 @@ use Rattle.ob0_tree.specs.ParsedModule.{ParsedModule, named_tree_of, tree_of}
 use Rattle.ob0_tree.specs.Tree.{Tree, module_text, occurrences}
 use Rattle.ob0_language_names.specs.ConsistentNames.{has_consistent_names}
 use Rattle.ob0_language_names.specs.Names.{Name}
-use Rattle.ob0_language_names.specs.Occurrences.{IsFreeName, at_declaration, at_occurrence, bindings, first_name_conflict, first_binding_difference, is_duplicate_name}
+use Rattle.ob0_language_names.specs.Occurrences.{IsFreeName, at_declaration, at_occurrence, labels_of_occurrences, first_name_conflict, first_binding_difference, is_duplicate_name}
 use Rattle.ob0_scope.specs.Renames.{namesake_ordinal, other_declaration_in_conflict, conflict_of}
 use Rattle.ob0_scope_table.specs.Resolution.{IsResolution, Resolution}
 use Rattle.ob0_language_names.specs.Scopes.{renamed}
@@ -77,8 +78,8 @@ module _ (unit : counting.Unit) (text : List ℕ) (place : Position) (new : Name
       subst (IsFirstRefusalForDeclaration (requested r) d) (sym (duplicate other is_there.0 refl is_there.1)) (id, sym first, range)
   captured r is id (reports.Occurrence k) why first named duplicate occurrence =
       let m = r.module_read in
-      let bound = bindings (renamed (named_tree_of m) d new) in
-      let found = difference_of (is_duplicate_name (named_tree_of m) d new) (first_binding_difference bound (bindings (named_tree_of m))) k (sym first) in
+      let bound = labels_of_occurrences (renamed (named_tree_of m) d new) in
+      let found = difference_of (is_duplicate_name (named_tree_of m) d new) (first_binding_difference bound (labels_of_occurrences (named_tree_of m))) k (sym first) in
       let is_there = occurrence_is_there r bound k is found in
       subst (IsFirstRefusalForDeclaration (requested r) d) (sym (occurrence k is_there.0 refl is_there.1)) (id, (k, sym first, ap (option_map (token_range (requested r))) is_there.1))
 
@@ -120,8 +121,8 @@ module _ (unit : counting.Unit) (text : List ℕ) (place : Position) (new : Name
         | inr e ↦ inl e
       ]
 
-pub whole : (text : List ℕ) → length (text_from_place_with_cuts text 0 []) ≡ length text
-unfolding text_from_place_with_cuts
+pub whole : (text : List ℕ) → length (text_after_cuts_from_offset text 0 []) ≡ length text
+unfolding text_after_cuts_from_offset
 whole text = refl
 
 -- Renaming a declaration to its present name doesn't make the text too long.

@@ -10,7 +10,7 @@ use Rattle.std.proofs.lemmas.Slice.Eq.{bytes_eq-Decides}
 use Rattle.ob0_tree.specs.Tree.{Tree, block, declares, declares_procedure, end, forms_block, forms_module, item, items, module_text, more, procedure}
 use Rattle.ob0_language_names.specs.ConsistentNames.{are_distinct, names_declared_in_block, block_has_consistent_names, has_consistent_names, formals_have_distinct_fields, is_among, procedure_has_consistent_names, procedure_list_has_consistent_names, types_have_distinct_fields, variables_have_distinct_fields}
 use Rattle.ob0_language_names.specs.Names.{Name, same_name}
-use Rattle.ob0_language_names.specs.Occurrences.{IsFreeName, bindings, scopes_in_block, scopes_in_procedure, scopes_in_procedure_list, declares_ordinal, another_declaration_has_name}
+use Rattle.ob0_language_names.specs.Occurrences.{IsFreeName, labels_of_occurrences, scopes_in_block, scopes_in_procedure, scopes_in_procedure_list, declares_ordinal, another_declaration_has_name}
 use Rattle.ob0_language_names.specs.BlockParts.{constant_names, formal_parameter_names, formal_parameter_sections, module_block, declared_type_names, procedure_name, section_constants, section_types, section_variables, variable_names}
 use Rattle.ob0_scope.specs.Renames.{namesake_ordinal, namesake_in_scopes, other_declaration_with_name}
 use Rattle.ob0_language_names.specs.Scopes.{Scope, ordinal_after_block, ordinal_after_names, ordinal_after_procedure, ordinal_after_procedure_list, body_scope, declare_names, declare_procedure_names, first_procedure_ordinal, first_type_ordinal, first_variable_ordinal, scope_before_procedures, scope_before_types, scope_before_variables}
@@ -123,7 +123,7 @@ module _ (d : ℕ) (new : Name) where
   pub own_name_free : (t : Tree Name module_text) → 7 ≤ d → AreSo d new 7 (names_in (module_block t)) → has_consistent_names t ≡ true → IsFreeName t d new
   own_name_free (forms_module x b closing) high h once =
       let onces = and_parts (same_name x closing) (block_has_consistent_names [] b) once in
-      (block_clear 7 [] b tt h onces.1, ap bindings (same_module d new (forms_module x b closing) high h once))
+      (block_clear 7 [] b tt h onces.1, ap labels_of_occurrences (same_module d new (forms_module x b closing) high h once))
 
 -- ---- declarations in blocks have ordinals of the module
 

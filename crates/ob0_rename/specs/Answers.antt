@@ -49,8 +49,8 @@ pub record RenamesDeclaration (r : Renaming) (d : ℕ) (edits : List Edit) : Typ
   pub writes : WritesNewName r (tokens_to_rename (module_of_renaming r) d r.new)
       (renamed (named_tree_of_renaming r) d r.new) edits
 
--- States that the given refusal is the first one, in the order of the cases below, that applies to
--- renaming the declaration with the ordinal `d`.
+-- States that this is the first refusal that applies to renaming the declaration with the ordinal
+-- `d`. The refusals apply in the order of the cases below.
 abbrev pub IsFirstRefusalForDeclaration : Renaming → ℕ → EditRefusal → Type 0
 IsFirstRefusalForDeclaration r d refusal.NoName = ⊥
 IsFirstRefusalForDeclaration r d refusal.Predeclared = ⊥
@@ -91,9 +91,9 @@ pub record RenamesField (r : Renaming) (k : ℕ) (f : Name) (edits : List Edit) 
   pub writes : WritesNewName r (field_tokens_to_rename r.names k f r.new)
       (module_with_renamed_field (named_tree_of_renaming r) k f r.new) edits
 
--- States that the given refusal is the first one, in the order of the cases below, that applies to
--- renaming the field `f`. The field belongs to the record with the ordinal `k`. Only another field
--- of that record can conflict with the new name, so `Captures` never applies.
+-- States that this is the first refusal that applies to renaming the field `f` of the record with
+-- the ordinal `k`. The refusals apply in the order of the cases below. Only another field of that
+-- record can conflict with the new name, so `Captures` never applies.
 abbrev pub IsFirstRefusalForField : Renaming → ℕ → Name → EditRefusal → Type 0
 IsFirstRefusalForField r k f refusal.NoName = ⊥
 IsFirstRefusalForField r k f refusal.Predeclared = ⊥
@@ -120,16 +120,15 @@ AnswersRenamingOfField r k f (Err why) = (why ≡ refusal.Memory) ⊎ IsFirstRef
 
 -- ---- answers to the renaming of the declaration or field at the place
 
--- States that the given refusal is the first one that applies to the new name, for the declaration
--- or field at the renaming's place.
+-- States that this is the first refusal that applies to the new name, for the declaration or field
+-- at the renaming's place.
 abbrev pub IsFirstRefusalForTarget : Renaming → EditRefusal → Type 0
 IsFirstRefusalForTarget r why =
     ((d : ℕ) × TargetsDeclaration r d × IsFirstRefusalForDeclaration r d why)
     ⊎ ((k : ℕ) × ((f : Name) × TargetsField r k f × IsFirstRefusalForField r k f why))
 
--- States that the given refusal is the one that applies to the renaming. There are three kinds of
--- refusals: the place is on no name and no field, the name at the place is predeclared, or the new
--- name is refused.
+-- States that this refusal applies to the renaming. Either no name and no field is at the place
+-- (`NoName`), or the name at the place is predeclared (`Predeclared`), or the new name is refused.
 abbrev pub IsRenameRefusal : Renaming → EditRefusal → Type 0
 IsRenameRefusal r refusal.NoName = renaming_target r ≡ nothing
 IsRenameRefusal r refusal.Predeclared = renaming_target r ≡ predeclared

@@ -111,9 +111,9 @@ declaration_has_name m d new =
     elim (declaring_token m d)
     [ Some token ↦ same_name (token_text_at m.source token) new | None ↦ false ]
 
--- Returns the indexes, in text order, of the tokens that declare, use or repeat (after END) the
--- name of the declaration with the ordinal `d`. The list is empty if the declaration already has
--- the name `new`.
+-- Returns the indexes, in text order, of the tokens that a renaming of the declaration with the
+-- ordinal `d` to `new` changes. These tokens declare `d`, refer to it or repeat its name after END.
+-- The list is empty if `d` already has the name `new`.
 abbrev pub tokens_to_rename : read.ParsedModule → ℕ → Name → List ℕ
 tokens_to_rename m d new = if declaration_has_name m d new then [] else tokens_bound_to_declaration m d true
 

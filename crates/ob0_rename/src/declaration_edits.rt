@@ -31,8 +31,7 @@ use std::alloc::Global;
 /// Returns the edits that rename the declaration or field at `place` to `new`, in text order. For a
 /// declaration, there is one edit for each identifier that declares it, refers to it or repeats its
 /// name after END. For a field, there is one edit for each identifier that declares or selects it.
-/// If the present name is already `new`, there are no edits. The place may be in the name or at its
-/// end.
+/// If the name is already `new`, there are no edits. The place may be in the name or at its end.
 ///
 /// If several refusals apply, the first in this order is returned:
 /// - `NoName`: `place` is neither on a declared name nor on a field. The module's name doesn't
@@ -44,6 +43,8 @@ use std::alloc::Global;
 /// - `Captures`: an occurrence (a name that is looked up) would be bound to another declaration.
 ///   The range is the range of the first such occurrence. A field is never refused with `Captures`.
 /// - `TooLong`: the edited text would be longer than a text may be.
+///
+/// If an allocation fails, the refusal is `Memory`.
 pub fn rename<T: TextStore>(
     alloc: Global,
     store: &T,
@@ -98,7 +99,7 @@ fn rename_declaration<T: TextStore>(
     renamed_tree_spells_renamed_words();
     renaming_to_free_name_keeps_typing_and_runs();
     let names = well_typed.resolved();
-    // The proof needs the contract of this call.
+    // The proof needs `IsScan` of the tokens, which the contract of this call states.
     let _text = names.tokens().text();
     if !is_identifier(new) {
         return Err(EditRefusal::BadName);
@@ -130,7 +131,7 @@ fn refusal_of_conflict<T: TextStore>(
         → result ≡ refused.Captures (range_of (width_of (T.unit_of store.now))
         (T.content store.now) (token_span names.now.module_read.source token)) }
 {
-    // The proof needs the contract of this call.
+    // The proof needs `IsResolution` of the names, which the contract of this call states.
     let _module = names.module();
     match capture {
         FirstConflict::Duplicate(other) => EditRefusal::Duplicate {

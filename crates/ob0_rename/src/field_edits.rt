@@ -29,8 +29,8 @@ use std::alloc::{AllocError, Global};
 
 /// Returns the edits that rename a field to `new`, in text order, or the first refusal that
 /// applies. The token with the index `token` declares or selects the field. `owner` is the ordinal
-/// of the field's record. The ordinals number array and record types from 0, in the order of their
-/// words ARRAY and RECORD in the text.
+/// of the field's record. Ordinals of array and record types count the words ARRAY and RECORD of
+/// the text from 0.
 pub(crate) fn rename_field<T: TextStore>(
     alloc: Global,
     store: &T,
@@ -60,7 +60,7 @@ pub(crate) fn rename_field<T: TextStore>(
     renaming_changes_field_tokens();
     duplicate_field_name_has_declaring_token();
     let names = well_typed.resolved();
-    // The proof needs the contract of this call.
+    // The proof needs `IsScan` of the tokens, which the contract of this call states.
     let _text = names.tokens().text();
     if !is_identifier(new) {
         return Err(EditRefusal::BadName);

@@ -30,7 +30,7 @@ pub(crate) fn resolved_identifier_at(
     ensures spelled { IfSome result (λ x. MeansField x.means
         → IsIdentifier (token_text_at well_typed.now.module_read.source x.token)) }
 {
-    // The proof needs the contract of this call.
+    // The proof needs `IsScan` of the tokens, which the contract of this call states.
     let _text = well_typed.resolved().tokens().text();
     identifier_meaning_at_offset(well_typed, offset)
 }
@@ -60,7 +60,7 @@ pub(crate) fn tokens_to_rename(
 fn declaration_has_name(names: &Resolved, declaration: usize, name: &str) -> bool
     ensures { result ≡ declaration_has_name names.now.module_read declaration name.now }
 {
-    // The proof needs the contract of this call.
+    // The proof needs `IsResolution` of the names, which the contract of this call states.
     let _module = names.module();
     match names.declaring_token(declaration) {
         Some(token) => has_spelling(names.tokens(), token, name),

@@ -1,4 +1,5 @@
--- Edits that write a new name at some tokens, or the refusal of a text that would be too long.
+-- Proves that there are edits that write a new name at some tokens, or that the edited text would
+-- be too long.
 use Rattle.std.proofs.Common.{◌≡◌, ◌∙◌, ◌++◌, ◌-◌, ◌<◌, ◌≤◌, ℕ, Bool, true, false, List, [], ◌∷◌, Result, Ok, Err, String, Vec, drop, get_or, length, map, take, inl, refl, ap, subst, sym, arith}
 use Rattle.std.specs.Prelude.{IfErr, nat_lt}
 use Rattle.std.specs.Str.{IsUtf8, chars}
@@ -15,7 +16,7 @@ use Rattle.ob0_text.specs.declared.edits.Edit.{Edit}
 use Rattle.ob0_text.specs.declared.position_types.Unit.{Unit}
 use Rattle.ob0_text.specs.declared.refusals.EditRefusal.{EditRefusal}
 use Rattle.ob0_text.specs.declared.refusals.EditRefusal.TheVariants as refusal
-use Rattle.ob0_text.specs.Patches.{text_from_place_with_cuts}
+use Rattle.ob0_text.specs.Patches.{text_after_cuts_from_offset}
 use Rattle.ob0_text.specs.Units.{width_of}
 use Rattle.ob0_tree_values.proofs.TreeValues.{vec_of}
 use Rattle.ob0_edits_tokens.specs.WordReplacements.{changes_at_indexes, changed_words, words_of_text}
@@ -34,22 +35,22 @@ string_of bytes u short = record { bytes = vec_of bytes (omega (arith, short)); 
 -- ---- the edits at some places, and their number
 
 module _ (unit : Unit) (content text : List ℕ) (tokens : List Token) (new : List ℕ) (u : IsUtf8 new) where
-  name_edits : (at : ℕ) (places : List ℕ) → length (text_from_place_with_cuts text at (map (replacement_cut tokens new) places)) ≤ 1048576 → (edits : List Edit) × (map range_and_text edits ≡ map (replacement_at_token unit content tokens new) places)
-  unfolding text_from_place_with_cuts
+  name_edits : (at : ℕ) (places : List ℕ) → length (text_after_cuts_from_offset text at (map (replacement_cut tokens new) places)) ≤ 1048576 → (edits : List Edit) × (map range_and_text edits ≡ map (replacement_at_token unit content tokens new) places)
+  unfolding text_after_cuts_from_offset
   name_edits at [] short = ([], refl)
   name_edits at (p ∷ ps) short =
-      let back : List ℕ = text_from_place_with_cuts text (token_span_or_empty tokens p).end (map (replacement_cut tokens new) ps) in
+      let back : List ℕ = text_after_cuts_from_offset text (token_span_or_empty tokens p).end (map (replacement_cut tokens new) ps) in
       let all = length-append (take ((token_span_or_empty tokens p).start - at) (drop at text)) (new ++ back) in
       let rest = length-append new back in
       let more = name_edits (token_span_or_empty tokens p).end ps (omega (arith, all, rest, short)) in
       let here : Edit = record { range = range_of (width_of unit) content (token_span_or_empty tokens p); text = string_of new u (omega (arith, all, rest, short)) } in
       (here ∷ more.0, ap (λ xs. replacement_at_token unit content tokens new p ∷ xs) more.1)
 
-few_places : (text : List ℕ) (tokens : List Token) (new : List ℕ) → 0 < length new → (at : ℕ) (places : List ℕ) → length places ≤ length (text_from_place_with_cuts text at (map (replacement_cut tokens new) places))
-unfolding text_from_place_with_cuts
+few_places : (text : List ℕ) (tokens : List Token) (new : List ℕ) → 0 < length new → (at : ℕ) (places : List ℕ) → length places ≤ length (text_after_cuts_from_offset text at (map (replacement_cut tokens new) places))
+unfolding text_after_cuts_from_offset
 few_places text tokens new some at [] = omega arith
 few_places text tokens new some at (p ∷ ps) =
-    let back : List ℕ = text_from_place_with_cuts text (token_span_or_empty tokens p).end (map (replacement_cut tokens new) ps) in
+    let back : List ℕ = text_after_cuts_from_offset text (token_span_or_empty tokens p).end (map (replacement_cut tokens new) ps) in
     let all = length-append (take ((token_span_or_empty tokens p).start - at) (drop at text)) (new ++ back) in
     let rest = length-append new back in
     let more = few_places text tokens new some (token_span_or_empty tokens p).end ps in

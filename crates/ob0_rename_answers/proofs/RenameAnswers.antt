@@ -1,4 +1,5 @@
--- Each well-typed module has an answer to a request for a rename: the edits, or the refusal.
+-- Proves that a request for a rename has an answer for each well-typed module: the edits, or the
+-- refusal.
 use Rattle.std.proofs.Common.{◌≡◌, ◌∙◌, ℕ, Bool, true, false, if◌then◌else◌, List, [], ◌∷◌, Option, Some, None, Result, Ok, Err, Vec, length, option_and_then, option_map, inl, inr, refl, ap, sym}
 use Rattle.std.specs.Str.{chars}
 use Rattle.std.specs.declared.alloc.Global.{Global}
@@ -15,7 +16,7 @@ use Rattle.ob0_text.specs.declared.refusals.EditRefusal.TheVariants as refusal
 use Rattle.ob0_tree.specs.ParsedModule.{ParsedModule, named_tree_of}
 use Rattle.ob0_tree.specs.Tree.{Tree, module_text}
 use Rattle.ob0_language_names.specs.Names.{Name, same_name}
-use Rattle.ob0_language_names.specs.Occurrences.{IsFreeName, bindings, first_binding_difference}
+use Rattle.ob0_language_names.specs.Occurrences.{IsFreeName, labels_of_occurrences, first_binding_difference}
 use Rattle.ob0_language_names.specs.Scopes.{renamed}
 use Rattle.ob0_language_fields.specs.SingleFieldRenaming.{IsFreeFieldName}
 use Rattle.ob0_language_field_laws.specs.FieldLaws.{RenamingFieldToFreeNameKeepsTypingAndRuns}
@@ -124,17 +125,17 @@ module _ (keeps : RenamingToFreeNameKeepsTypingAndRuns) (field_keeps : RenamingF
           finish (Err (refusal.Duplicate (token_range asked is_there.0))) (duplicate_other (token_range asked is_there.0))
           (answered_there asked d means (Err (refusal.Duplicate (token_range asked is_there.0))) (inr (id, sym (captured_there tree d new other (sym e)), range)))
 
-      captured_or_free : IsIdentifier new → None ≡ namesake_ordinal tree d new → (o : Option ℕ) → first_binding_difference (bindings (renamed tree d new)) (bindings tree) ≡ o → ⊥
+      captured_or_free : IsIdentifier new → None ≡ namesake_ordinal tree d new → (o : Option ℕ) → first_binding_difference (labels_of_occurrences (renamed tree d new)) (labels_of_occurrences tree) ≡ o → ⊥
       captured_or_free id e None f =
           free id ((free_where_none tree d new None (captured_later tree d new None e (sym (ap (option_map reports.Occurrence) f)))).0 refl)
       captured_or_free id e (Some k) f =
           let first = captured_later tree d new (Some (reports.Occurrence k)) e (sym (ap (option_map reports.Occurrence) f)) in
-          let is_there = occurrence_is_there names (bindings (renamed tree d new)) k read.well_typed.resolved f in
+          let is_there = occurrence_is_there names (labels_of_occurrences (renamed tree d new)) k read.well_typed.resolved f in
           finish (Err (refusal.Captures (token_range asked is_there.0))) (captures_other (token_range asked is_there.0))
           (answered_there asked d means (Err (refusal.Captures (token_range asked is_there.0))) (inr (id, (k, sym first, ap (option_map (token_range asked)) is_there.1))))
 
       by_namesake : IsIdentifier new → (o : Option ℕ) → namesake_ordinal tree d new ≡ o → ⊥
-      by_namesake id None e = captured_or_free id (sym e) (first_binding_difference (bindings (renamed tree d new)) (bindings tree)) refl
+      by_namesake id None e = captured_or_free id (sym e) (first_binding_difference (labels_of_occurrences (renamed tree d new)) (labels_of_occurrences tree)) refl
       by_namesake id (Some other) e = duplicate id other e
 
       declared : ⊥

@@ -1,5 +1,5 @@
--- States that a request for a rename always has an answer: for each text, some list of edits,
--- possibly empty, is right. The statement rests on an assumption about well-typed texts
+-- States that a request for a rename has an answer for each text: some list of edits, possibly
+-- empty, is right. The premise is an assumption about well-typed texts
 -- (`WellTypedTextsCanBeResolved`).
 -- Rule: docs/PROTOCOL.md, Requests on documents 6.
 use Rattle.std.specs.Prelude.{ℕ, List}

@@ -1,5 +1,6 @@
-//! Proves that a request for a rename always has an answer: for each text, some list of edits is
-//! right. The right list is empty if the rename is refused or the text isn't a well-typed module.
+//! Proves that a request for a rename has an answer for each text: some list of edits is right. The
+//! proof assumes that each well-typed text has a module whose names are bound to declarations. The
+//! right list is empty if the rename is refused or the text isn't a well-typed module.
 
 ghost use Rattle.ob0_rename_answers.specs.RenameAnswers.{RenamingAlwaysHasAnswer};
 

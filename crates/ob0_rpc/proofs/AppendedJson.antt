@@ -1,9 +1,9 @@
--- Values whose texts are written one after another, and read back.
--- `object_of` is the single lemma for every object. It takes the calls in order; if the names are
--- literals, two proofs by `refl` show that they need no escape and are in order. `array_of` ends a
--- list, whose loop uses `each_none`, `each_next` and `each_done`. `written` ends a message: if
--- nothing was written before, the bytes are the value's text and read back. `position_written` and
--- `range_text` take the pieces of a range in order.
+-- Proves that values whose texts are written one after another read back as these values.
+-- `object_of` proves this for an object, from the contracts of the calls that wrote it, in order.
+-- If the names are literals, two proofs by `refl` show that they need no escape and are in order.
+-- `array_of` proves it for a list, whose loop uses `each_none`, `each_next` and `each_done`.
+-- `written` proves it for a message: if nothing was written before, the bytes are the value's text.
+-- `position_written` and `range_text` have the written pieces as arguments, in order.
 use Rattle.std.proofs.Common.{◌≡◌, ◌∙◌, ◌≤◌, ◌<◌, ◌^◌, ℕ, zero, suc, ℤ, pos, negsuc, List, [], ◌∷◌, ◌++◌, Bool, true, false, Option, Some, option_map, option_and_then, decimal, SFits, w64, length, take, get_or, map, ◌+◌, refl, sym, ap, ap₂, subst, arith, add-one, append_assoc, append-nil, take_all, nat_le, nat_lt, ◌&&◌, ◌==◌, not, codes}
 use Rattle.std.proofs.Math.Bool.{and-true as and_true}
 use Rattle.std.proofs.lemmas.Bool.{and_parts, eqb-false, leb-true, lt-ltb, not-true}

@@ -9,8 +9,8 @@ use Rattle.serde_json.specs.Read.{of_json}
 use Rattle.serde_json.specs.Written.{comma_if, compact_text, outline}
 
 -- States that the value's compact JSON text (without added white space) is UTF-8, and that reading
--- this text gives the value. For that, whole numbers must fit in 64 bits, and texts must be UTF-8.
--- The members of an object must have different names, in byte order.
+-- this text gives the value. This requires that whole numbers fit in 64 bits, that texts are UTF-8,
+-- and that the members of each object have different names, in byte order.
 pub record ReadsBack (value : Data) : Type 0 where
   pub reads : of_json (outline value) ≡ Some value
   pub numbers : HasNumbers (outline value)

@@ -4,7 +4,7 @@ use Rattle.std.specs.Prelude.{◌-◌, ℕ, ℤ, negsuc, List, codes}
 use Rattle.ob0_rpc.specs.declared.incoming_messages.RpcFault.{RpcFault}
 use Rattle.ob0_rpc.specs.declared.incoming_messages.RpcFault.TheVariants.{NotJson, NotAMessage, UnknownMethod, BadParams, Memory}
 
--- Returns the number -n, for n of at least 1.
+-- Returns the number -n, if n is at least 1.
 abbrev pub negative_of : ℕ → ℤ
 negative_of n = negsuc (n - 1)
 

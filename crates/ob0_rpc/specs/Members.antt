@@ -7,7 +7,7 @@ use Rattle.serde_json.specs.Find.{get, as_str, as_bool, as_number, as_i64, as_u6
 use Rattle.ob0_text.specs.declared.position_types.Position.{Position}
 use Rattle.ob0_text.specs.declared.position_types.Range.{Range}
 
--- Returns whether an optional member is absent (None) or null. Both mean the same.
+-- Returns whether an optional member is absent (None) or null.
 abbrev pub is_absent_or_null : Option Data → Bool
 is_absent_or_null None = true
 is_absent_or_null (Some null) = true
@@ -17,7 +17,7 @@ is_absent_or_null (Some (string s)) = false
 is_absent_or_null (Some (array ds)) = false
 is_absent_or_null (Some (object ms)) = false
 
--- Returns the text of the member with this name, or None if the member is absent or isn't a text.
+-- Returns the text of the member with this name, or None if the member is absent or isn't a string.
 abbrev pub text_member : List ℕ → Data → Option (List ℕ)
 text_member name d = option_and_then as_str (get name d)
 
@@ -37,7 +37,7 @@ abbrev pub document_member : List ℕ → Data → Option Data
 document_member name params = option_and_then (get name) (get (codes "textDocument") params)
 
 -- Returns the uri of the document in params (`textDocument.uri`), in bytes of UTF-8. Returns None
--- if the uri is missing or isn't a text.
+-- if the uri is missing or isn't a string.
 abbrev pub document_uri : Data → Option (List ℕ)
 document_uri params = option_and_then as_str (document_member (codes "uri") params)
 
@@ -48,7 +48,7 @@ document_version params =
     option_and_then as_i64 (option_and_then as_number (document_member (codes "version") params))
 
 -- Returns the text of the document in params (`textDocument.text`), in characters. Returns None if
--- the text is missing or isn't a JSON text.
+-- the text is missing or isn't a string.
 abbrev pub document_text : Data → Option (List ℕ)
 document_text params = option_map chars (option_and_then as_str (document_member (codes "text") params))
 

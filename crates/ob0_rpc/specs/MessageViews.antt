@@ -33,7 +33,7 @@ id_or_null (Some id) = json_of_id id
 id_or_null None = null
 
 -- Returns the meaning of a message that the code has read. Ids and params become JSON values, and
--- methods become bytes of UTF-8. An ignored message is a response.
+-- methods become bytes of UTF-8. `Ignored` means a response.
 abbrev pub message_view : Incoming → MessageMeaning
 message_view (Request id method params) = request (json_of_id id) (string_bytes method) (view params)
 message_view (Notice method params) = notice (string_bytes method) (view params)
@@ -50,9 +50,9 @@ InterpretsMessage d (Err NotJson) = ⊥
 InterpretsMessage d (Err UnknownMethod) = ⊥
 InterpretsMessage d (Err BadParams) = ⊥
 
--- States that reading this content (the bytes received as one message) may give this result. If the
--- content isn't JSON, the result is `NotJson`. Otherwise `InterpretsMessage` holds for the
--- content's JSON value and the result. The error `Memory` (out of memory) is always allowed.
+-- States that reading this content may give this result. If the content isn't JSON, the result is
+-- `NotJson`. Otherwise `InterpretsMessage` holds for the content's JSON value and the result. The
+-- error `Memory` (out of memory) is always allowed.
 abbrev pub ReadsMessage : List ℕ → Result Incoming RpcFault → Type 0
 ReadsMessage content (Err NotJson) = IsJsonOfContent content None
 ReadsMessage content (Err Memory) = Unit {0}
@@ -104,8 +104,8 @@ notification_view (noted.TheVariants.Close uri) = closes (string_bytes uri)
 notification_view (noted.TheVariants.Unreadable uri) = unreadable (option_map string_bytes uri)
 notification_view noted.TheVariants.Other = other
 
--- States that the code's result is the notification with this method and these params. The error
--- `Memory` (out of memory) is always allowed. No other error is allowed.
+-- States that the code's result is the meaning of the notification with this method and these
+-- params. The error `Memory` (out of memory) is always allowed. No other error is allowed.
 abbrev pub ReadsNotification : List ℕ → Data → Result noted.ClientNotification RpcFault → Type 0
 ReadsNotification method params (Ok note) = notification_by_method method params ≡ notification_view note
 ReadsNotification method params (Err Memory) = Unit {0}

@@ -55,7 +55,7 @@ content_changes_of_params params =
     option_and_then content_changes_of_items (option_and_then as_array (get (codes "contentChanges") params))
 
 -- Returns the meaning of `textDocument/didOpen` with this uri, version and text. If one of the
--- three is None, returns `unreadable` with the uri.
+-- three is None, returns `unreadable` with the uri (or with None if the uri is None).
 abbrev pub open_or_unreadable : Option (List ℕ) → Option ℤ → Option (List ℕ) → NotificationMeaning
 open_or_unreadable None version text = unreadable None
 open_or_unreadable (Some uri) (Some version) (Some text) = opens uri version text
@@ -63,7 +63,7 @@ open_or_unreadable (Some uri) (Some version) None = unreadable (Some uri)
 open_or_unreadable (Some uri) None text = unreadable (Some uri)
 
 -- Returns the meaning of `textDocument/didChange` with this uri, version and changes. If one of the
--- three is None, returns `unreadable` with the uri.
+-- three is None, returns `unreadable` with the uri (or with None if the uri is None).
 abbrev pub change_or_unreadable : Option (List ℕ) → Option ℤ → Option (List TextChange) → NotificationMeaning
 change_or_unreadable None version all = unreadable None
 change_or_unreadable (Some uri) (Some version) (Some all) = changes uri version all

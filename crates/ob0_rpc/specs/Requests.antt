@@ -132,7 +132,7 @@ rename_request_from_parts None name = None
 abbrev pub rename_request_of : Data → Option ClientRequest
 rename_request_of params = rename_request_from_parts (document_place_of params) (text_member (codes "newName") params)
 
--- Returns the items of a list as texts, or None if an item isn't a text.
+-- Returns the items of a list as texts, or None if an item isn't a string.
 abbrev pub texts_of_items : Items → Option (List (List ℕ))
 texts_of_items no_items = Some []
 texts_of_items (item d ds) =

@@ -16,14 +16,14 @@ pub struct ClientFeatures {
     pub offers_utf8: bool,
     /// The client sends `prepareRename` before it requests a rename.
     pub prepares_renames: bool,
-    /// The client accepts code actions that aren't commands.
+    /// The client accepts literal code actions, which contain their edits and aren't commands.
     pub accepts_literal_actions: bool,
-    /// The client accepts edits that specify the versions of their documents.
+    /// The client accepts edits that mention their documents' versions.
     pub accepts_document_changes: bool,
 }
 
-/// Returns the capabilities that a client announces in the params of `initialize`. Members with
-/// another JSON type than expected count as absent.
+/// Returns the capabilities that a client announces in the params of `initialize`. A member whose
+/// JSON type isn't the expected one counts as absent.
 pub fn client_features(params: &Value) -> ClientFeatures
     ensures { result ≡ client_in (view params.now) }
 {

@@ -1,5 +1,5 @@
-//! Reads the content of a message: the id, the method and the params. The params stay a JSON value,
-//! because their form depends on the method.
+//! Reads the content of a message: the id, the method and the params. The params are returned as a
+//! JSON value, because their form depends on the method.
 ghost use Rattle.std.specs.Prelude.{◌≡◌, true, false, IfOk, MatchOption};
 ghost use Rattle.serde_json.specs.View.{view, number_view};
 ghost use Rattle.serde_json.specs.Data.{number};
@@ -11,7 +11,7 @@ use serde_json::{Number, Value};
 use std::alloc::{AllocError, AllocFailed, Global};
 use thiserror::Error;
 
-/// The id of a request: a whole number that fits in 64 bits (signed or unsigned), or a text.
+/// The id of a request: a whole number that fits in 64 bits (signed or unsigned), or a string.
 #[derive(Drop)]
 pub enum Id {
     Signed(i64),
@@ -19,8 +19,8 @@ pub enum Id {
     Text(String),
 }
 
-/// A message that has been read. A request has an id, a method and params. A notification has a
-/// method and params. A response is ignored.
+/// A message that has been read: a request (id, method and params), a notification (method and
+/// params), or a response. The server ignores responses, so `Ignored` has no fields.
 #[derive(Drop)]
 pub enum Incoming {
     Request(Id, String, Value),
@@ -96,8 +96,8 @@ impl<T: Drop> From<AllocFailed<T>> for RpcFault {
     }
 }
 
-/// Reads the content of one message: the bytes after the header. If the content isn't one JSON
-/// value in UTF-8, nested at most 127 deep, the fault is `NotJson`. If the JSON value isn't a
+/// Reads the content of one message: the bytes after the head. The content must be one JSON value
+/// in UTF-8, nested at most 127 deep; otherwise the fault is `NotJson`. If the JSON value isn't a
 /// message, the fault is `NotAMessage`. If an allocation fails, the fault is `Memory`.
 pub fn read(alloc: Global, content: &[u8]) -> Result<Incoming, RpcFault>
     ensures { ReadsMessage content.now result }
@@ -148,7 +148,7 @@ fn into_params(message: Value) -> Value
 }
 
 // Reads a JSON value as an id. Returns None if the value is neither a whole number of 64 bits nor a
-// text.
+// string.
 fn read_id(alloc: Global, value: &Value) -> Result<Option<Id>, AllocError>
     ensures { IfOk result (λ found. MatchOption found
         (is_id (view value.now) ≡ false)

@@ -1,8 +1,8 @@
 //! Writes JSON values directly into the text of a message.
 //!
-//! Each type of message that the server sends implements `WriteJson`, and so does each type of its
-//! parts. The trait defines the JSON value of the message or part, and writes it. No
-//! `serde_json::Value` is made first. The contract of a function that writes a JSON value is
+//! The types of the server's messages, and of the parts of these messages, implement `WriteJson`.
+//! The trait defines the JSON value of a message or part, and writes its text without making a
+//! `serde_json::Value` first. The contract of a function that writes a JSON value is
 //! `AppendsValue`. It states that the function appends the value's compact text (without added
 //! white space), and that reading this text gives the value. A text in which no byte needs an
 //! escape is written in one piece.
@@ -115,9 +115,9 @@ fn write_all_list_items<W: WriteJson>(out: &mut Vec<u8>, values: &[W]) -> Result
     Ok(())
 }
 
-/// Writes one item of a list of `count` items. If `needs_comma` is true, a comma is written before
-/// the item. Otherwise the item is the first of the list. In that case, capacity is reserved for
-/// the other items, as if each were about as long as the first.
+/// Writes one item of a list of `count` items, after a comma if `needs_comma` is true. If it is
+/// false, the item is the first of the list. Capacity is then reserved for the other items, as if
+/// each were about as long as the first.
 fn write_list_item_and_reserve<W: WriteJson>(
     out: &mut Vec<u8>,
     count: usize,
@@ -206,7 +206,7 @@ pub(crate) fn write_escaped_text(out: &mut Vec<u8>, text: &[u8]) -> Result<(), A
     write_each_byte_escaped(out, text)
 }
 
-/// Returns whether the text can be written unchanged because no byte needs an escape.
+/// Returns true if the text can be written unchanged, because no byte needs an escape.
 fn needs_no_escape(text: &[u8]) -> bool
     ensures plain { result ≡ true → escape text.now ≡ text.now }
 {

@@ -23,7 +23,7 @@ pub use notifications::{ClientNotification, notice};
 pub use notifications::ClientNotification as Note;
 pub use objects::{OneMemberObject, end_object, write_first_member, write_next_member};
 pub use outgoing_messages::{
-    ErrorObject, ErrorResponse, ServerNotification, SuccessResponse, content_of, error,
+    ErrorObject, ErrorResponse, ServerNotification, SuccessResponse, content_of_message, error,
     notification_text, success_response_text,
 };
 pub use ranges::{write_range_ending_at, write_verbatim_ending_at};

@@ -8,7 +8,7 @@ ghost use Rattle.ob0_rpc.specs.Members.{is_absent_or_null as absent, text_member
 use ob0_text::{Position, Range};
 use serde_json::Value;
 
-/// Returns whether an optional member is absent (None) or null. Both mean the same.
+/// Returns whether an optional member is absent (None) or null.
 pub fn is_absent_or_null(member: Option<&Value>) -> bool
     ensures { result ≡ absent (option_map (λ v. view v.now) member.entry) }
 {
@@ -18,7 +18,7 @@ pub fn is_absent_or_null(member: Option<&Value>) -> bool
     }
 }
 
-/// Returns the text of the member `name`, or None if the member is absent or isn't a text.
+/// Returns the text of the member `name`, or None if the member is absent or isn't a string.
 pub fn text_of_member<'v>(value: &'v Value, name: &str) -> Option<&'v str>
     ensures { option_map (λ s. s.now) result ≡ text_member name.now (view value.now) }
 {
@@ -42,7 +42,7 @@ pub fn unsigned_of_member(value: &Value, name: &str) -> Option<u64>
 }
 
 /// Returns the uri of the document in params (`textDocument.uri`). Returns None if the uri is
-/// missing or isn't a text.
+/// missing or isn't a string.
 pub fn document_uri_in_params(params: &Value) -> Option<&str>
     ensures { option_map (λ s. s.now) result ≡ document_uri (view params.now) }
 {
@@ -58,7 +58,7 @@ pub fn document_version_in_params(params: &Value) -> Option<i64>
 }
 
 /// Moves the text of the document (`textDocument.text`) out of params. Returns None if the text is
-/// missing or isn't a JSON text.
+/// missing or isn't a string.
 pub fn into_document_text(params: Value) -> Option<String>
     ensures { option_map (λ s. chars (string_bytes s)) result ≡ document_text (view params) }
 {
@@ -66,7 +66,7 @@ pub fn into_document_text(params: Value) -> Option<String>
 }
 
 /// Moves the text of the member `name` out of a value. Returns None if the member is absent or
-/// isn't a text.
+/// isn't a string.
 pub fn into_text_member(value: Value, name: &str) -> Option<String>
     ensures { option_map string_bytes result ≡ text_member name.now (view value) }
 {
@@ -87,7 +87,7 @@ pub fn into_member(value: Value, name: &str) -> Option<Value>
     }
 }
 
-/// Moves the text out of a value. Returns None if the value isn't a text.
+/// Moves the text out of a JSON string. Returns None if the value isn't a string.
 fn into_json_string(value: Value) -> Option<String>
     ensures { option_map string_bytes result ≡ as_str (view value) }
 {

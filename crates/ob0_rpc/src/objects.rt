@@ -1,5 +1,5 @@
 //! Writes JSON objects member by member. `write_first_member` and `write_next_member` write a
-//! member's name unchanged, so no character of the name may need an escape.
+//! member's name unchanged. So a name mustn't contain a character that needs an escape.
 ghost use Rattle.std.specs.Prelude.{◌≡◌, ◌++◌, [], ◌∷◌, OnOk};
 ghost use Rattle.serde_json.specs.Data.{member, no_members, object};
 ghost use Rattle.ob0_rpc.specs.AppendedJson.{AppendsMember};
@@ -7,8 +7,8 @@ ghost use Rattle.ob0_rpc.specs.AppendedJson.{AppendsMember};
 use crate::json_text::{WriteJson, write_verbatim};
 use std::alloc::AllocError;
 
-/// Writes an object's opening brace and its first member. `name` is written unchanged, so no
-/// character of it may need an escape.
+/// Writes an object's opening brace and its first member. `name` is written unchanged, so it
+/// mustn't contain a character that needs an escape.
 #[inline(always)]
 pub fn write_first_member<W: WriteJson>(
     out: &mut Vec<u8>,
@@ -24,8 +24,8 @@ pub fn write_first_member<W: WriteJson>(
     value.write(out)
 }
 
-/// Writes a comma and another member of an object. `name` is written unchanged, so no character of
-/// it may need an escape.
+/// Writes a comma and another member of an object. `name` is written unchanged, so it mustn't
+/// contain a character that needs an escape.
 #[inline(always)]
 pub fn write_next_member<W: WriteJson>(
     out: &mut Vec<u8>,

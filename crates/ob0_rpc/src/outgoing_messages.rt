@@ -46,7 +46,7 @@ impl<'a> WriteJson for ErrorObject<'a> {
 }
 
 /// An error response: the answer to a refused request, or to received bytes that aren't a message.
-/// `id` is the id of the request, or None in the second case.
+/// `id` is the id of the request, or None if the received bytes aren't a message.
 #[derive(Drop)]
 pub struct ErrorResponse<'a> {
     pub error: ErrorObject<'a>,
@@ -105,7 +105,7 @@ impl<'a> WriteJson for &'a Id {
 
 /// Returns the JSON text of a message. If the message is nested at most 127 deep, the text reads
 /// back as that message.
-pub fn content_of<W: WriteJson>(alloc: Global, message: &W) -> Result<Vec<u8>, AllocError>
+pub fn content_of_message<W: WriteJson>(alloc: Global, message: &W) -> Result<Vec<u8>, AllocError>
     ensures { IfOk result
         (λ bytes. depth (W.value message.now) ≤ 127 → Writes (W.value message.now) bytes.items) }
 {
@@ -124,7 +124,7 @@ pub fn success_response_text<W: WriteJson>(
     ensures { IfOk result (λ bytes. FitsInMessage (W.value value.now)
         → Writes (result_message (json_of_id id.now) (W.value value.now)) bytes.items) }
 {
-    content_of(alloc, &SuccessResponse { id, result: value })
+    content_of_message(alloc, &SuccessResponse { id, result: value })
 }
 
 /// Returns the JSON text of an error response. `id` is the id of the refused request, or None if
@@ -140,7 +140,7 @@ pub fn error(
         bytes.items) }
 {
     let error = ErrorObject { code, message };
-    content_of(alloc, &ErrorResponse { error, id })
+    content_of_message(alloc, &ErrorResponse { error, id })
 }
 
 /// Returns the JSON text of a notification. If the params are nested at most 126 deep, the text
@@ -153,5 +153,5 @@ pub fn notification_text<W: WriteJson>(
     ensures { IfOk result (λ bytes. FitsInMessage (W.value params.now)
         → Writes (notification_message method.now (W.value params.now)) bytes.items) }
 {
-    content_of(alloc, &ServerNotification { method, params })
+    content_of_message(alloc, &ServerNotification { method, params })
 }

@@ -1,11 +1,11 @@
 //! Writes positions, ranges and edits as JSON.
 //!
-//! The text of a range is built backwards, from its last byte to its first. The reason is that the
-//! digits of a number are computed from the last to the first. So each digit is written directly to
-//! its final position in the buffer.
+//! The text of a range is built backwards, from its last byte to its first, because the digits of a
+//! number are computed in that order. So each digit is written directly to its final position in
+//! the buffer.
 //!
-//! The text of a range is built in a fixed array on the stack and copied once. If it were appended
-//! piece by piece, each piece would cost a capacity check and a copy.
+//! The buffer is a fixed array on the stack, which is appended to the output in one copy. If the
+//! text were appended piece by piece, each piece would cost a capacity check and a copy.
 
 ghost use Rattle.std.specs.Prelude.{◌≡◌, ◌++◌, ◌∷◌, [], ◌+◌, ◌<◌, ◌≤◌, ◌^◌, OnOk, codes, decimal, drop, length};
 ghost use Rattle.serde_json.specs.Written.{compact_text};
@@ -21,7 +21,7 @@ use std::alloc::AllocError;
 /// The size in bytes of the buffer in which the text of a range is built. The range takes at most
 /// 160 bytes. The other 16 bytes are for the parts of an edit around its range: `","range":` before
 /// the range, and `}` after it.
-const RANGE_BUFFER_SIZE: usize = 176;
+const RANGE_BUFFER_BYTES: usize = 176;
 
 impl WriteJson for Position {
     ghost value = { λ p. position_value p };
@@ -62,8 +62,8 @@ fn write_range_and_end_of_edit(
         ++ (codes "\",\"range\":" ++ (compact_text (range_value start end) ++ 125 ∷ []))) }
     ensures reads { ReadsBack (range_value start end) }
 {
-    let mut buffer = [0; RANGE_BUFFER_SIZE];
-    let following = write_verbatim_ending_at(&mut buffer, RANGE_BUFFER_SIZE, b"}");
+    let mut buffer = [0; RANGE_BUFFER_BYTES];
+    let following = write_verbatim_ending_at(&mut buffer, RANGE_BUFFER_BYTES, b"}");
     let at_range = write_range_ending_at(&mut buffer, following, start, end);
     let at = write_verbatim_ending_at(&mut buffer, at_range, b"\",\"range\":");
     write_verbatim(out, &buffer[at..])
@@ -73,8 +73,8 @@ fn write_range_and_end_of_edit(
 fn write_range(out: &mut Vec<u8>, start: Position, end: Position) -> Result<(), AllocError>
     ensures { OnOk result (AppendsValue (range_value start end) out.old.items out.new.items) }
 {
-    let mut buffer = [0; RANGE_BUFFER_SIZE];
-    let at = write_range_ending_at(&mut buffer, RANGE_BUFFER_SIZE, start, end);
+    let mut buffer = [0; RANGE_BUFFER_BYTES];
+    let at = write_range_ending_at(&mut buffer, RANGE_BUFFER_BYTES, start, end);
     write_verbatim(out, &buffer[at..])
 }
 
@@ -110,8 +110,8 @@ fn write_position_ending_at(buffer: &mut [u8], at: usize, position: Position) ->
     write_verbatim_ending_at(buffer, at_character, b"{\"character\":")
 }
 
-/// Writes the decimal digits of `count` into the buffer. The digits end right before the index
-/// `at`. Returns the index of the first digit.
+/// Writes the decimal digits of `count` into the buffer. They take at most 20 bytes, and end right
+/// before the index `at`. Returns the index of the first digit.
 #[inline(always)]
 fn write_digits_ending_at(buffer: &mut [u8], at: usize, count: u64) -> usize
     requires { (20 ≤ at) × (at ≤ length buffer.old) }

@@ -14,7 +14,7 @@ use crate::members::{
     bool_of_member, document_uri_in_params, position_of_member, range_of_member, text_of_member,
     unsigned_of_member,
 };
-use ob0_text::{Indent, MAX_INDENT, Position, Range};
+use ob0_text::{Indent, MAX_SPACES_PER_LEVEL, Position, Range};
 use serde_json::Value;
 use std::alloc::{AllocError, Global};
 
@@ -252,16 +252,16 @@ fn requested_indent(params: &Value) -> Option<Indent>
 }
 
 /// Returns the number of spaces for one level of indentation: the requested number `size`, but at
-/// least 1 and at most [`MAX_INDENT`].
+/// least 1 and at most [`MAX_SPACES_PER_LEVEL`].
 fn spaces_per_level(size: u64) -> u8
     ensures { result ≡ indent_spaces_for_tab_size size }
 {
-    size.min(MAX_INDENT as u64).max(1) as u8
+    size.min(MAX_SPACES_PER_LEVEL as u64).max(1) as u8
 }
 
 /// Returns the kinds of code actions that the object `context` requests in its member `only`. The
 /// result `Some(None)` means that all kinds are requested. The result `None` means that the context
-/// isn't an object, or that the kinds can't be read.
+/// is missing or isn't an object, or that the kinds can't be read.
 fn read_requested_action_kinds(
     alloc: Global,
     context: Option<&Value>,
@@ -280,7 +280,7 @@ fn read_requested_action_kinds(
 
 /// Returns the items of the member `only` as texts. The result `Some(None)` means that the member
 /// is absent or null. The result `None` means that the member isn't a list, or that an item isn't a
-/// text.
+/// string.
 fn read_texts_of_optional_list(
     alloc: Global,
     only: Option<&Value>,
@@ -303,7 +303,7 @@ fn read_texts_of_optional_list(
     }
 }
 
-/// Returns the items of a list as texts, or None if an item isn't a text.
+/// Returns the items of a list as texts, or None if an item isn't a string.
 fn texts_of_items(alloc: Global, items: &[Value]) -> Result<Option<Vec<String>>, AllocError>
     ensures { IfOk result (λ found. option_map (λ texts. map string_bytes texts.items) found
         ≡ texts_in (items_view items.now)) }

@@ -49,7 +49,7 @@ fn notification_value(alloc: Global, method: &str, params: Value) -> Result<Valu
     json!(in alloc; {"jsonrpc": "2.0", "method": method, "params": params})
 }
 
-/// Returns the JSON value of an id: a number or a text.
+/// Returns the JSON value of an id: a number or a string.
 fn id_value(alloc: Global, id: &Id) -> Result<Value, AllocError>
     ensures { IfOk result (λ v. view v ≡ json_of_id id.now) }
 {

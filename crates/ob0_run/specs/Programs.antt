@@ -10,8 +10,8 @@ use Rattle.ob0_run_cells.specs.LoweringLaws.{run_of}
 use Rattle.ob0_run_lowering.specs.declared.programs.Program.{Program}
 
 -- States that a program has the module's run, for each input and for all bounds. `c` bounds the
--- open calls, and `t` the iterations of a loop. Claims nothing about a run in which the number of
--- cells would have more than 64 bits.
+-- open calls, and `t` the iterations of a loop. Claims nothing about a run whose number of cells
+-- doesn't fit in 64 bits.
 abbrev pub ProgramRunsAsModule : Tree Name module_text → Program → Type 0
 ProgramRunsAsModule m p =
     (input : List ℤ) (c t : ℕ)

@@ -3,8 +3,8 @@
 //! The contract of `lower` follows from two facts. First, the lowered program is correct code for
 //! the module (`ProgramMeansModule`). Second, a correct program for a well-typed module has the
 //! module's run, if the machine has room for the run's cells (`lowering_keeps_runs`). So `lower`
-//! ensures `ProgramRunsAsModule`. If this holds for a module and a program, `execute` of the program
-//! returns the module's run.
+//! ensures `ProgramRunsAsModule`. If this holds for a module and a program, `execute` of the
+//! program returns the module's run.
 
 ghost use Rattle.std.specs.Prelude.{◌≡◌, IfOk};
 ghost use Rattle.ob0_tree.specs.ParsedModule.{named_tree_of};
@@ -27,7 +27,7 @@ use std::alloc::{AllocError, Global};
 ///
 /// # Errors
 ///
-/// An allocation failed, or a count, for example of cells, has more than 64 bits.
+/// An allocation failed, or a count, for example of cells, doesn't fit in 64 bits.
 pub fn lower(alloc: Global, checked: &WellTyped<'_>) -> Result<Program, AllocError>
     ensures runs { IfOk result (ProgramRunsAsModule (named_tree_of checked.now.module_read)) }
     ensures means { IfOk result (λ made. ProgramMeansModule naming_by_label

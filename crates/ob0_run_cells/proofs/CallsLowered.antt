@@ -1,7 +1,7 @@
--- Proves that calls of lowered procedures do what the module's calls do, by induction on how many may
--- be open. The `.. -run` lemmas of `SoundCalls` of `ob0_language_runs` hide the environments in between.
--- If a relation mentions these, take the equations from the relation, and use only the lemmas of
--- constants, types and environments.
+-- Proves that a call of a lowered procedure does what the module's call does, by induction on the
+-- number of calls that may be open. The lemmas of `SoundCalls` of `ob0_language_runs` whose names
+-- end in `-run` hide the environments in between. If a relation mentions these environments, take
+-- the equations from the relation, and use only the lemmas about constants, types and environments.
 use Rattle.std.proofs.lemmas.Bool.{ltb-true}
 use Rattle.std.proofs.lemmas.List.{length-replicate}
 use Rattle.std.proofs.Common.{◌≡◌, ℕ, zero, suc, ◌+◌, ◌^◌, ◌<◌, true, false, if◌then◌else◌, nat_lt, length-append, List, [], ◌∷◌, ◌++◌, drop, length, map, take, pos, slice_get, Some, option_and_then, unwrap_or, sym, refl, ap, ◌∙◌, subst, arith, append_assoc}
@@ -52,7 +52,7 @@ drop_variables-represents typing now others old base _ _ e fits is h = absurd h
 
 module _ {N : Type 0} (table : RoutineTable N) where
   abbrev pub body_of : ℕ → ℕ → StoreTyping → Levels → RunEnvironment N → BodyContext N
-  body_of c t typing ls active = record { typing = typing; active = meanings_for_statements table.naming active; levels = ls; enters = call_freeing_variables table.naming c t active; lowered_call_effect = execution.call table.routines c t }
+  body_of c t typing ls active = record { typing = typing; active = meanings_for_statements table.naming active; levels = ls; call_effect = call_freeing_variables table.naming c t active; lowered_call_effect = execution.call table.routines c t }
 
   -- the facts about calls if c more may be open
   abbrev pub CallsKnown : ℕ → ℕ → Type 0

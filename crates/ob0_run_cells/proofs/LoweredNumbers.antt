@@ -1,12 +1,12 @@
--- Numbers of lowered code mean the expressions that they mean.
+-- Proves that lowered numbers are correct code for expressions.
 use Rattle.std.proofs.Common.{◌≡◌, ℕ, Bool, true, false, pos, neg_ℤ, Some, None, sym, refl, ap, ◌∙◌}
 use Rattle.ob0_tree.specs.declared.tree.Sign.TheVariants as sign
 use Rattle.ob0_tree.specs.declared.tree.AddOperator.{AddOperator}
 use Rattle.ob0_tree.specs.declared.tree.MultiplyOperator.{MultiplyOperator}
 use Rattle.ob0_tree.specs.Tree.{Tree, addend, adds, factor, integer, items, more, multiplier, multiplies, product, sum, term}
-use Rattle.ob0_language_types.specs.Expressions.{evaluate}
+use Rattle.ob0_language_types.specs.Expressions.{evaluate_expression}
 use Rattle.ob0_language_types.specs.WellTyped.{TypeMeanings}
-use Rattle.ob0_language_values.specs.Values.{Outcome, Value, add, add_operator_short_circuits, ends_run_with, succeeds_with, multiply, multiply_operator_short_circuits, number, apply_sign, ◌>>=◌}
+use Rattle.ob0_language_values.specs.Values.{Outcome, Value, apply_add_operator, add_operator_short_circuits, ends_run_with, succeeds_with, apply_multiply_operator, multiply_operator_short_circuits, number, apply_sign, ◌>>=◌}
 use Rattle.ob0_run_machine.specs.Evaluation as machine
 use Rattle.ob0_run_machine.specs.LoweredSyntax as lowered
 use Rattle.ob0_run_cells.specs.Cells.{cells_of_store}
@@ -43,37 +43,37 @@ module _ {N : Type 0} (checked : TypeMeanings N) (slots : N → Slot) where
       let same : v z ≡ whole z = sym (gives-then (v z)) ∙ (each-then (v z) succeeds_with (rest z) (λ x. sym (ends_here z x)) ∙ ev z shown) in
       hv z shown ∙ same
 
-  pub addend-leads : (o : AddOperator) (op : lowered.Operator) → Operates op (add o) → ((x : Value) → add_operator_short_circuits o x ≡ false) → (m n : lowered.Number) (e : Tree N term) (rest : Tree N (items addend)) (whole : OutcomeByMoment N Value)
+  pub addend-leads : (o : AddOperator) (op : lowered.Operator) → Operates op (apply_add_operator o) → ((x : Value) → add_operator_short_circuits o x ≡ false) → (m n : lowered.Number) (e : Tree N term) (rest : Tree N (items addend)) (whole : OutcomeByMoment N Value)
       → NumberHasOutcome checked slots n (value_of_term e) → NumberStartsChain checked slots m (outcome_of_remaining_addends (more (adds o e) rest)) whole → NumberStartsChain checked slots (lowered.operation op m n) (outcome_of_remaining_addends rest) whole
-  unfolding evaluate
+  unfolding evaluate_expression
   addend-leads o op operates never m n e rest whole hn h =
       let (v, hv, ev) = h in (
-        (λ z. v z >>= (λ x. value_of_term e z >>= add o x)),
-        operation-means op (add o) operates m n v (value_of_term e) hv hn,
-        λ z shown. unsettled (v z) (add_operator_short_circuits o) (λ x. value_of_term e z >>= add o x) (outcome_of_remaining_addends rest z) never ∙ ev z shown,
+        (λ z. v z >>= (λ x. value_of_term e z >>= apply_add_operator o x)),
+        operation-means op (apply_add_operator o) operates m n v (value_of_term e) hv hn,
+        λ z shown. unsettled (v z) (add_operator_short_circuits o) (λ x. value_of_term e z >>= apply_add_operator o x) (outcome_of_remaining_addends rest z) never ∙ ev z shown,
       )
 
-  pub multiplier-leads : (o : MultiplyOperator) (op : lowered.Operator) → Operates op (multiply o) → ((x : Value) → multiply_operator_short_circuits o x ≡ false) → (m n : lowered.Number) (f : Tree N factor) (rest : Tree N (items multiplier)) (whole : OutcomeByMoment N Value)
+  pub multiplier-leads : (o : MultiplyOperator) (op : lowered.Operator) → Operates op (apply_multiply_operator o) → ((x : Value) → multiply_operator_short_circuits o x ≡ false) → (m n : lowered.Number) (f : Tree N factor) (rest : Tree N (items multiplier)) (whole : OutcomeByMoment N Value)
       → NumberHasOutcome checked slots n (value_of_factor f) → NumberStartsChain checked slots m (outcome_of_remaining_multipliers (more (multiplies o f) rest)) whole → NumberStartsChain checked slots (lowered.operation op m n) (outcome_of_remaining_multipliers rest) whole
-  unfolding evaluate
+  unfolding evaluate_expression
   multiplier-leads o op operates never m n f rest whole hn h =
       let (v, hv, ev) = h in (
-        (λ z. v z >>= (λ x. value_of_factor f z >>= multiply o x)),
-        operation-means op (multiply o) operates m n v (value_of_factor f) hv hn,
-        λ z shown. unsettled (v z) (multiply_operator_short_circuits o) (λ x. value_of_factor f z >>= multiply o x) (outcome_of_remaining_multipliers rest z) never ∙ ev z shown,
+        (λ z. v z >>= (λ x. value_of_factor f z >>= apply_multiply_operator o x)),
+        operation-means op (apply_multiply_operator o) operates m n v (value_of_factor f) hv hn,
+        λ z shown. unsettled (v z) (multiply_operator_short_circuits o) (λ x. value_of_factor f z >>= apply_multiply_operator o x) (outcome_of_remaining_multipliers rest z) never ∙ ev z shown,
       )
 
   pub product-begins : (f : Tree N factor) (rest : Tree N (items multiplier)) (n : lowered.Number) → NumberHasOutcome checked slots n (value_of_factor f) → NumberStartsChain checked slots n (outcome_of_remaining_multipliers rest) (value_of_term (product f rest))
-  unfolding evaluate
+  unfolding evaluate_expression
   product-begins f rest n hn = (value_of_factor f, hn, λ z shown. refl)
 
   pub sum-begins : (e : Tree N term) (rest : Tree N (items addend)) (n : lowered.Number) → NumberHasOutcome checked slots n (value_of_term e) → NumberStartsChain checked slots n (outcome_of_remaining_addends rest) (value_of_simple_expression (sum None e rest))
-  unfolding evaluate
+  unfolding evaluate_expression
   sum-begins e rest n hn = (value_of_term e, hn, λ z shown. refl)
 
   pub plus-begins : (e : Tree N term) (rest : Tree N (items addend)) (n : lowered.Number) → NumberHasOutcome checked slots n (value_of_term e)
       → NumberStartsChain checked slots (lowered.operation lowered.sum n (lowered.literal (pos 0))) (outcome_of_remaining_addends rest) (value_of_simple_expression (sum (Some sign.Plus) e rest))
-  unfolding evaluate
+  unfolding evaluate_expression
   plus-begins e rest n hn = (
     (λ z. value_of_term e z >>= apply_sign (Some sign.Plus)),
     plus-means n (value_of_term e) hn,
@@ -81,7 +81,7 @@ module _ {N : Type 0} (checked : TypeMeanings N) (slots : N → Slot) where
   )
 
   pub minus-begins : (e : Tree N term) (rest : Tree N (items addend)) (n : lowered.Number) → NumberHasOutcome checked slots n (value_of_term e) → NumberStartsChain checked slots (lowered.negative n) (outcome_of_remaining_addends rest) (value_of_simple_expression (sum (Some sign.Minus) e rest))
-  unfolding evaluate
+  unfolding evaluate_expression
   minus-begins e rest n hn = (
     (λ z. value_of_term e z >>= apply_sign (Some sign.Minus)),
     negative-means n (value_of_term e) hn,
@@ -89,5 +89,5 @@ module _ {N : Type 0} (checked : TypeMeanings N) (slots : N → Slot) where
   )
 
   pub integer-means : (n : ℕ) → NumberHasOutcome checked slots (lowered.literal (pos n)) (value_of_factor (integer n))
-  unfolding evaluate
+  unfolding evaluate_expression
   integer-means n z shown = refl

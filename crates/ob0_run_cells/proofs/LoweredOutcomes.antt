@@ -1,4 +1,5 @@
--- Steps of lowered code and of the definition, one after the other.
+-- Proves that two steps with the same outcome, one of lowered code and one of the definition, still
+-- agree if steps with the same outcomes follow them.
 use Rattle.std.proofs.Common.{◌≡◌, ℕ, ◌<◌, ◌+◌, ◌-ℤ◌, ◌+ℤ◌, ◌*ℤ◌, ◌^◌, Bool, true, false, ℤ, pos, if◌then◌else◌, Some, None, Option, option_and_then, sym, refl, ap, ◌∙◌, subst, arith}
 use Rattle.std.proofs.lemmas.Int.{ints}
 use Rattle.std.proofs.Math.Nat.{mod-eq_of_lt}
@@ -7,12 +8,12 @@ use Rattle.ob0_tree.specs.declared.tree.Relation.TheVariants as relation
 use Rattle.ob0_tree.specs.declared.tree.Sign.TheVariants as sign
 use Rattle.ob0_tree.specs.declared.tree.AddOperator.TheVariants as add_operator
 use Rattle.ob0_tree.specs.declared.tree.MultiplyOperator.TheVariants as multiply_operator
-use Rattle.ob0_language_values.specs.Values.{End, Outcome, Overflow, Place, Shape, Value, add, checked_division, division_outcome, ends_run_with, fits_in_32_bits, succeeds_with, checked_number, multiply, number, result_or_stuck, quotient, apply_relation, remainder, apply_sign, truth, ◌>>=◌}
+use Rattle.ob0_language_values.specs.Values.{End, Outcome, Overflow, Place, Shape, Value, apply_add_operator, checked_division, division_outcome, ends_run_with, fits_in_32_bits, succeeds_with, checked_number, apply_multiply_operator, number, result_or_stuck, quotient, apply_relation, remainder, apply_sign, truth, ◌>>=◌}
 use Rattle.ob0_language_runs.specs.TypeAgreement.{PlaceHasType, StoreTyping}
 use Rattle.ob0_run_machine.specs.Evaluation as machine
 use Rattle.ob0_run_machine.specs.LoweredSyntax as lowered
-use Rattle.ob0_run_cells.specs.Cells.{address}
-use Rattle.ob0_run_cells.specs.LoweredExpressions.{PlaceOutcomeHasType, outcome_of, relation_of}
+use Rattle.ob0_run_cells.specs.Cells.{address_of_place}
+use Rattle.ob0_run_cells.specs.LoweredExpressions.{PlaceOutcomeHasType, outcome_of, comparator_of_relation}
 
 abbrev pub followed_by : {A B : Type 0} → machine.StepResult A → (A → machine.StepResult B) → machine.StepResult B
 followed_by = machine.◌>>=◌
@@ -52,26 +53,26 @@ checked_division-same (Some n) = checked_number-same n
 abbrev pub Operates : lowered.Operator → (Value → Value → Outcome Value) → Type 0
 Operates o op = (a b : ℤ) → outcome_of number (machine.apply_operator o a b) ≡ op (number a) (number b)
 
-pub sum-operates : Operates lowered.sum (add add_operator.Add)
+pub sum-operates : Operates lowered.sum (apply_add_operator add_operator.Add)
 sum-operates a b = checked_number-same (a +ℤ b)
 
-pub difference-operates : Operates lowered.difference (add add_operator.Subtract)
+pub difference-operates : Operates lowered.difference (apply_add_operator add_operator.Subtract)
 difference-operates a b = checked_number-same (a -ℤ b)
 
-pub product-operates : Operates lowered.product (multiply multiply_operator.Multiply)
+pub product-operates : Operates lowered.product (apply_multiply_operator multiply_operator.Multiply)
 product-operates a b = checked_number-same (a *ℤ b)
 
-pub quotient-operates : Operates lowered.quotient (multiply multiply_operator.Divide)
+pub quotient-operates : Operates lowered.quotient (apply_multiply_operator multiply_operator.Divide)
 quotient-operates a b = checked_division-same (checked_division quotient a b)
 
-pub remainder-operates : Operates lowered.remainder (multiply multiply_operator.Modulo)
+pub remainder-operates : Operates lowered.remainder (apply_multiply_operator multiply_operator.Modulo)
 remainder-operates a b = checked_division-same (checked_division remainder a b)
 
 -- a sign `+`, as the sum with 0
 pub plus-same : (a : ℤ) → outcome_of number (machine.apply_operator lowered.sum a (pos 0)) ≡ apply_sign (Some sign.Plus) (number a)
 plus-same a = let same : a +ℤ pos 0 ≡ a = omega (arith, ints) in checked_number-same (a +ℤ pos 0) ∙ ap checked_number same
 
-pub compare-same : (r : Relation) (a b : ℤ) → succeeds_with (truth (machine.compare (relation_of r) a b)) ≡ apply_relation r (number a) (number b)
+pub compare-same : (r : Relation) (a b : ℤ) → succeeds_with (truth (machine.compare (comparator_of_relation r) a b)) ≡ apply_relation r (number a) (number b)
 compare-same relation.Equal a b = refl
 compare-same _ a b = refl
 
@@ -81,7 +82,7 @@ pub add_offset-same : (a offset : ℕ) → a + offset < 2 ^ 64 → machine.add_o
 add_offset-same a offset h = mod-eq_of_lt h
 
 abbrev pub addresses : StoreTyping → Outcome Place → Outcome ℕ
-addresses typing w = w >>= (λ p. succeeds_with (address typing p))
+addresses typing w = w >>= (λ p. succeeds_with (address_of_place typing p))
 
 abbrev pub same : ℕ → ℕ
 same a = a
@@ -102,9 +103,9 @@ ended-same x y e = ap (λ o. elim o [ succeeds_with a ↦ y | ends_run_with z �
 
 -- one step further from a place
 pub led-then : (typing : StoreTyping) (s t : Shape) (o : machine.StepResult ℕ) (w : Outcome Place) (k : ℕ → machine.StepResult ℕ) (j : Place → Outcome Place)
-    → Led typing s o w → ((p : Place) → PlaceHasType typing p s → Led typing t (k (address typing p)) (j p)) → Led typing t (followed_by o k) (w >>= j)
+    → Led typing s o w → ((p : Place) → PlaceHasType typing p s → Led typing t (k (address_of_place typing p)) (j p)) → Led typing t (followed_by o k) (w >>= j)
 led-then typing s t (machine.gives a) (succeeds_with p) k j h each =
-    let e : a ≡ address typing p = given-same a (address typing p) h.is_same in
+    let e : a ≡ address_of_place typing p = given-same a (address_of_place typing p) h.is_same in
     subst (λ a. Led typing t (k a) (j p)) (sym e) (each p h.is_place)
 led-then typing s t (machine.ends x) (ends_run_with y) k j h each = record { is_same = h.is_same; is_place = tt }
 led-then typing s t _ _ k j h each = let e = h.is_same in absurd (cc)

@@ -1,18 +1,19 @@
--- Places of lowered code mean the designators that they mean, and cells at them the value of those.
+-- Proves that lowered places are correct code for designators, and that the cells at a lowered
+-- place hold the designator's value.
 use Rattle.std.proofs.Common.{◌≡◌, ℕ, zero, suc, ◌+◌, ◌*◌, ◌<◌, ◌%◌, ◌^◌, Bool, true, false, List, [], ◌∷◌, ◌++◌, ℤ, pos, negsuc, if◌then◌else◌, nat_lt, slice_get, Some, None, Option, option_map, option_and_then, unwrap_or, sym, refl, ap, ◌∙◌, subst, subst₂, arith, append_assoc, append-nil}
 use Rattle.std.proofs.Math.Nat.{add_assoc, add_comm, add-zero, add-mod-mod, mod-add-mod}
 use Rattle.std.proofs.lemmas.Option.{get_or_from_slice_get}
 use Rattle.ob0_tree.specs.Tree.{Tree, designator, end, expression, field, index, items, more, selector}
-use Rattle.ob0_language_types.specs.Expressions.{Meanings, Object, a_constant, a_variable, designated_place, element_step, evaluate, evaluate_selectors, object_place, object_value}
+use Rattle.ob0_language_types.specs.Expressions.{Meanings, Object, a_constant, a_variable, designated_place, element_step, evaluate_expression, evaluate_selectors, object_place, object_value}
 use Rattle.ob0_language_types.specs.Typing.{named_field_shape}
 use Rattle.ob0_language_types.specs.WellTyped.{ParameterMode, TypeMeanings}
-use Rattle.ob0_language_values.specs.Values.{FieldShapes, Index, Outcome, Place, Shape, PathStep, Store, Value, Values, array_shape, at_field, at_index, value_at_path, boolean_shape, count_values, elements, ends_run_with, succeeds_with, integer_shape, number, result_or_stuck, value_at_step, read_place, record_shape, truth, ◌>>=◌}
+use Rattle.ob0_language_values.specs.Values.{FieldShapes, Index, Outcome, Place, Shape, PathStep, Store, Value, Values, array_shape, at_field, at_index, value_at_path, boolean_shape, value_count, elements, ends_run_with, succeeds_with, integer_shape, number, result_or_stuck, value_at_step, read_place, record_shape, truth, ◌>>=◌}
 use Rattle.ob0_language_runs.specs.TypeAgreement.{HasShape, RunObjectAgreesWithCheckedObject, PlaceHasType, StoreHasTypes, StoreTyping, shape_at_step, shape_at_path}
 use Rattle.ob0_language_runs.proofs.Sound.{is_elements}
 use Rattle.ob0_run_machine.specs.Evaluation as machine
 use Rattle.ob0_run_machine.specs.Evaluation.{Levels}
 use Rattle.ob0_run_machine.specs.LoweredSyntax as lowered
-use Rattle.ob0_run_cells.specs.Cells.{address, cells_of_store, field_offset, offset, size, store_cell_count, step_offset, truth_cell}
+use Rattle.ob0_run_cells.specs.Cells.{address_of_place, cells_of_store, field_offset, path_offset, shape_cell_count, store_cell_count, step_offset, truth_cell}
 use Rattle.ob0_run_cells.specs.LoweredExpressions.{OutcomeByMoment, PlaceOutcomeHasType, Moment, NumberHasOutcome, PlaceStartsChain, PlaceHasOutcome, IsMomentOfModule, Slot, TruthHasOutcome, PlaceHoldsValue, extended_place, in_activation, by_reference, in_module_activation, outcome_of, place_at_offset, place_of_designator, outcome_of_remaining_selectors, slot_address, slot_place, value_of_expression, value_of_factor}
 use Rattle.ob0_run_cells.proofs.LoweredNumbers.{each-then}
 use Rattle.ob0_run_cells.proofs.LoweredOutcomes.{Led, addresses, add_offset-same, given-same, gives-then, grouped-then, led-then, same, stuck-then, followed_by}
@@ -119,37 +120,37 @@ element-address ls cells q i n s = go (machine.place_address ls cells q)
 
 -- one step further, at a moment
 
-pub step-alone : (s t : Shape) (step : PathStep) → shape_at_step s step ≡ Some t → offset (step ∷ []) s ≡ step_offset s step
+pub step-alone : (s t : Shape) (step : PathStep) → shape_at_step s step ≡ Some t → path_offset (step ∷ []) s ≡ step_offset s step
 step-alone s t step e =
-    let h : unwrap_or (option_map (offset []) (shape_at_step s step)) 0 ≡ 0 = ap (λ o. unwrap_or (option_map (offset []) o) 0) e in omega (arith, h)
+    let h : unwrap_or (option_map (path_offset []) (shape_at_step s step)) 0 ≡ 0 = ap (λ o. unwrap_or (option_map (path_offset []) o) 0) e in omega (arith, h)
 
 pub step-led : (typing : StoreTyping) (store : Store) → StoreHasTypes typing store → store_cell_count typing < 2 ^ 64 → (p : Place) (s t : Shape) (step : PathStep) → PlaceHasType typing p s → shape_at_step s step ≡ Some t
-    → Led typing t (machine.gives (machine.add_offset (address typing p) (step_offset s step))) (succeeds_with (extended_place p (step ∷ [])))
+    → Led typing t (machine.gives (machine.add_offset (address_of_place typing p) (step_offset s step))) (succeeds_with (extended_place p (step ∷ [])))
 step-led typing store fits few p s t step fit e =
     let (is, there) = parts_have_addresses typing p (step ∷ []) s t fit (ap (option_and_then (shape_at_path [])) e) in
     let within = (places_are_slices typing store (extended_place p (step ∷ [])) t fits is).within in
-    let alone : offset (step ∷ []) s ≡ step_offset s step = step-alone s t step e in
-    let same_address : address typing (extended_place p (step ∷ [])) ≡ address typing p + step_offset s step = there ∙ ap (λ n. address typing p + n) alone in
-    let bound : address typing p + step_offset s step < 2 ^ 64 = omega (arith, within, few, same_address) in
-    record { is_same = ap succeeds_with (add_offset-same (address typing p) (step_offset s step) bound ∙ sym same_address); is_place = is }
+    let alone : path_offset (step ∷ []) s ≡ step_offset s step = step-alone s t step e in
+    let same_address : address_of_place typing (extended_place p (step ∷ [])) ≡ address_of_place typing p + step_offset s step = there ∙ ap (λ n. address_of_place typing p + n) alone in
+    let bound : address_of_place typing p + step_offset s step < 2 ^ 64 = omega (arith, within, few, same_address) in
+    record { is_same = ap succeeds_with (add_offset-same (address_of_place typing p) (step_offset s step) bound ∙ sym same_address); is_place = is }
 
 -- an element, by an index that was evaluated
 pub index-led : (typing : StoreTyping) (store : Store) → StoreHasTypes typing store → store_cell_count typing < 2 ^ 64 → (p : Place) (k n : ℕ) (t : Shape) → PlaceHasType typing p (array_shape k n t)
     → (o : machine.StepResult ℤ) (w : Outcome Value) → outcome_of number o ≡ w
-    → Led typing t (followed_by o (machine.element_address (address typing p) n (size t))) (w >>= (λ x. result_or_stuck (read_place store p) >>= (λ u. element_step u x >>= (λ s. succeeds_with (extended_place p (s ∷ []))))))
+    → Led typing t (followed_by o (machine.element_address (address_of_place typing p) n (shape_cell_count t))) (w >>= (λ x. result_or_stuck (read_place store p) >>= (λ u. element_step u x >>= (λ s. succeeds_with (extended_place p (s ∷ []))))))
 index-led typing store fits few p k n t fit o w e =
     let (u, eu, hu, write, made, keeps, lies) = place-lies typing store p (array_shape k n t) fits fit in
     let (vs, es) = is_elements u k n t hu in
-    let counted : count_values vs ≡ n = (subst (λ u. HasShape u (array_shape k n t)) es hu).0 in
-    subst₂ (λ w r. Led typing t (followed_by o (machine.element_address (address typing p) n (size t))) (w >>= (λ x. result_or_stuck r >>= (λ u. element_step u x >>= (λ s. succeeds_with (extended_place p (s ∷ []))))))) e (sym (eu ∙ ap Some es)) (go vs counted o)
+    let counted : value_count vs ≡ n = (subst (λ u. HasShape u (array_shape k n t)) es hu).0 in
+    subst₂ (λ w r. Led typing t (followed_by o (machine.element_address (address_of_place typing p) n (shape_cell_count t))) (w >>= (λ x. result_or_stuck r >>= (λ u. element_step u x >>= (λ s. succeeds_with (extended_place p (s ∷ []))))))) e (sym (eu ∙ ap Some es)) (go vs counted o)
   where
-    chosen : (i : ℕ) (b : Bool) → nat_lt i n ≡ b → Led typing t (if b then machine.gives (machine.add_offset (address typing p) (i * size t)) else machine.ends machine.Index) ((if b then succeeds_with (at_index i) else ends_run_with Index) >>= (λ s. succeeds_with (extended_place p (s ∷ []))))
+    chosen : (i : ℕ) (b : Bool) → nat_lt i n ≡ b → Led typing t (if b then machine.gives (machine.add_offset (address_of_place typing p) (i * shape_cell_count t)) else machine.ends machine.Index) ((if b then succeeds_with (at_index i) else ends_run_with Index) >>= (λ s. succeeds_with (extended_place p (s ∷ []))))
     chosen i true below = step-led typing store fits few p (array_shape k n t) t (at_index i) fit (ap (λ b. if b then Some t else None) below)
     chosen i false below = record { is_same = refl; is_place = tt }
 
-    go : (vs : Values) → count_values vs ≡ n → (o : machine.StepResult ℤ) → Led typing t (followed_by o (machine.element_address (address typing p) n (size t))) (outcome_of number o >>= (λ x. element_step (elements vs) x >>= (λ s. succeeds_with (extended_place p (s ∷ [])))))
+    go : (vs : Values) → value_count vs ≡ n → (o : machine.StepResult ℤ) → Led typing t (followed_by o (machine.element_address (address_of_place typing p) n (shape_cell_count t))) (outcome_of number o >>= (λ x. element_step (elements vs) x >>= (λ s. succeeds_with (extended_place p (s ∷ [])))))
     go vs counted (machine.gives (pos i)) =
-        subst (λ m. Led typing t (machine.element_address (address typing p) n (size t) (pos i)) ((if nat_lt i m then succeeds_with (at_index i) else ends_run_with Index) >>= (λ s. succeeds_with (extended_place p (s ∷ []))))) (sym counted) (chosen i (nat_lt i n) refl)
+        subst (λ m. Led typing t (machine.element_address (address_of_place typing p) n (shape_cell_count t) (pos i)) ((if nat_lt i m then succeeds_with (at_index i) else ends_run_with Index) >>= (λ s. succeeds_with (extended_place p (s ∷ []))))) (sym counted) (chosen i (nat_lt i n) refl)
     go vs counted (machine.gives (negsuc i)) = record { is_same = refl; is_place = tt }
     go vs counted (machine.ends x) = record { is_same = refl; is_place = tt }
 
@@ -175,7 +176,7 @@ pub number-there : (typing : StoreTyping) (store : Store) → StoreHasTypes typi
 number-there typing store fits (machine.gives a) (succeeds_with p) h =
     let (found, writes) = numbers_are_cells typing store p fits h.is_place in
     let (n, read, cell) = found in
-    let e : a ≡ address typing p = given-same a (address typing p) h.is_same in
+    let e : a ≡ address_of_place typing p = given-same a (address_of_place typing p) h.is_same in
     ap (λ n. succeeds_with (number n)) (get_or_from_slice_get (cells_of_store store) a n (pos 0) (ap (slice_get (cells_of_store store)) e ∙ cell)) ∙ sym (ap result_or_stuck read)
 number-there typing store fits (machine.ends x) (ends_run_with y) h = ap (λ w. w >>= (λ a. ends_run_with y)) (h.is_same)
 number-there typing store fits _ _ h = let e = h.is_same in absurd (cc)
@@ -189,7 +190,7 @@ pub truth-there : (typing : StoreTyping) (store : Store) → StoreHasTypes typin
 truth-there typing store fits (machine.gives a) (succeeds_with p) h =
     let (found, writes) = truths_are_cells typing store p fits h.is_place in
     let (b, read, cell) = found in
-    let e : a ≡ address typing p = given-same a (address typing p) h.is_same in
+    let e : a ≡ address_of_place typing p = given-same a (address_of_place typing p) h.is_same in
     ap (λ n. succeeds_with (truth (machine.is_cell_true n))) (get_or_from_slice_get (cells_of_store store) a (truth_cell b) (pos 0) (ap (slice_get (cells_of_store store)) e ∙ cell)) ∙ (ap (λ b. succeeds_with (truth b)) (is_cell_true-cell b) ∙ sym (ap result_or_stuck read))
 truth-there typing store fits (machine.ends x) (ends_run_with y) h = ap (λ w. w >>= (λ a. ends_run_with y)) (h.is_same)
 truth-there typing store fits _ _ h = let e = h.is_same in absurd (cc)
@@ -197,7 +198,7 @@ truth-there typing store fits _ _ h = let e = h.is_same in absurd (cc)
 -- an index and the selectors after it, from a place that holds something
 pub index-left : {N : Type 0} (z : Moment N) (p : Place) (e : Tree N expression) (rest : Tree N (items selector)) (u : Value) → read_place z.store p ≡ Some u
     → ((value_of_expression e z >>= (λ x. result_or_stuck (read_place z.store p) >>= (λ u. element_step u x >>= (λ s. succeeds_with (extended_place p (s ∷ [])))))) >>= outcome_of_remaining_selectors rest z) ≡ outcome_of_remaining_selectors (more (index e) rest) z p
-unfolding evaluate
+unfolding evaluate_expression
 index-left z p e rest u eu =
     ap (λ o. (value_of_expression e z >>= (λ x. result_or_stuck o >>= (λ u. element_step u x >>= (λ s. succeeds_with (extended_place p (s ∷ [])))))) >>= outcome_of_remaining_selectors rest z) eu
     ∙ (grouped-then (value_of_expression e z) (λ x. element_step u x >>= (λ s. succeeds_with (extended_place p (s ∷ [])))) (outcome_of_remaining_selectors rest z)
@@ -218,7 +219,7 @@ module _ {N : Type 0} (checked : TypeMeanings N) (slots : N → Slot) where
   variable-leads x s path e = (
     (λ z. object_place (z.active.object_for x)),
     (λ z shown. let (p, ep, fit) = variable-is z.typing s (z.active.object_for x) (subst (λ o. RunObjectAgreesWithCheckedObject z.typing o (z.active.object_for x)) e (shown.names_fit.0 x)) in
-        let there : slot_address z.levels (slots x) ≡ address z.typing p = shown.variables_in_slots x p ep in
+        let there : slot_address z.levels (slots x) ≡ address_of_place z.typing p = shown.variables_in_slots x p ep in
         let within = (places_are_slices z.typing z.store p s shown.store_fits fit).within in
         let few : store_cell_count z.typing < 2 ^ 64 = shown.store_is_addressable in
         let bound : slot_address z.levels (slots x) < 2 ^ 64 = omega (arith, within, there, few) in (
@@ -230,7 +231,7 @@ module _ {N : Type 0} (checked : TypeMeanings N) (slots : N → Slot) where
 
   pub field-leads : (q : lowered.Place) (k : ℕ) (fs : FieldShapes) (x : N) (t : Shape) (rest : Tree N (items selector)) (whole : OutcomeByMoment N Place)
       → PlaceStartsChain checked slots q (record_shape k fs) (more (field x) rest) whole → named_field_shape fs (checked.written x) ≡ Some t → PlaceStartsChain checked slots (place_at_offset q (field_offset fs (checked.written x))) t rest whole
-  unfolding evaluate
+  unfolding evaluate_expression
   field-leads q k fs x t rest whole h e =
       let (v, hv, ev) = h in (
         (λ z. v z >>= (λ p. succeeds_with (extended_place p (at_field (checked.written x) ∷ [])))),
@@ -246,21 +247,21 @@ module _ {N : Type 0} (checked : TypeMeanings N) (slots : N → Slot) where
       )
 
   pub index-leads : (q : lowered.Place) (k n : ℕ) (t : Shape) (e : Tree N expression) (i : lowered.Number) (rest : Tree N (items selector)) (whole : OutcomeByMoment N Place)
-      → PlaceStartsChain checked slots q (array_shape k n t) (more (index e) rest) whole → NumberHasOutcome checked slots i (value_of_expression e) → PlaceStartsChain checked slots (lowered.element q i n (size t) 0) t rest whole
-  unfolding evaluate
+      → PlaceStartsChain checked slots q (array_shape k n t) (more (index e) rest) whole → NumberHasOutcome checked slots i (value_of_expression e) → PlaceStartsChain checked slots (lowered.element q i n (shape_cell_count t) 0) t rest whole
+  unfolding evaluate_expression
   index-leads q k n t e i rest whole h hi =
       let (v, hv, ev) = h in (
         (λ z. v z >>= (λ p. value_of_expression e z >>= (λ x. result_or_stuck (read_place z.store p) >>= (λ u. element_step u x >>= (λ s. succeeds_with (extended_place p (s ∷ []))))))),
-        (λ z shown. let l = led-then z.typing (array_shape k n t) t (machine.place_address z.levels (cells_of_store z.store) q) (v z) (λ a. followed_by (machine.number_value z.levels (cells_of_store z.store) i) (machine.element_address a n (size t))) (λ p. value_of_expression e z >>= (λ x. result_or_stuck (read_place z.store p) >>= (λ u. element_step u x >>= (λ s. succeeds_with (extended_place p (s ∷ []))))))
+        (λ z shown. let l = led-then z.typing (array_shape k n t) t (machine.place_address z.levels (cells_of_store z.store) q) (v z) (λ a. followed_by (machine.number_value z.levels (cells_of_store z.store) i) (machine.element_address a n (shape_cell_count t))) (λ p. value_of_expression e z >>= (λ x. result_or_stuck (read_place z.store p) >>= (λ u. element_step u x >>= (λ s. succeeds_with (extended_place p (s ∷ []))))))
             (led-at q (array_shape k n t) v hv z shown) (λ p fit. index-led z.typing z.store shown.store_fits shown.store_is_addressable p k n t fit (machine.number_value z.levels (cells_of_store z.store) i) (value_of_expression e z) (hi z shown)) in
-            (ap (outcome_of same) (element-address z.levels (cells_of_store z.store) q i n (size t)) ∙ l.is_same, l.is_place)),
+            (ap (outcome_of same) (element-address z.levels (cells_of_store z.store) q i n (shape_cell_count t)) ∙ l.is_same, l.is_place)),
         λ z shown. grouped-then (v z) (λ p. value_of_expression e z >>= (λ x. result_or_stuck (read_place z.store p) >>= (λ u. element_step u x >>= (λ s. succeeds_with (extended_place p (s ∷ [])))))) (outcome_of_remaining_selectors rest z)
             ∙ (each-place z.typing (array_shape k n t) (v z) (λ p. (value_of_expression e z >>= (λ x. result_or_stuck (read_place z.store p) >>= (λ u. element_step u x >>= (λ s. succeeds_with (extended_place p (s ∷ [])))))) >>= outcome_of_remaining_selectors rest z) (outcome_of_remaining_selectors (more (index e) rest) z) (hv z shown).1
             (λ p fit. let (u, eu, hu, write, made, keeps, lies) = place-lies z.typing z.store p (array_shape k n t) shown.store_fits fit in index-left z p e rest u eu) ∙ ev z shown),
       )
 
   pub selectors-end : (q : lowered.Place) (s : Shape) (whole : OutcomeByMoment N Place) → PlaceStartsChain checked slots q s end whole → PlaceHasOutcome checked slots q s whole
-  unfolding evaluate
+  unfolding evaluate_expression
   selectors-end q s whole h z shown =
       let (v, hv, ev) = h in
       let same_place : v z ≡ whole z = sym (gives-then (v z)) ∙ (each-place z.typing s (v z) succeeds_with (outcome_of_remaining_selectors end z) (hv z shown).1
@@ -271,30 +272,30 @@ module _ {N : Type 0} (checked : TypeMeanings N) (slots : N → Slot) where
       )
 
   pub cell-means : (x : N) (s : Shape) (path : Tree N (items selector)) (q : lowered.Place) → checked.object_for x ≡ Some (a_variable s) → PlaceHasOutcome checked slots q integer_shape (place_of_designator x path) → NumberHasOutcome checked slots (lowered.cell q) (value_of_factor (designator x path))
-  unfolding evaluate designated_place
+  unfolding evaluate_expression designated_place
   cell-means x s path q e h z shown =
       let (p, ep, fit) = variable-is z.typing s (z.active.object_for x) (subst (λ o. RunObjectAgreesWithCheckedObject z.typing o (z.active.object_for x)) e (shown.names_fit.0 x)) in
       number-there z.typing z.store shown.store_fits (machine.place_address z.levels (cells_of_store z.store) q) (place_of_designator x path z) (led-at q integer_shape (place_of_designator x path) h z shown) ∙ sym (value-there z.active z.store x path p ep)
 
   pub flag-means : (x : N) (s : Shape) (path : Tree N (items selector)) (q : lowered.Place) → checked.object_for x ≡ Some (a_variable s) → PlaceHasOutcome checked slots q boolean_shape (place_of_designator x path) → TruthHasOutcome checked slots (lowered.flag q) (value_of_factor (designator x path))
-  unfolding evaluate designated_place
+  unfolding evaluate_expression designated_place
   flag-means x s path q e h z shown =
       let (p, ep, fit) = variable-is z.typing s (z.active.object_for x) (subst (λ o. RunObjectAgreesWithCheckedObject z.typing o (z.active.object_for x)) e (shown.names_fit.0 x)) in
       truth-there z.typing z.store shown.store_fits (machine.place_address z.levels (cells_of_store z.store) q) (place_of_designator x path z) (led-at q boolean_shape (place_of_designator x path) h z shown) ∙ sym (value-there z.active z.store x path p ep)
 
   pub number-constant : (x : N) (n : ℤ) → checked.object_for x ≡ Some (a_constant (number n)) → NumberHasOutcome checked slots (lowered.literal n) (value_of_factor (designator x end))
-  unfolding evaluate
+  unfolding evaluate_expression
   number-constant x n e z shown =
       let is_bound : z.active.object_for x ≡ Some (a_constant (number n)) = constant-is z.typing (number n) (z.active.object_for x) (subst (λ o. RunObjectAgreesWithCheckedObject z.typing o (z.active.object_for x)) e (shown.names_fit.0 x)) in
       sym (ap (λ o. object_value {P = List ParameterMode} z.store o >>= (λ v. succeeds_with [] >>= (λ steps. result_or_stuck (value_at_path steps v)))) is_bound)
 
   pub truth-constant : (x : N) (b : Bool) → checked.object_for x ≡ Some (a_constant (truth b)) → TruthHasOutcome checked slots (lowered.constant b) (value_of_factor (designator x end))
-  unfolding evaluate
+  unfolding evaluate_expression
   truth-constant x b e z shown =
       let is_bound : z.active.object_for x ≡ Some (a_constant (truth b)) = constant-is z.typing (truth b) (z.active.object_for x) (subst (λ o. RunObjectAgreesWithCheckedObject z.typing o (z.active.object_for x)) e (shown.names_fit.0 x)) in
       sym (ap (λ o. object_value {P = List ParameterMode} z.store o >>= (λ v. succeeds_with [] >>= (λ steps. result_or_stuck (value_at_path steps v)))) is_bound)
 
   pub block-designator : (q : lowered.Place) (s : Shape) (x : N) (v : Shape) (path : Tree N (items selector)) → checked.object_for x ≡ Some (a_variable v) → PlaceHasOutcome checked slots q s (place_of_designator x path) → PlaceHoldsValue checked slots q s (value_of_factor (designator x path))
-  unfolding evaluate designated_place
+  unfolding evaluate_expression designated_place
   block-designator q s x v path e hq =
       (place_of_designator x path, hq, λ z shown. let (p, ep, fit) = variable-is z.typing v (z.active.object_for x) (subst (λ o. RunObjectAgreesWithCheckedObject z.typing o (z.active.object_for x)) e (shown.names_fit.0 x)) in value-there z.active z.store x path p ep)

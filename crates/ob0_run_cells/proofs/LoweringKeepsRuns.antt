@@ -1,4 +1,4 @@
--- The run of a lowered program is the run of its module.
+-- Proves that the run of a lowered program is the run of its module.
 use Rattle.std.specs.Option.{IfSome}
 use Rattle.std.proofs.Common.{◌≡◌, ℕ, ◌+◌, true, List, [], ℤ, sym, refl, ap, ◌∙◌, subst, arith}
 use Rattle.ob0_tree.specs.Tree.{Tree, forms_module, module_text}

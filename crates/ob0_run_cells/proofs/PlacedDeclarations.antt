@@ -1,6 +1,7 @@
--- Declarations and parameters of an activation, where lowered code finds them.
--- `Extends`: a frame with more variables, whose cells lie after those before. It composes (`extends-then`), so that
--- declarations and parameters are each one step and the rest.
+-- Proves that lowered code finds the declarations and parameters of an activation at their places.
+-- `Extends` states that a frame has more variables, whose cells follow the cells before. It
+-- composes (`extends-then`), so each declaration and each parameter is one step, followed by the
+-- rest.
 use Rattle.std.proofs.Common.{◌≡◌, ℕ, zero, suc, ◌+◌, true, ◌&&◌, List, [], ◌∷◌, ◌++◌, drop, length, map, replicate, ℤ, pos, slice_index_or, Some, option_and_then, option_map, sym, refl, ap, ◌∙◌, subst, arith, append-nil, append_assoc}
 use Rattle.std.proofs.lemmas.List.{replicate-append-replicate}
 use Rattle.ob0_tree.specs.Tree.{Tree, block, body, constant, declares, declares_constant, declares_type, declares_variable, end, forms_block, items, maybe, more, procedure, type_definition, variable}
@@ -20,14 +21,14 @@ use Rattle.ob0_language_types.proofs.TypedElsewhere.{then_some}
 use Rattle.ob0_run_machine.specs.Evaluation.{Level, Levels}
 use Rattle.ob0_run_machine.specs.LoweredSyntax as lowered
 use Rattle.ob0_run_cells.specs.Activations.{ReturnsSizesOfVariables, RoutineTable, CodeMeansBlock, CodeMeansBody, PlacementState, Placement, PlacementMatchesActivation, RoutinesMeanProcedures, add_names_without_place, in_slot, nowhere, local_procedure_target, add_declared_names_to_placement, add_name_to_placement, place_parameters, place_variable_declarations}
-use Rattle.ob0_run_cells.specs.Cells.{address, cells_of_store, cells_of, size, store_cell_count}
+use Rattle.ob0_run_cells.specs.Cells.{address_of_place, cells_of_store, cells_of, shape_cell_count, store_cell_count}
 use Rattle.ob0_run_cells.specs.LoweredStatements.{place_argument_addresses, value_argument_cells}
 use Rattle.ob0_run_cells.specs.LoweredExpressions.{Slot, in_activation, by_reference, slot_address}
 use Rattle.ob0_run_cells.proofs.PlacedEnvironments.{placement-grows}
 use Rattle.ob0_run_cells.proofs.Places.{addresses_stay}
 use Rattle.ob0_run_cells.proofs.Variables.{initial_cells_are_zero, variables_are_added}
 
-pub store_cell_count-append : (typing : StoreTyping) (s : Shape) → store_cell_count (typing ++ s ∷ []) ≡ store_cell_count typing + size s
+pub store_cell_count-append : (typing : StoreTyping) (s : Shape) → store_cell_count (typing ++ s ∷ []) ≡ store_cell_count typing + shape_cell_count s
 store_cell_count-append [] s = omega arith
 store_cell_count-append (t ∷ typing) s = let h = store_cell_count-append typing s in omega (arith, h)
 
@@ -91,13 +92,13 @@ module _ {N : Type 0} (table : RoutineTable N) where
       types-placed typing ls (k + constructor_count u) ds ((x, a_type v) ∷ checked) after ((x, nowhere) ∷ placement) ((x, a_type w) ∷ active) d e₁ e₂ record { activation_name_agrees = refl; placement_name_agrees = refl; here = tt; further = h }
 
   -- one variable more, at the end of the store
-  pub variable-placed : (typing : StoreTyping) (ls : Levels) (base : ℕ) (checked : TypeEnvironment N) (p : PlacementState N) (f : Frame N) (x : N) (slot : Slot) (s : Shape) (n : ℕ) (v : Value) → n ≡ size s → slot_address ls slot ≡ base + p.cells → HasShape v s → FramePlaced table typing ls base checked p f
+  pub variable-placed : (typing : StoreTyping) (ls : Levels) (base : ℕ) (checked : TypeEnvironment N) (p : PlacementState N) (f : Frame N) (x : N) (slot : Slot) (s : Shape) (n : ℕ) (v : Value) → n ≡ shape_cell_count s → slot_address ls slot ≡ base + p.cells → HasShape v s → FramePlaced table typing ls base checked p f
       → FramePlaced table (typing ++ s ∷ []) ls base ((x, a_variable s) ∷ checked) (record p { placement = (x, in_slot slot) ∷ p.placement; cells = p.cells + n }) (record { env = (x, a_variable record { variable = length f.store; path = [] }) ∷ f.env; store = f.store ++ v ∷ [] })
       × (cells_of_store (f.store ++ v ∷ []) ≡ cells_of_store f.store ++ cells_of v)
   variable-placed typing ls base checked p f x slot s n v sized at hv h =
       let added = variables_are_added typing f.store s v h.store_fits hv in
       let counted : base + p.cells ≡ store_cell_count typing = h.cells_counted in
-      let total : store_cell_count (typing ++ s ∷ []) ≡ store_cell_count typing + size s = store_cell_count-append typing s in (
+      let total : store_cell_count (typing ++ s ∷ []) ≡ store_cell_count typing + shape_cell_count s = store_cell_count-append typing s in (
         record {
           store_fits = added.store_fits;
           environment_fits = (refl, added.place_fits, environments-grow table.naming typing (s ∷ []) checked f.env h.environment_fits);
@@ -119,14 +120,14 @@ module _ {N : Type 0} (table : RoutineTable N) where
   names-placed typing ls base at is size_of [] s checked p f sized h = (0, omega arith, extends-here typing ls base checked p f h)
   names-placed typing ls base at is size_of (x ∷ xs) s checked p f sized h =
       let (fits, zero_cells) = initial_cells_are_zero s in
-      let has_size : size_of x ≡ size s = (names-sized size_of xs s ((x, a_variable s) ∷ checked) sized).0 in
+      let has_size : size_of x ≡ shape_cell_count s = (names-sized size_of xs s ((x, a_variable s) ∷ checked) sized).0 in
       let q : PlacementState N = add_name_to_placement at by_value x (size_of x) p in
       let (one, cells) = variable-placed typing ls base checked p f x (at p.cells) s (size_of x) (initial_value s) has_size (is p.cells) fits h in
       let (n, count, more_of) = names-placed (typing ++ s ∷ []) ls base at is size_of xs s ((x, a_variable s) ∷ checked) q (record { env = (x, a_variable record { variable = length f.store; path = [] }) ∷ f.env; store = f.store ++ initial_value s ∷ [] }) sized one in (
-        size s + n,
+        shape_cell_count s + n,
         omega (arith, count, has_size),
-        extends-by typing ls base (bind_names xs (a_variable s) ((x, a_variable s) ∷ checked)) (add_declared_names_to_placement at size_of by_value xs q) f.store (replicate (size s) (pos 0) ++ replicate n (pos 0)) (replicate (size s + n) (pos 0)) (add_variables_to_frame (x ∷ xs) (initial_value s) f) (replicate-append-replicate (size s) n (pos 0))
-            (extends-then typing (typing ++ s ∷ []) (s ∷ []) ls base (bind_names xs (a_variable s) ((x, a_variable s) ∷ checked)) (add_declared_names_to_placement at size_of by_value xs q) f.store (f.store ++ initial_value s ∷ []) (replicate (size s) (pos 0)) (replicate n (pos 0)) (add_variables_to_frame (x ∷ xs) (initial_value s) f) refl (cells ∙ ap (λ l. cells_of_store f.store ++ l) zero_cells) more_of),
+        extends-by typing ls base (bind_names xs (a_variable s) ((x, a_variable s) ∷ checked)) (add_declared_names_to_placement at size_of by_value xs q) f.store (replicate (shape_cell_count s) (pos 0) ++ replicate n (pos 0)) (replicate (shape_cell_count s + n) (pos 0)) (add_variables_to_frame (x ∷ xs) (initial_value s) f) (replicate-append-replicate (shape_cell_count s) n (pos 0))
+            (extends-then typing (typing ++ s ∷ []) (s ∷ []) ls base (bind_names xs (a_variable s) ((x, a_variable s) ∷ checked)) (add_declared_names_to_placement at size_of by_value xs q) f.store (f.store ++ initial_value s ∷ []) (replicate (shape_cell_count s) (pos 0)) (replicate n (pos 0)) (add_variables_to_frame (x ∷ xs) (initial_value s) f) refl (cells ∙ ap (λ l. cells_of_store f.store ++ l) zero_cells) more_of),
       )
 
   pub variables-placed : (typing : StoreTyping) (ls : Levels) (base : ℕ) (at : ℕ → Slot) → ((c : ℕ) → slot_address ls (at c) ≡ base + c) → (size_of : N → ℕ) (k : ℕ) (gs : Tree N (items variable)) (checked inner : TypeEnvironment N) (p : PlacementState N) (f : Frame N) → FramePlaced table typing ls base checked p f
@@ -224,23 +225,23 @@ module _ {N : Type 0} (table : RoutineTable N) where
       → (g : Frame N) × (bind_parameters (map as_parameter ps) args f ≡ Some g) × Extends table typing (l ∷ ls) l.base (bind_typed_parameters ps checked) (place_parameters ps p) f.store (value_argument_cells args) g
   parameters-placed typing l ls [] [] checked p f h fit there = (f, refl, extends-here table typing (l ∷ ls) l.base checked p f h)
   parameters-placed typing l ls (q ∷ ps) (place_argument place ∷ args) checked p f h fit there =
-      let (first, rest) = index-of_drop l.addresses p.var_parameters_so_far (address typing place) (place_argument_addresses typing args) there in
+      let (first, rest) = index-of_drop l.addresses p.var_parameters_so_far (address_of_place typing place) (place_argument_addresses typing args) there in
       let p₁ : PlacementState N = record p { placement = (q.name, in_slot (by_reference 0 p.var_parameters_so_far)) ∷ p.placement; var_parameters_so_far = suc p.var_parameters_so_far } in
       let f₁ : Frame N = record { env = (q.name, a_variable place) ∷ f.env; store = f.store } in
       let (g, eg, part) = parameters-placed typing l ls ps args ((q.name, a_variable q.formal.shape) ∷ checked) p₁ f₁ record { store_fits = h.store_fits; environment_fits = (refl, fit.1, h.environment_fits); placing_fits = record { activation_name_agrees = refl; placement_name_agrees = refl; here = (fit.1, first); further = h.placing_fits }; cells_counted = h.cells_counted } fit.2 rest in (
         g,
         ap (λ m. option_and_then (bind_parameters (map as_parameter ps) args) (bind_parameter m q.name (place_argument place) f)) fit.0 ∙ eg,
-        subst (λ m. Extends table typing (l ∷ ls) l.base (bind_typed_parameters ps ((q.name, a_variable q.formal.shape) ∷ checked)) (place_parameters ps (add_name_to_placement (in_activation 0) m q.name (size q.formal.shape) p)) f.store (value_argument_cells args) g) (sym fit.0) part,
+        subst (λ m. Extends table typing (l ∷ ls) l.base (bind_typed_parameters ps ((q.name, a_variable q.formal.shape) ∷ checked)) (place_parameters ps (add_name_to_placement (in_activation 0) m q.name (shape_cell_count q.formal.shape) p)) f.store (value_argument_cells args) g) (sym fit.0) part,
       )
   parameters-placed typing l ls (q ∷ ps) (value_argument v ∷ args) checked p f h fit there =
       let s = q.formal.shape in
-      let (one, cells) = variable-placed table typing (l ∷ ls) l.base checked p f q.name (in_activation 0 p.cells) s (size s) v refl refl fit.1 h in
-      let p₁ : PlacementState N = record p { placement = (q.name, in_slot (in_activation 0 p.cells)) ∷ p.placement; cells = p.cells + size s } in
+      let (one, cells) = variable-placed table typing (l ∷ ls) l.base checked p f q.name (in_activation 0 p.cells) s (shape_cell_count s) v refl refl fit.1 h in
+      let p₁ : PlacementState N = record p { placement = (q.name, in_slot (in_activation 0 p.cells)) ∷ p.placement; cells = p.cells + shape_cell_count s } in
       let f₁ : Frame N = record { env = (q.name, a_variable record { variable = length f.store; path = [] }) ∷ f.env; store = f.store ++ v ∷ [] } in
       let (g, eg, part) = parameters-placed (typing ++ s ∷ []) l ls ps args ((q.name, a_variable s) ∷ checked) p₁ f₁ one (ArgumentsMatchSignature-grows typing (s ∷ []) (map (λ p. p.formal) ps) args fit.2) (there ∙ sym (arguments-stay typing (s ∷ []) (map (λ p. p.formal) ps) args fit.2)) in (
         g,
         ap (λ m. option_and_then (bind_parameters (map as_parameter ps) args) (bind_parameter m q.name (value_argument v) f)) fit.0 ∙ eg,
-        subst (λ m. Extends table typing (l ∷ ls) l.base (bind_typed_parameters ps ((q.name, a_variable s) ∷ checked)) (place_parameters ps (add_name_to_placement (in_activation 0) m q.name (size s) p)) f.store (cells_of v ++ value_argument_cells args) g) (sym fit.0)
+        subst (λ m. Extends table typing (l ∷ ls) l.base (bind_typed_parameters ps ((q.name, a_variable s) ∷ checked)) (place_parameters ps (add_name_to_placement (in_activation 0) m q.name (shape_cell_count s) p)) f.store (cells_of v ++ value_argument_cells args) g) (sym fit.0)
             (extends-then table typing (typing ++ s ∷ []) (s ∷ []) (l ∷ ls) l.base (bind_typed_parameters ps ((q.name, a_variable s) ∷ checked)) (place_parameters ps p₁) f.store (f.store ++ v ∷ []) (cells_of v) (value_argument_cells args) g refl cells part),
       )
   parameters-placed typing l ls _ _ checked p f h fit there = absurd fit

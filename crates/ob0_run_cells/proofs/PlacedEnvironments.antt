@@ -1,4 +1,5 @@
--- Placings that fit: names found in them, stores that grow, and what is seen from further in.
+-- Proves laws about placements that match an activation: which place a name has, and that they
+-- still match if the store grows or if an activation one level deeper sees them.
 use Rattle.std.proofs.Common.{◌≡◌, true, false, [], ◌∷◌, ◌++◌, drop, Some, None, sym, refl, ap, ◌∙◌, subst}
 use Rattle.ob0_language_types.specs.Environments.{suffix_from_newest_binding, newest_object}
 use Rattle.ob0_language_types.specs.Expressions.{Object, a_constant, a_procedure, a_standard_procedure, a_type, a_variable}
@@ -8,7 +9,7 @@ use Rattle.ob0_language_runs.specs.TypeAgreement.{StoreTyping}
 use Rattle.ob0_language_runs.specs.Runs.{RunEnvironment, ProcedureText, object_for_statements}
 use Rattle.ob0_run_machine.specs.Evaluation.{Level, Levels}
 use Rattle.ob0_run_cells.specs.Activations.{BindingIsPlaced, RoutineTable, Placement, PlacementMatchesActivation, BindingPlace, at_target, slot_of_first_binding, suffix_from_latest_binding, in_slot, placement_seen_one_level_deeper, slot_seen_one_level_deeper, binding_place_seen_one_level_deeper, nowhere}
-use Rattle.ob0_run_cells.specs.Cells.{address}
+use Rattle.ob0_run_cells.specs.Cells.{address_of_place}
 use Rattle.ob0_run_cells.specs.LoweredExpressions.{Slot, in_module_activation, slot_address}
 use Rattle.ob0_run_cells.proofs.Places.{addresses_stay}
 
@@ -25,15 +26,15 @@ module _ {N : Type 0} (table : RoutineTable N) where
   from-placed typing ls _ _ _ x h = absurd h
 
   slot-here : (typing : StoreTyping) (ls : Levels) (checked : TypeEnvironment N) (Fits : Levels → Placement N → Type 0) (x : N) (o : Object Shape Signature) (w : BindingPlace) (r : Object Place (ProcedureText N)) (p : Place)
-      → BindingIsPlaced table typing ls checked Fits x o w r → object_for_statements (Some r) ≡ Some (a_variable p) → (rest : Placement N) → slot_address ls (slot_of_first_binding ((x, w) ∷ rest)) ≡ address typing p
-  slot-here typing ls checked Fits x (a_variable s) (in_slot slot) (a_variable q) p h e rest = h.1 ∙ ap (λ o. address typing (elim o [ None ↦ q | Some v ↦ elim v [ a_variable p ↦ p | _ ↦ q ] ])) e
+      → BindingIsPlaced table typing ls checked Fits x o w r → object_for_statements (Some r) ≡ Some (a_variable p) → (rest : Placement N) → slot_address ls (slot_of_first_binding ((x, w) ∷ rest)) ≡ address_of_place typing p
+  slot-here typing ls checked Fits x (a_variable s) (in_slot slot) (a_variable q) p h e rest = h.1 ∙ ap (λ o. address_of_place typing (elim o [ None ↦ q | Some v ↦ elim v [ a_variable p ↦ p | _ ↦ q ] ])) e
   slot-here typing ls checked Fits x (a_procedure s) (at_target t) (a_procedure c) p h e rest = absurd (cc)
   slot-here typing ls checked Fits x (a_type s) nowhere (a_type u) p h e rest = absurd (cc)
   slot-here typing ls checked Fits x (a_constant v) nowhere (a_constant w) p h e rest = absurd (cc)
   slot-here typing ls checked Fits x (a_standard_procedure q) nowhere (a_standard_procedure r) p h e rest = absurd (cc)
   slot-here typing ls checked Fits x _ _ _ p h e rest = absurd h
 
-  pub slots-fit : (typing : StoreTyping) (ls : Levels) (checked : TypeEnvironment N) (placement : Placement N) (active : RunEnvironment N) → PlacementMatchesActivation table typing ls checked placement active → (p : Place) → object_for_statements (newest_object active) ≡ Some (a_variable p) → slot_address ls (slot_of_first_binding placement) ≡ address typing p
+  pub slots-fit : (typing : StoreTyping) (ls : Levels) (checked : TypeEnvironment N) (placement : Placement N) (active : RunEnvironment N) → PlacementMatchesActivation table typing ls checked placement active → (p : Place) → object_for_statements (newest_object active) ≡ Some (a_variable p) → slot_address ls (slot_of_first_binding placement) ≡ address_of_place typing p
   slots-fit typing ls [] [] [] h p e = absurd (cc)
   slots-fit typing ls (b ∷ checked) (w ∷ placement) (d ∷ active) h p e = slot-here typing ls checked (λ ls placement. PlacementMatchesActivation table typing ls checked placement active) b.0 b.1 w.1 d.1 p h.here e placement
   slots-fit typing ls _ _ _ h p e = absurd h

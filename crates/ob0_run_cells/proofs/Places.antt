@@ -1,4 +1,4 @@
--- What places hold lies in the cells of the store.
+-- Proves that the value at a place lies in the cells of the store, at the place's address.
 use Rattle.std.proofs.Common.{◌≡◌, ℕ, zero, suc, ◌+◌, ◌≤◌, Bool, List, [], ◌∷◌, ◌++◌, length, take, ℤ, slice_get, slice_set, Some, option_map, option_and_then, unwrap_or, sym, refl, ap, ◌∙◌, subst, arith, length-append}
 use Rattle.ob0_language_values.specs.Values.{Place, Shape, PathStep, Store, Value, value_at_path, boolean_shape, integer_shape, number, read_place, truth, with_value_at_path, write_place}
 use Rattle.ob0_language_runs.specs.TypeAgreement.{HasShape, PlaceHasType, StoreHasTypes, StoreTyping, shape_at_step, shape_at_path}
@@ -6,14 +6,14 @@ use Rattle.ob0_language_types.proofs.Conditions.{of_some}
 use Rattle.ob0_language_types.proofs.TypedElsewhere.{then_some}
 use Rattle.ob0_language_runs.proofs.Sound.{is_number, is_truth}
 use Rattle.ob0_language_runs.proofs.SoundStatements.{PlaceHasType-grows, set-fits, slice_get-grows, with_path-fits}
-use Rattle.ob0_run_cells.specs.Cells.{address, cells_of_store, cells_at_address, cells_of, cells_after_overwrite, offset, size, store_cell_count, truth_cell}
+use Rattle.ob0_run_cells.specs.Cells.{address_of_place, cells_of_store, cells_at_address, cells_of, cells_after_overwrite, path_offset, shape_cell_count, store_cell_count, truth_cell}
 use Rattle.ob0_run_cells.proofs.Parts.{cells-size, lies-inside, path-lies}
 use Rattle.ob0_run_cells.proofs.Splits.{Lies, lies-following, lies-first, lies-within, split-at, split-get, split-set, split-with}
 
 pub store-size : (typing : StoreTyping) (store : Store) → StoreHasTypes typing store → length (cells_of_store store) ≡ store_cell_count typing
 store-size [] [] h = refl
 store-size (s ∷ typing) (v ∷ store) h =
-    length-append (cells_of v) (cells_of_store store) ∙ (ap (λ n. n + length (cells_of_store store)) (cells-size v s h.0) ∙ ap (λ n. size s + n) (store-size typing store h.1))
+    length-append (cells_of v) (cells_of_store store) ∙ (ap (λ n. n + length (cells_of_store store)) (cells-size v s h.0) ∙ ap (λ n. shape_cell_count s + n) (store-size typing store h.1))
 store-size _ _ h = absurd h
 
 -- a variable lies after the older ones
@@ -24,14 +24,14 @@ variable-lies (t ∷ typing) (v ∷ store) zero s h e =
     (v, refl, of_some (λ s. HasShape v s) e h.0, lies-first cells_of_store (v ∷ store) v (slice_set (v ∷ store) zero) (cells_of_store store) refl (λ new. refl))
 variable-lies (t ∷ typing) (v ∷ store) (suc n) s h e =
     let (w, ew, hw, l) = variable-lies typing store n s h.1 e in
-    (w, ew, hw, lies-following cells_of_store cells_of_store (v ∷ store) store w (slice_set (v ∷ store) (suc n)) (slice_set store n) (cells_of v) (size t) (store_cell_count (take n typing)) refl (λ new. refl) (cells-size v t h.0) l)
+    (w, ew, hw, lies-following cells_of_store cells_of_store (v ∷ store) store w (slice_set (v ∷ store) (suc n)) (slice_set store n) (cells_of v) (shape_cell_count t) (store_cell_count (take n typing)) refl (λ new. refl) (cells-size v t h.0) l)
 variable-lies _ _ n s h e = absurd h
 
 -- what lies at a place, and what writing it makes of the store
 abbrev pub PlaceLies : StoreTyping → Store → Place → Shape → Type 0
 PlaceLies typing store p s =
     (v : Value) × (read_place store p ≡ Some v) × HasShape v s × (write : Value → Store) × ((new : Value) → write_place store p new ≡ Some (write new)) × ((new : Value) → HasShape new s → StoreHasTypes typing (write new))
-    × Lies cells_of_store store v write (address typing p)
+    × Lies cells_of_store store v write (address_of_place typing p)
 
 pub place-lies : (typing : StoreTyping) (store : Store) (p : Place) (s : Shape) → StoreHasTypes typing store → PlaceHasType typing p s → PlaceLies typing store p s
 place-lies typing store p s h e =
@@ -46,26 +46,26 @@ place-lies typing store p s h e =
       (λ new hn. let (u, eu, hu) = with_path-fits p.path v t s new hv e₁ hn in
           let same : u ≡ write new = ap (λ o. unwrap_or o (write new)) (sym eu ∙ made new) in
           set-fits typing store p.variable t (write new) h et (subst (λ u. HasShape u t) same hu)),
-      subst (λ o. Lies cells_of_store store w (λ new. slice_set store p.variable (write new)) (store_cell_count (take p.variable typing) + unwrap_or (option_map (offset p.path) o) 0)) (sym et)
-          (lies-within cells_of_store store v w (slice_set store p.variable) write (store_cell_count (take p.variable typing)) (offset p.path t) l k),
+      subst (λ o. Lies cells_of_store store w (λ new. slice_set store p.variable (write new)) (store_cell_count (take p.variable typing) + unwrap_or (option_map (path_offset p.path) o) 0)) (sym et)
+          (lies-within cells_of_store store v w (slice_set store p.variable) write (store_cell_count (take p.variable typing)) (path_offset p.path t) l k),
     )
 
 -- a place holds a value of a type, whose cells are those of the store from the place's address on
 pub record HoldsSlice (typing : StoreTyping) (store : Store) (p : Place) (s : Shape) : Type 0 where
-  pub within : address typing p + size s ≤ store_cell_count typing
+  pub within : address_of_place typing p + shape_cell_count s ≤ store_cell_count typing
   pub value : Value
   pub is_read : read_place store p ≡ Some value
   pub has_shape : HasShape value s
-  pub same_cells : cells_of value ≡ cells_at_address (address typing p) (size s) (cells_of_store store)
+  pub same_cells : cells_of value ≡ cells_at_address (address_of_place typing p) (shape_cell_count s) (cells_of_store store)
 
 pub places_are_slices : (typing : StoreTyping) (store : Store) (p : Place) (s : Shape) → StoreHasTypes typing store → PlaceHasType typing p s → HoldsSlice typing store p s
 places_are_slices typing store p s h e =
     let (v, ev, hv, write, made, fits, l) = place-lies typing store p s h e in record {
-      within = lies-inside cells_of_store store v write (address typing p) (size s) (store_cell_count typing) l (cells-size v s hv) (store-size typing store h);
+      within = lies-inside cells_of_store store v write (address_of_place typing p) (shape_cell_count s) (store_cell_count typing) l (cells-size v s hv) (store-size typing store h);
       value = v;
       is_read = ev;
       has_shape = hv;
-      same_cells = split-at l.before (cells_of v) l.after (address typing p) (size s) l.begins (cells-size v s hv) ∙ ap (cells_at_address (address typing p) (size s)) (sym l.is_split);
+      same_cells = split-at l.before (cells_of v) l.after (address_of_place typing p) (shape_cell_count s) l.begins (cells-size v s hv) ∙ ap (cells_at_address (address_of_place typing p) (shape_cell_count s)) (sym l.is_split);
     }
 
 -- a place is written, and the store keeps its types; `cells` are those of the store then
@@ -75,13 +75,13 @@ pub record WritesPlace (typing : StoreTyping) (store : Store) (p : Place) (new :
   pub store_fits : StoreHasTypes typing after
   pub same_cells : cells_of_store after ≡ cells
 
-pub writing_places_writes_slices : (typing : StoreTyping) (store : Store) (p : Place) (s : Shape) (new : Value) → StoreHasTypes typing store → PlaceHasType typing p s → HasShape new s → WritesPlace typing store p new (cells_after_overwrite (address typing p) (cells_of new) (cells_of_store store))
+pub writing_places_writes_slices : (typing : StoreTyping) (store : Store) (p : Place) (s : Shape) (new : Value) → StoreHasTypes typing store → PlaceHasType typing p s → HasShape new s → WritesPlace typing store p new (cells_after_overwrite (address_of_place typing p) (cells_of new) (cells_of_store store))
 writing_places_writes_slices typing store p s new h e hn =
     let (v, ev, hv, write, made, fits, l) = place-lies typing store p s h e in record {
       after = write new;
       is_written = made new;
       store_fits = fits new hn;
-      same_cells = l.is_written new ∙ (split-with l.before (cells_of v) (cells_of new) l.after (address typing p) l.begins (cells-size new s hn ∙ sym (cells-size v s hv)) ∙ ap (cells_after_overwrite (address typing p) (cells_of new)) (sym l.is_split));
+      same_cells = l.is_written new ∙ (split-with l.before (cells_of v) (cells_of new) l.after (address_of_place typing p) l.begins (cells-size new s hn ∙ sym (cells-size v s hv)) ∙ ap (cells_after_overwrite (address_of_place typing p) (cells_of new)) (sym l.is_split));
     }
 
 -- a value of one cell is read from it, and written to it
@@ -94,45 +94,45 @@ one-written store v new write a m n l e en =
     l.is_written new ∙ (ap (λ mine. l.before ++ (mine ++ l.after)) en ∙ (split-set l.before m n l.after a l.begins ∙ ap (λ cells. slice_set cells a n) (sym (l.is_split ∙ ap (λ mine. l.before ++ (mine ++ l.after)) e))))
 
 pub numbers_are_cells : (typing : StoreTyping) (store : Store) (p : Place) → StoreHasTypes typing store → PlaceHasType typing p integer_shape
-    → ((n : ℤ) × (read_place store p ≡ Some (number n)) × (slice_get (cells_of_store store) (address typing p) ≡ Some n)) × ((n : ℤ) → WritesPlace typing store p (number n) (slice_set (cells_of_store store) (address typing p) n))
+    → ((n : ℤ) × (read_place store p ≡ Some (number n)) × (slice_get (cells_of_store store) (address_of_place typing p) ≡ Some n)) × ((n : ℤ) → WritesPlace typing store p (number n) (slice_set (cells_of_store store) (address_of_place typing p) n))
 numbers_are_cells typing store p h e =
     let (v, ev, hv, write, made, fits, l) = place-lies typing store p integer_shape h e in
     let (m, em) = is_number v hv in (
-      (m, ev ∙ ap Some em, one-read store v write (address typing p) m l (ap cells_of em)),
-      λ n. record { after = write (number n); is_written = made (number n); store_fits = fits (number n) tt; same_cells = one-written store v (number n) write (address typing p) m n l (ap cells_of em) refl },
+      (m, ev ∙ ap Some em, one-read store v write (address_of_place typing p) m l (ap cells_of em)),
+      λ n. record { after = write (number n); is_written = made (number n); store_fits = fits (number n) tt; same_cells = one-written store v (number n) write (address_of_place typing p) m n l (ap cells_of em) refl },
     )
 
 pub truths_are_cells : (typing : StoreTyping) (store : Store) (p : Place) → StoreHasTypes typing store → PlaceHasType typing p boolean_shape
-    → ((b : Bool) × (read_place store p ≡ Some (truth b)) × (slice_get (cells_of_store store) (address typing p) ≡ Some (truth_cell b))) × ((b : Bool) → WritesPlace typing store p (truth b) (slice_set (cells_of_store store) (address typing p) (truth_cell b)))
+    → ((b : Bool) × (read_place store p ≡ Some (truth b)) × (slice_get (cells_of_store store) (address_of_place typing p) ≡ Some (truth_cell b))) × ((b : Bool) → WritesPlace typing store p (truth b) (slice_set (cells_of_store store) (address_of_place typing p) (truth_cell b)))
 truths_are_cells typing store p h e =
     let (v, ev, hv, write, made, fits, l) = place-lies typing store p boolean_shape h e in
     let (b, eb) = is_truth v hv in (
-      (b, ev ∙ ap Some eb, one-read store v write (address typing p) (truth_cell b) l (ap cells_of eb)),
-      λ c. record { after = write (truth c); is_written = made (truth c); store_fits = fits (truth c) tt; same_cells = one-written store v (truth c) write (address typing p) (truth_cell b) (truth_cell c) l (ap cells_of eb) refl },
+      (b, ev ∙ ap Some eb, one-read store v write (address_of_place typing p) (truth_cell b) l (ap cells_of eb)),
+      λ c. record { after = write (truth c); is_written = made (truth c); store_fits = fits (truth c) tt; same_cells = one-written store v (truth c) write (address_of_place typing p) (truth_cell b) (truth_cell c) l (ap cells_of eb) refl },
     )
 
 -- addresses
 
 pub shape-append : (path more : List PathStep) (s t u : Shape) → shape_at_path path s ≡ Some t → shape_at_path more t ≡ Some u
-    → (shape_at_path (path ++ more) s ≡ Some u) × (offset (path ++ more) s ≡ offset path s + offset more t)
+    → (shape_at_path (path ++ more) s ≡ Some u) × (path_offset (path ++ more) s ≡ path_offset path s + path_offset more t)
 shape-append [] more s t u e e' =
     let same : s ≡ t = ap (λ o. unwrap_or o s) e in
-    (subst (λ t. shape_at_path more t ≡ Some u) (sym same) e', ap (offset more) same ∙ omega arith)
+    (subst (λ t. shape_at_path more t ≡ Some u) (sym same) e', ap (path_offset more) same ∙ omega arith)
 shape-append (step ∷ path) more s t u e e' =
     let (r, er, e₁) = then_some (shape_at_step s step) (shape_at_path path) t e in
     let (is, adds) = shape-append path more r t u e₁ e' in
-    let here : unwrap_or (option_map (offset path) (shape_at_step s step)) 0 ≡ offset path r = ap (λ o. unwrap_or (option_map (offset path) o) 0) er in
-    let there : unwrap_or (option_map (offset (path ++ more)) (shape_at_step s step)) 0 ≡ offset (path ++ more) r = ap (λ o. unwrap_or (option_map (offset (path ++ more)) o) 0) er in
+    let here : unwrap_or (option_map (path_offset path) (shape_at_step s step)) 0 ≡ path_offset path r = ap (λ o. unwrap_or (option_map (path_offset path) o) 0) er in
+    let there : unwrap_or (option_map (path_offset (path ++ more)) (shape_at_step s step)) 0 ≡ path_offset (path ++ more) r = ap (λ o. unwrap_or (option_map (path_offset (path ++ more)) o) 0) er in
     (ap (option_and_then (shape_at_path (path ++ more))) er ∙ is, omega (arith, adds, here, there))
 
 -- a part of what a place holds has its offset after the place's address
 pub parts_have_addresses : (typing : StoreTyping) (p : Place) (path : List PathStep) (s t : Shape) → PlaceHasType typing p s → shape_at_path path s ≡ Some t
-    → PlaceHasType typing record { variable = p.variable; path = p.path ++ path } t × (address typing record { variable = p.variable; path = p.path ++ path } ≡ address typing p + offset path s)
+    → PlaceHasType typing record { variable = p.variable; path = p.path ++ path } t × (address_of_place typing record { variable = p.variable; path = p.path ++ path } ≡ address_of_place typing p + path_offset path s)
 parts_have_addresses typing p path s t fit e =
     let (v, ev, e₁) = then_some (slice_get typing p.variable) (shape_at_path p.path) s fit in
     let (is, adds) = shape-append p.path path v s t e₁ e in
-    let here : unwrap_or (option_map (offset p.path) (slice_get typing p.variable)) 0 ≡ offset p.path v = ap (λ o. unwrap_or (option_map (offset p.path) o) 0) ev in
-    let there : unwrap_or (option_map (offset (p.path ++ path)) (slice_get typing p.variable)) 0 ≡ offset (p.path ++ path) v = ap (λ o. unwrap_or (option_map (offset (p.path ++ path)) o) 0) ev in
+    let here : unwrap_or (option_map (path_offset p.path) (slice_get typing p.variable)) 0 ≡ path_offset p.path v = ap (λ o. unwrap_or (option_map (path_offset p.path) o) 0) ev in
+    let there : unwrap_or (option_map (path_offset (p.path ++ path)) (slice_get typing p.variable)) 0 ≡ path_offset (p.path ++ path) v = ap (λ o. unwrap_or (option_map (path_offset (p.path ++ path)) o) 0) ev in
     (ap (option_and_then (shape_at_path (p.path ++ path))) ev ∙ is, omega (arith, adds, here, there))
 
 pub taken-stays : (typing others : StoreTyping) (n : ℕ) (s : Shape) → slice_get typing n ≡ Some s → take n (typing ++ others) ≡ take n typing
@@ -141,10 +141,10 @@ taken-stays (t ∷ typing) others zero s e = refl
 taken-stays (t ∷ typing) others (suc n) s e = ap (λ l. t ∷ l) (taken-stays typing others n s e)
 
 -- an address stays where later variables are added
-pub addresses_stay : (typing others : StoreTyping) (p : Place) (s : Shape) → PlaceHasType typing p s → PlaceHasType (typing ++ others) p s × (address (typing ++ others) p ≡ address typing p)
+pub addresses_stay : (typing others : StoreTyping) (p : Place) (s : Shape) → PlaceHasType typing p s → PlaceHasType (typing ++ others) p s × (address_of_place (typing ++ others) p ≡ address_of_place typing p)
 addresses_stay typing others p s fit =
     let (t, et, e₁) = then_some (slice_get typing p.variable) (shape_at_path p.path) s fit in (
       PlaceHasType-grows typing others p s fit,
-      ap (λ l. store_cell_count l + unwrap_or (option_map (offset p.path) (slice_get (typing ++ others) p.variable)) 0) (taken-stays typing others p.variable t et)
-          ∙ ap (λ o. store_cell_count (take p.variable typing) + unwrap_or (option_map (offset p.path) o) 0) (slice_get-grows typing others p.variable t et ∙ sym et),
+      ap (λ l. store_cell_count l + unwrap_or (option_map (path_offset p.path) (slice_get (typing ++ others) p.variable)) 0) (taken-stays typing others p.variable t et)
+          ∙ ap (λ o. store_cell_count (take p.variable typing) + unwrap_or (option_map (path_offset p.path) o) 0) (slice_get-grows typing others p.variable t et ∙ sym et),
     )

@@ -1,4 +1,5 @@
--- Steps that states of lowered code and of the definition make alike.
+-- Proves that a state of the machine that represents a state of the module still does so after a
+-- step of both.
 use Rattle.std.proofs.Common.{◌≡◌, ℕ, zero, suc, Bool, true, false, List, [], ◌∷◌, ◌++◌, ℤ, slice_set, sym, refl, ap, ◌∙◌, subst}
 use Rattle.std.proofs.lemmas.List.{map-append}
 use Rattle.ob0_language_types.specs.WellTyped.{TypeMeanings}
@@ -8,7 +9,7 @@ use Rattle.ob0_language_runs.specs.Runs.{Progress, State, choose_by_truth_value,
 use Rattle.ob0_run_machine.specs.Evaluation as machine
 use Rattle.ob0_run_machine.specs.Execution as execution
 use Rattle.ob0_run_machine.specs.LoweredSyntax as lowered
-use Rattle.ob0_run_cells.specs.Cells.{address, cells_of_store, truth_cell}
+use Rattle.ob0_run_cells.specs.Cells.{address_of_place, cells_of_store, truth_cell}
 use Rattle.ob0_run_cells.specs.LoweredStatements.{BodyContext, MachineProgressRepresentsProgress, MachineStateRepresentsState, IsBodyOfModule, Target, moment_with_store, printed_item_of}
 use Rattle.ob0_run_cells.specs.LoweredExpressions.{OutcomeByMoment, Moment, NumberHasOutcome, PlaceHasOutcome, IsMomentOfModule, Slot, TruthHasOutcome, end_of, outcome_of}
 use Rattle.ob0_run_cells.proofs.LoweredOutcomes.{Led, ended-same, given-same}
@@ -22,9 +23,9 @@ use-represents typing f low s (machine.gives a) w k j h e each = subst (λ w. Ma
 use-represents typing f low s (machine.ends x) w k j h e each = subst (λ w. MachineProgressRepresentsProgress typing (execution.stopped x low.output) (continue_with_result s w j)) e (refl, h.same_output)
 
 pub use-place : (typing : StoreTyping) (shape : Shape) (low : execution.MachineState) (s : State) (o : machine.StepResult ℕ) (w : Outcome Place) (k : ℕ → execution.MachineProgress) (j : Place → Progress) → MachineStateRepresentsState typing low s → Led typing shape o w
-    → ((p : Place) → PlaceHasType typing p shape → MachineProgressRepresentsProgress typing (k (address typing p)) (j p)) → MachineProgressRepresentsProgress typing (execution.continue_with_result low o k) (continue_with_result s w j)
+    → ((p : Place) → PlaceHasType typing p shape → MachineProgressRepresentsProgress typing (k (address_of_place typing p)) (j p)) → MachineProgressRepresentsProgress typing (execution.continue_with_result low o k) (continue_with_result s w j)
 use-place typing shape low s (machine.gives a) (succeeds_with p) k j h led each =
-    let e : a ≡ address typing p = given-same a (address typing p) led.is_same in
+    let e : a ≡ address_of_place typing p = given-same a (address_of_place typing p) led.is_same in
     subst (λ a. MachineProgressRepresentsProgress typing (k a) (j p)) (sym e) (each p led.is_place)
 use-place typing shape low s (machine.ends x) (ends_run_with y) k j h led each = (ended-same (end_of x) y led.is_same, h.same_output)
 use-place typing shape low s _ _ k j h led each = let e = led.is_same in absurd (cc)
@@ -73,31 +74,31 @@ truth_as_cell-same false = refl
 -- what is stored
 
 pub number-stored : (typing : StoreTyping) (low : execution.MachineState) (s : State) (p : Place) (n : ℤ) → MachineStateRepresentsState typing low s → PlaceHasType typing p integer_shape
-    → MachineProgressRepresentsProgress typing (execution.running (execution.store_in_cell low (address typing p) n)) (store_value_at_place s p (number n))
+    → MachineProgressRepresentsProgress typing (execution.running (execution.store_in_cell low (address_of_place typing p) n)) (store_value_at_place s p (number n))
 number-stored typing low s p n h fit =
     let (found, writes) = numbers_are_cells typing s.store p h.store_fits fit in
     let done = writes n in
-    subst (λ o. MachineProgressRepresentsProgress typing (execution.running (execution.store_in_cell low (address typing p) n)) (continue_with_result s (result_or_stuck o) (λ store. running record s { store = store }))) (sym done.is_written) record {
+    subst (λ o. MachineProgressRepresentsProgress typing (execution.running (execution.store_in_cell low (address_of_place typing p) n)) (continue_with_result s (result_or_stuck o) (λ store. running record s { store = store }))) (sym done.is_written) record {
       store_fits = done.store_fits;
-      same_cells = ap (λ l. slice_set l (address typing p) n) h.same_cells ∙ sym done.same_cells;
+      same_cells = ap (λ l. slice_set l (address_of_place typing p) n) h.same_cells ∙ sym done.same_cells;
       same_input = h.same_input;
       same_output = h.same_output;
     }
 
 pub truth-stored : (typing : StoreTyping) (low : execution.MachineState) (s : State) (p : Place) (b : Bool) → MachineStateRepresentsState typing low s → PlaceHasType typing p boolean_shape
-    → MachineProgressRepresentsProgress typing (execution.running (execution.store_in_cell low (address typing p) (machine.truth_as_cell b))) (store_value_at_place s p (truth b))
+    → MachineProgressRepresentsProgress typing (execution.running (execution.store_in_cell low (address_of_place typing p) (machine.truth_as_cell b))) (store_value_at_place s p (truth b))
 truth-stored typing low s p b h fit =
     let (found, writes) = truths_are_cells typing s.store p h.store_fits fit in
     let done = writes b in
-    subst (λ o. MachineProgressRepresentsProgress typing (execution.running (execution.store_in_cell low (address typing p) (machine.truth_as_cell b))) (continue_with_result s (result_or_stuck o) (λ store. running record s { store = store }))) (sym done.is_written) record {
+    subst (λ o. MachineProgressRepresentsProgress typing (execution.running (execution.store_in_cell low (address_of_place typing p) (machine.truth_as_cell b))) (continue_with_result s (result_or_stuck o) (λ store. running record s { store = store }))) (sym done.is_written) record {
       store_fits = done.store_fits;
-      same_cells = ap (λ l. slice_set l (address typing p) (machine.truth_as_cell b)) h.same_cells ∙ (ap (slice_set (cells_of_store s.store) (address typing p)) (truth_as_cell-same b) ∙ sym done.same_cells);
+      same_cells = ap (λ l. slice_set l (address_of_place typing p) (machine.truth_as_cell b)) h.same_cells ∙ (ap (slice_set (cells_of_store s.store) (address_of_place typing p)) (truth_as_cell-same b) ∙ sym done.same_cells);
       same_input = h.same_input;
       same_output = h.same_output;
     }
 
 pub number-read : (typing : StoreTyping) (low : execution.MachineState) (s : State) (p : Place) (input : List ℤ) → MachineStateRepresentsState typing low s → PlaceHasType typing p integer_shape
-    → MachineProgressRepresentsProgress typing (execution.read_number low (address typing p) input) (read_number s p input)
+    → MachineProgressRepresentsProgress typing (execution.read_number low (address_of_place typing p) input) (read_number s p input)
 number-read typing low s p [] h fit = (refl, h.same_output)
 number-read typing low s p (n ∷ rest) h fit =
     number-stored typing (record low { input = rest }) (record s { input = rest }) p n

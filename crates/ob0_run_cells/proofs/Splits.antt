@@ -1,8 +1,8 @@
--- What lies in the cells of a whole: those before it, its own, and those after it; and that writing it changes its own.
--- One record carries reading and writing: `Lies` says that cells are those before a part, its own, and those after it,
--- for whatever is written there. It composes (`lies-within`, `lies-following`), so that elements, members, paths,
--- variables and places are one line each; slices come of it in the end (`split-at`, `split-with`). There is no
--- arithmetic on `take` and `drop` anywhere else.
+-- Splits the cells of a whole into the cells before a part, the part's own cells, and the cells
+-- after it. Writing the part changes only its own cells. The record `Lies` states this split for
+-- every value that may be written in the part, so it covers both reading and writing. It composes
+-- (`lies-within`, `lies-following`), so the lemmas about elements, members, paths, variables and
+-- places take one line each. Slices follow from it at the end (`split-at`, `split-with`).
 use Rattle.std.proofs.Common.{◌≡◌, ℕ, ◌+◌, List, [], ◌∷◌, ◌++◌, length, take, drop, ℤ, slice_get, slice_set, Some, sym, refl, ap, ◌∙◌, length-append, append_assoc}
 use Rattle.std.proofs.lemmas.List.{append-nil, drop_at, take_at}
 use Rattle.ob0_language_values.specs.Values.{Value}

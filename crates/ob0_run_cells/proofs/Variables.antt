@@ -1,10 +1,11 @@
--- Variables that begin, are added, and are dropped.
+-- Proves laws about the cells of variables that get their initial values, are added to the store,
+-- or are dropped.
 use Rattle.std.proofs.Common.{◌≡◌, ℕ, zero, suc, ◌+◌, ◌*◌, List, [], ◌∷◌, ◌++◌, length, replicate, take, ℤ, pos, slice_get, Some, option_and_then, option_map, unwrap_or, sym, refl, ap, ◌∙◌, arith, append_assoc, append-nil}
 use Rattle.std.proofs.lemmas.List.{replicate-append-replicate, take_at}
 use Rattle.ob0_language_values.specs.Values.{FieldShapes, Shape, Store, Value, array_shape, copies, initial_value, initial_members, next_field_shape, no_field_shape, record_shape}
 use Rattle.ob0_language_runs.specs.TypeAgreement.{HasShape, PlaceHasType, StoreHasTypes, StoreTyping, shape_at_path}
 use Rattle.ob0_language_runs.proofs.SoundCalls.{initial-fits, last-shape, store-appends}
-use Rattle.ob0_run_cells.specs.Cells.{address, cells_of_store, cells_of, element_cells, total_field_size, member_cells, offset, size, store_cell_count}
+use Rattle.ob0_run_cells.specs.Cells.{address_of_place, cells_of_store, cells_of, element_cells, fields_cell_count, member_cells, path_offset, shape_cell_count, store_cell_count}
 use Rattle.ob0_run_cells.proofs.Places.{store-size}
 
 pub zeros-join : (m n : ℕ) (a b : List ℤ) → a ≡ replicate m (pos 0) → b ≡ replicate n (pos 0) → a ++ b ≡ replicate (m + n) (pos 0)
@@ -17,16 +18,16 @@ copies-zero (suc n) m v e =
     zeros-join m (n * m) (cells_of v) (element_cells (copies n v)) e (copies-zero n m v e) ∙ ap (λ n. replicate n (pos 0)) s
 
 mutual
-  pub initial-zero : (s : Shape) → cells_of (initial_value s) ≡ replicate (size s) (pos 0)
-  initial-zero (array_shape k n s) = copies-zero n (size s) (initial_value s) (initial-zero s)
+  pub initial-zero : (s : Shape) → cells_of (initial_value s) ≡ replicate (shape_cell_count s) (pos 0)
+  initial-zero (array_shape k n s) = copies-zero n (shape_cell_count s) (initial_value s) (initial-zero s)
   initial-zero (record_shape k fs) = initial_members-zero fs
   initial-zero _ = refl
 
-  pub initial_members-zero : (fs : FieldShapes) → member_cells (initial_members fs) ≡ replicate (total_field_size fs) (pos 0)
+  pub initial_members-zero : (fs : FieldShapes) → member_cells (initial_members fs) ≡ replicate (fields_cell_count fs) (pos 0)
   initial_members-zero no_field_shape = refl
-  initial_members-zero (next_field_shape x s rest) = zeros-join (size s) (total_field_size rest) (cells_of (initial_value s)) (member_cells (initial_members rest)) (initial-zero s) (initial_members-zero rest)
+  initial_members-zero (next_field_shape x s rest) = zeros-join (shape_cell_count s) (fields_cell_count rest) (cells_of (initial_value s)) (member_cells (initial_members rest)) (initial-zero s) (initial_members-zero rest)
 
-pub initial_cells_are_zero : (s : Shape) → HasShape (initial_value s) s × (cells_of (initial_value s) ≡ replicate (size s) (pos 0))
+pub initial_cells_are_zero : (s : Shape) → HasShape (initial_value s) s × (cells_of (initial_value s) ≡ replicate (shape_cell_count s) (pos 0))
 initial_cells_are_zero s = (initial-fits s, initial-zero s)
 
 pub cells-append : (a b : Store) → cells_of_store (a ++ b) ≡ cells_of_store a ++ cells_of_store b
@@ -36,7 +37,7 @@ cells-append (v ∷ a) b = ap (λ l. cells_of v ++ l) (cells-append a b) ∙ sym
 -- a type added is the one at the place of a variable added
 pub taken-all : (typing : StoreTyping) (store : Store) (s : Shape) → StoreHasTypes typing store → store_cell_count (take (length store) (typing ++ s ∷ [])) ≡ store_cell_count typing
 taken-all [] [] s h = refl
-taken-all (t ∷ typing) (v ∷ store) s h = ap (λ n. size t + n) (taken-all typing store s h.1)
+taken-all (t ∷ typing) (v ∷ store) s h = ap (λ n. shape_cell_count t + n) (taken-all typing store s h.1)
 taken-all _ _ s h = absurd h
 
 -- a store with a variable more, whose cells come after those of all others, from the size of their types on
@@ -44,13 +45,13 @@ pub record AddsVariable (typing : StoreTyping) (store : Store) (s : Shape) (v : 
   pub store_fits : StoreHasTypes (typing ++ s ∷ []) (store ++ v ∷ [])
   pub cells_added : cells_of_store (store ++ v ∷ []) ≡ cells_of_store store ++ cells_of v
   pub place_fits : PlaceHasType (typing ++ s ∷ []) record { variable = length store; path = [] } s
-  pub address_is : address (typing ++ s ∷ []) record { variable = length store; path = [] } ≡ store_cell_count typing
+  pub address_is : address_of_place (typing ++ s ∷ []) record { variable = length store; path = [] } ≡ store_cell_count typing
 
 pub variables_are_added : (typing : StoreTyping) (store : Store) (s : Shape) (v : Value) → StoreHasTypes typing store → HasShape v s → AddsVariable typing store s v
 variables_are_added typing store s v h hv =
     let e : slice_get (typing ++ s ∷ []) (length store) ≡ Some s = last-shape typing store s h in
     let b : store_cell_count (take (length store) (typing ++ s ∷ [])) ≡ store_cell_count typing = taken-all typing store s h in
-    let o : unwrap_or (option_map (offset []) (slice_get (typing ++ s ∷ []) (length store))) 0 ≡ 0 = ap (λ o. unwrap_or (option_map (offset []) o) 0) e in record {
+    let o : unwrap_or (option_map (path_offset []) (slice_get (typing ++ s ∷ []) (length store))) 0 ≡ 0 = ap (λ o. unwrap_or (option_map (path_offset []) o) 0) e in record {
       store_fits = store-appends typing store s v h hv;
       cells_added = cells-append store (v ∷ []) ∙ ap (λ l. cells_of_store store ++ l) (append-nil (cells_of v));
       place_fits = ap (option_and_then (shape_at_path [])) e;

@@ -1,13 +1,15 @@
--- States where lowered code finds the variables and procedures of a module. Also states when a
--- program is correct code for a module (`ProgramMeansModule`). A placement (`Placement`) gives each
--- name of an environment its place. A variable has a slot, its place as the running activation sees
--- it. A procedure has a target, the routine that a call reaches. The module's variables are
--- `in_module_activation`, at offsets that begin with 0. A procedure's variables are
--- `in_activation 0`, after its value parameters. A VAR parameter is `by_reference 0`, with its
--- index among the VAR parameters. A procedure may have any index at which the routine table has
--- correct code for the procedure's block. `PlacementMatchesActivation` states that each binding of
--- an activation has the right place. For a procedure, it uses the placement at the procedure's
--- declaration (`BindingIsPlaced`). So no slot has to be translated back to an outer level.
+-- States where lowered code finds the variables and procedures of a module, and when a program is
+-- correct code for a module (`ProgramMeansModule`). A placement (`Placement`) gives each name of an
+-- environment its place. A variable has a slot, its place as the running activation sees it. A
+-- procedure has a target, the routine that a call reaches.
+-- - The module's variables are `in_module_activation`, at offsets that begin with 0.
+-- - A procedure's variables are `in_activation 0`, after its value parameters.
+-- - A VAR parameter is `by_reference 0`, with its index among the VAR parameters.
+-- - A procedure may have any index at which the routine table has correct code for its block.
+--
+-- `PlacementMatchesActivation` states that each binding of an activation has the right place. For a
+-- procedure, it uses the placement at the procedure's declaration (`BindingIsPlaced`). So no slot
+-- has to be translated back to an outer level.
 -- Rule: docs/LANGUAGE.md, Runs 1, 6.
 use Rattle.std.specs.Prelude.{◌≡◌, ℕ, suc, ◌+◌, true, false, List, [], ◌∷◌, drop, slice_get, Some}
 use Rattle.ob0_tree.specs.Tree.{Tree, begins, block, body, declares, declares_procedure, declares_variable, end, forms_block, item, items, maybe, module_text, more, none, one, procedure, variable}
@@ -22,7 +24,7 @@ use Rattle.ob0_language_runs.specs.TypeAgreement.{PlaceHasType, StoreTyping}
 use Rattle.ob0_language_runs.specs.Runs.{RunEnvironment, ProcedureText}
 use Rattle.ob0_run_machine.specs.Evaluation.{Levels}
 use Rattle.ob0_run_machine.specs.LoweredSyntax as lowered
-use Rattle.ob0_run_cells.specs.Cells.{address, size}
+use Rattle.ob0_run_cells.specs.Cells.{address_of_place, shape_cell_count}
 use Rattle.ob0_run_cells.specs.LoweredStatements.{CodeMeansSequence, Target}
 use Rattle.ob0_run_cells.specs.LoweredExpressions.{Slot, in_activation, by_reference, in_module_activation, slot_address}
 
@@ -51,8 +53,8 @@ slot_of_binding_place nowhere = in_module_activation 0
 slot_of_binding_place (in_slot s) = s
 slot_of_binding_place (at_target t) = in_module_activation 0
 
--- returns the target of a procedure; if the place isn't a target, the target with index 0 that is 0
--- levels out
+-- returns the target of a procedure, or the target with the index 0 that is 0 levels out if the
+-- place isn't a target
 abbrev pub target_of_binding_place : BindingPlace → Target
 target_of_binding_place nowhere = record { procedure = 0; up = 0 }
 target_of_binding_place (in_slot s) = record { procedure = 0; up = 0 }
@@ -65,7 +67,7 @@ slot_of_first_binding [] = in_module_activation 0
 slot_of_first_binding (b ∷ placement) = slot_of_binding_place b.1
 
 -- Returns the target of the first binding of a placement. If this binding has no target or the
--- placement is empty, returns the target with index 0 that is 0 levels out.
+-- placement is empty, returns the target with the index 0 that is 0 levels out.
 abbrev pub target_of_first_binding : {N : Type 0} → Placement N → Target
 target_of_first_binding [] = record { procedure = 0; up = 0 }
 target_of_first_binding (b ∷ placement) = target_of_binding_place b.1
@@ -74,8 +76,8 @@ target_of_first_binding (b ∷ placement) = target_of_binding_place b.1
 abbrev pub slot_in_placement : {N : Type 0} → Naming N → Placement N → N → Slot
 slot_in_placement naming placement x = slot_of_first_binding (suffix_from_latest_binding naming placement x)
 
--- returns the target of a name in a placement; if the name has no target, the target with index 0
--- that is 0 levels out
+-- returns the target of a name in a placement, or the target with the index 0 that is 0 levels out
+-- if the name has no target
 abbrev pub target_in_placement : {N : Type 0} → Naming N → Placement N → N → Target
 target_in_placement naming placement x = target_of_first_binding (suffix_from_latest_binding naming placement x)
 
@@ -97,7 +99,7 @@ abbrev pub placement_seen_one_level_deeper : {N : Type 0} → Placement N → Pl
 placement_seen_one_level_deeper [] = []
 placement_seen_one_level_deeper (b ∷ placement) = (b.0, binding_place_seen_one_level_deeper b.1) ∷ placement_seen_one_level_deeper placement
 
--- The state while the names of an activation get their places: the placement so far, and the
+-- The state while the names of an activation get their places. It has the placement so far, and the
 -- numbers of cells and of VAR parameters so far.
 pub record PlacementState (N : Type 0) : Type 0 where
   pub placement : Placement N
@@ -139,7 +141,7 @@ place_variable_declarations at size_of (more (declares_variable ns u) gs) p =
 abbrev pub place_parameters : {N : Type 0} → List (TypedParameter N) → PlacementState N → PlacementState N
 place_parameters [] p = p
 place_parameters (q ∷ ps) p =
-    place_parameters ps (add_name_to_placement (in_activation 0) q.formal.mode q.name (size q.formal.shape) p)
+    place_parameters ps (add_name_to_placement (in_activation 0) q.formal.mode q.name (shape_cell_count q.formal.shape) p)
 
 -- Adds names to a placement, each without a place in lowered code (`nowhere`). Names of constants
 -- and types, for example, have no place.
@@ -159,7 +161,7 @@ place_declarations at size_of b p =
 
 -- States that an object is a variable of `n` cells, or isn't a variable.
 abbrev pub HasSizeIfVariable : ℕ → Object Shape Signature → Type 0
-HasSizeIfVariable n (a_variable s) = n ≡ size s
+HasSizeIfVariable n (a_variable s) = n ≡ shape_cell_count s
 HasSizeIfVariable n other = Unit {0}
 
 -- States that `size_of` returns the number of cells of each variable in an environment.
@@ -167,13 +169,13 @@ abbrev pub ReturnsSizesOfVariables : {N : Type 0} → (N → ℕ) → TypeEnviro
 ReturnsSizesOfVariables size_of [] = Unit {0}
 ReturnsSizesOfVariables size_of (b ∷ env) = HasSizeIfVariable (size_of b.0) b.1 × ReturnsSizesOfVariables size_of env
 
--- returns the target of the procedure with this index, as seen from the activation in which the
--- procedure is declared
+-- returns the place of the procedure with this index: a target, as seen from the activation in
+-- which the procedure is declared
 abbrev pub local_procedure_target : ℕ → BindingPlace
 local_procedure_target i = at_target record { procedure = i; up = 0 }
 
--- returns the placement inside a procedure: the names around the procedure, as seen from one level
--- deeper, with the procedure's parameters added
+-- Returns the placement inside a procedure, with its numbers of cells and of VAR parameters. It has
+-- the names around the procedure, as seen from one level deeper, and the procedure's parameters.
 abbrev pub placement_inside_procedure : {N : Type 0} → List (TypedParameter N) → Placement N → PlacementState N
 placement_inside_procedure ps placement =
     place_parameters ps record { placement = placement_seen_one_level_deeper placement; cells = 0; var_parameters_so_far = 0 }
@@ -201,10 +203,10 @@ pub record RoutineTable (N : Type 0) : Type 0 where
 abbrev pub routine_table_by_label : List lowered.Routine → RoutineTable Label
 routine_table_by_label routines = record { routines = routines; naming = naming_by_label }
 
--- States that the routine at the index `index` of the table is correct code for the procedure
--- `text` (LANGUAGE.md, Runs 6). The procedure is declared in the environment `checked`, with the
--- placement `placement`. `Means` says when a routine is correct, given the environment and the
--- placement that include the procedure and its parameters.
+-- States that the routine at the index `index` of the table is correct code for the procedure with
+-- the tree `text` (LANGUAGE.md, Runs 6). The procedure is declared in the environment `checked`,
+-- with the placement `placement`. `Means` says when a routine is correct, given the environment and
+-- the placement that include the procedure and its parameters.
 pub record RoutineAtIndexMeansProcedure {N : Type 0} (table : RoutineTable N) (checked : TypeEnvironment N)
     (placement : Placement N) (x : N) (k : ℕ) (text : Tree N (item procedure)) (index : ℕ)
     (Means : TypeEnvironment N → PlacementState N → lowered.Routine → Type 0) : Type 0 where
@@ -216,10 +218,10 @@ pub record RoutineAtIndexMeansProcedure {N : Type 0} (table : RoutineTable N) (c
   pub means : Means (bind_typed_parameters parameters (bind_procedure x parameters checked))
       (placement_inside_procedure parameters ((x, local_procedure_target index) ∷ placement)) routine
 
--- States that the variables of a block have `cells` cells, which follow the cells of `p`
--- (LANGUAGE.md, Runs 1 and 6). `size_of` returns the number of cells of each variable. `Inside`
--- says what must hold for the block's procedures and statements, given the environment and the
--- placement with the block's declarations.
+-- States that the variables of a block have `cells` cells, which follow the `p.cells` cells that
+-- already have a place (LANGUAGE.md, Runs 1 and 6). `size_of` returns the number of cells of each
+-- variable. `Inside` says what must hold for the block's procedures and statements, given the
+-- environment and the placement with the block's declarations.
 pub record BlockIsPlaced {N : Type 0} (table : RoutineTable N) (at : ℕ → Slot)
     (checked : TypeEnvironment N) (p : PlacementState N) (k cells : ℕ) (b : Tree N block)
     (Inside : TypeEnvironment N → Placement N → Type 0) : Type 0 where
@@ -236,9 +238,9 @@ pub record BlockIsPlaced {N : Type 0} (table : RoutineTable N) (at : ℕ → Slo
 -- States that code is correct for a block, for its procedures, and for the procedures inside them.
 -- `cells` is the number of cells of the variables that the block declares outside its procedures.
 abbrev mutual
-  -- States that the cells of a block's variables follow the cells of `p` (LANGUAGE.md, Runs 1 and
-  -- 6). Also states that the table has correct code for the block's procedures, and that `code` is
-  -- correct code for the block's statements.
+  -- States that the cells of a block's variables follow the `p.cells` cells that already have a
+  -- place (LANGUAGE.md, Runs 1 and 6). Also states that the table has correct code for the block's
+  -- procedures, and that `code` is correct code for the block's statements.
   pub CodeMeansBlock : {N : Type 0}
       → RoutineTable N
       → (ℕ → Slot)
@@ -288,10 +290,11 @@ abbrev mutual
       CodeMeansBlock table (in_activation 0) checked p (k + formals_constructor_count (formal_parameter_sections fs))
       routine.cells routine.body b
 
--- States that one binding has the right place, as seen from the activations `ls`. A variable's slot
--- must have the address of the variable's place (LANGUAGE.md, Runs 1). A procedure's routine must
--- be correct code for the procedure's block, in the environment and a placement at the procedure's
--- declaration (Runs 6). Other bindings have no place.
+-- States that one binding has the right place, as seen from the activations `ls`. A variable's
+-- place must have values of its type, and its slot must have the address of that place
+-- (LANGUAGE.md, Runs 1). A procedure's routine must be correct code for the procedure's block (Runs
+-- 6). This must hold in the environment, and in a placement at the procedure's declaration for
+-- which `Fits` holds. Other bindings have no place.
 abbrev pub BindingIsPlaced : {N : Type 0}
     → RoutineTable N
     → StoreTyping
@@ -304,7 +307,7 @@ abbrev pub BindingIsPlaced : {N : Type 0}
     → Object Place (ProcedureText N)
     → Type 0
 BindingIsPlaced table typing ls checked Fits x (a_variable s) (in_slot slot) (a_variable p) =
-    PlaceHasType typing p s × (slot_address ls slot ≡ address typing p)
+    PlaceHasType typing p s × (slot_address ls slot ≡ address_of_place typing p)
 BindingIsPlaced {N} table typing ls checked Fits x (a_procedure signature) (at_target t)
     (a_procedure code)
     =

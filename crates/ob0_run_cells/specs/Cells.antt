@@ -40,55 +40,55 @@ cells_of_store (v ∷ store) = cells_of v ++ cells_of_store store
 abbrev mutual
   -- returns the number of cells of a type: 1 for a scalar, the sum over all parts for an array or a
   -- record
-  pub size : Shape → ℕ
-  size integer_shape = 1
-  size boolean_shape = 1
-  size (array_shape k n s) = n * size s
-  size (record_shape k fs) = total_field_size fs
+  pub shape_cell_count : Shape → ℕ
+  shape_cell_count integer_shape = 1
+  shape_cell_count boolean_shape = 1
+  shape_cell_count (array_shape k n s) = n * shape_cell_count s
+  shape_cell_count (record_shape k fs) = fields_cell_count fs
 
   -- returns the number of cells of the fields of a record
-  pub total_field_size : FieldShapes → ℕ
-  total_field_size no_field_shape = 0
-  total_field_size (next_field_shape x s rest) = size s + total_field_size rest
+  pub fields_cell_count : FieldShapes → ℕ
+  fields_cell_count no_field_shape = 0
+  fields_cell_count (next_field_shape x s rest) = shape_cell_count s + fields_cell_count rest
 
 -- returns the number of cells of all variables in a store with these types
 abbrev pub store_cell_count : StoreTyping → ℕ
 store_cell_count [] = 0
-store_cell_count (s ∷ typing) = size s + store_cell_count typing
+store_cell_count (s ∷ typing) = shape_cell_count s + store_cell_count typing
 
 -- Returns the offset of a field in its record: the number of cells of the fields before it. If
 -- there is no such field, this is the size of the record.
 abbrev pub field_offset : FieldShapes → Name → ℕ
 field_offset no_field_shape x = 0
 field_offset (next_field_shape y s rest) x =
-    if same_name x y then 0 else size s + field_offset rest x
+    if same_name x y then 0 else shape_cell_count s + field_offset rest x
 
 -- Returns the offset of the element or field that a step selects: the number of cells of the
 -- elements or fields before it. Returns 0 if the step doesn't fit the type.
 abbrev pub step_offset : Shape → PathStep → ℕ
-step_offset (array_shape k n s) (at_index i) = i * size s
+step_offset (array_shape k n s) (at_index i) = i * shape_cell_count s
 step_offset (record_shape k fs) (at_field x) = field_offset fs x
 step_offset _ _ = 0
 
 -- Returns the offset of the part at the end of a path, in cells from the start of a value with the
--- type `s`. The steps after one that selects no part are ignored.
-abbrev pub offset : List PathStep → Shape → ℕ
-offset [] s = 0
-offset (step ∷ path) s =
-    step_offset s step + unwrap_or (option_map (offset path) (shape_at_step s step)) 0
+-- type `s`. If a step selects no part, the steps after it are ignored.
+abbrev pub path_offset : List PathStep → Shape → ℕ
+path_offset [] s = 0
+path_offset (step ∷ path) s =
+    step_offset s step + unwrap_or (option_map (path_offset path) (shape_at_step s step)) 0
 
 -- returns the address of a place: the number of cells before the place's first cell, in a store
 -- whose variables have these types
-abbrev pub address : StoreTyping → Place → ℕ
-address typing p =
+abbrev pub address_of_place : StoreTyping → Place → ℕ
+address_of_place typing p =
     store_cell_count (take p.variable typing)
-    + unwrap_or (option_map (offset p.path) (slice_get typing p.variable)) 0
+    + unwrap_or (option_map (path_offset p.path) (slice_get typing p.variable)) 0
 
 -- returns the `n` cells that begin at an address, or fewer if the list ends earlier
 abbrev pub cells_at_address : ℕ → ℕ → List ℤ → List ℤ
 cells_at_address address n cells = take n (drop address cells)
 
 -- returns the list `cells` after its cells were overwritten by the cells `new`, one by one,
--- beginning at the index `address`
+-- beginning at the index `address_of_place`
 abbrev pub cells_after_overwrite : ℕ → List ℤ → List ℤ → List ℤ
 cells_after_overwrite address new cells = take address cells ++ (new ++ drop (address + length new) cells)

@@ -10,18 +10,18 @@ use Rattle.std.specs.Prelude.{◌≡◌, ℕ, zero, suc, ◌+◌, ◌^◌, ◌<�
 use Rattle.ob0_tree.specs.declared.tree.Relation.{Relation}
 use Rattle.ob0_tree.specs.declared.tree.Relation.TheVariants as relation
 use Rattle.ob0_tree.specs.Tree.{Tree, addend, expression, factor, items, multiplier, selector, simple, term}
-use Rattle.ob0_language_types.specs.Expressions.{Meanings, a_variable, designated_place, evaluate, evaluate_addends, evaluate_factor, evaluate_multipliers, evaluate_simple_expression, evaluate_term, evaluate_selectors}
+use Rattle.ob0_language_types.specs.Expressions.{Meanings, a_variable, designated_place, evaluate_expression, evaluate_addends, evaluate_factor, evaluate_multipliers, evaluate_simple_expression, evaluate_term, evaluate_selectors}
 use Rattle.ob0_language_types.specs.WellTyped.{ParameterMode, TypeMeanings}
 use Rattle.ob0_language_values.specs.Values.{CallBound, Divisor, Done, End, Index, InputEnd, Outcome, Overflow, Place, Shape, PathStep, Store, TurnBound, Value, ends_run_with, succeeds_with, number, result_or_stuck, read_place, truth, ◌>>=◌}
 use Rattle.ob0_language_runs.specs.TypeAgreement.{RunMeaningsAgreeWithCheckedMeanings, PlaceHasType, StoreHasTypes, StoreTyping}
 use Rattle.ob0_run_machine.specs.Evaluation as machine
 use Rattle.ob0_run_machine.specs.Evaluation.{Levels, level_at}
 use Rattle.ob0_run_machine.specs.LoweredSyntax as lowered
-use Rattle.ob0_run_cells.specs.Cells.{address, cells_of_store, store_cell_count}
+use Rattle.ob0_run_cells.specs.Cells.{address_of_place, cells_of_store, store_cell_count}
 
 -- The slot of a variable: where running code finds the variable. A variable is at an offset in the
--- cells of the module or of the activation `up` levels out. A VAR parameter is found by the number
--- of levels out and its index among the VAR parameters.
+-- cells of the module or of the activation `up` levels out. A VAR parameter is found by its index
+-- among the VAR parameters of the activation `up` levels out.
 pub data Slot : Type 0 where
   in_module_activation : (offset : ℕ) → Slot
   in_activation : (up offset : ℕ) → Slot
@@ -65,7 +65,7 @@ pub record IsMomentOfModule {N : Type 0} (checked : TypeMeanings N) (slots : N �
   pub names_fit : RunMeaningsAgreeWithCheckedMeanings m.typing checked m.active
   pub variables_in_slots : (x : N) (p : Place)
       → m.active.object_for x ≡ Some (a_variable p)
-      → slot_address m.levels (slots x) ≡ address m.typing p
+      → slot_address m.levels (slots x) ≡ address_of_place m.typing p
   pub store_is_addressable : store_cell_count m.typing < 2 ^ 64
 
 -- converts an end of the machine's run to an end of a module's run
@@ -134,12 +134,12 @@ abbrev pub PlaceHasOutcome : {N : Type 0}
 PlaceHasOutcome {N} checked slots q s value =
     (m : Moment N) → IsMomentOfModule checked slots m
     → (outcome_of (λ a. a) (machine.place_address m.levels (cells_of_store m.store) q)
-    ≡ (value m >>= (λ p. succeeds_with (address m.typing p))))
+    ≡ (value m >>= (λ p. succeeds_with (address_of_place m.typing p))))
     × PlaceOutcomeHasType m.typing s (value m)
 
--- States that the lowered place `q` means a place with values of the type `s` (`PlaceHasOutcome`). Also
--- states that `value` returns the value stored at this place. Both hold at each moment of the
--- checked module (`IsMomentOfModule`).
+-- States that the lowered place `q` is correct code for an evaluation of a place with values of the
+-- type `s` (`PlaceHasOutcome`). Also states that `value` returns the value stored at this place, at
+-- each moment of the checked module (`IsMomentOfModule`).
 abbrev pub PlaceHoldsValue : {N : Type 0}
     → TypeMeanings N
     → (N → Slot)
@@ -154,23 +154,26 @@ PlaceHoldsValue {N} checked slots q s value =
     → IsMomentOfModule checked slots m
     → value m ≡ (place m >>= (λ p. result_or_stuck (read_place m.store p))))
 
--- returns the value of an expression at the moment `m` of a run, or the end of the run
+-- Returns the value of an expression at the moment `m`, or the reason why its evaluation ends the
+-- run.
 abbrev pub value_of_expression : {N : Type 0} → Tree N expression → OutcomeByMoment N Value
-value_of_expression e m = evaluate m.active m.store e
+value_of_expression e m = evaluate_expression m.active m.store e
 
--- returns the value of a simple expression at the moment `m` of a run, or the end of the run
+-- Returns the value of a simple expression at the moment `m`, or the reason why its evaluation ends
+-- the run.
 abbrev pub value_of_simple_expression : {N : Type 0} → Tree N simple → OutcomeByMoment N Value
 value_of_simple_expression e m = evaluate_simple_expression m.active m.store e
 
--- returns the value of a term at the moment `m` of a run, or the end of the run
+-- Returns the value of a term at the moment `m`, or the reason why its evaluation ends the run.
 abbrev pub value_of_term : {N : Type 0} → Tree N term → OutcomeByMoment N Value
 value_of_term e m = evaluate_term m.active m.store e
 
--- returns the value of a factor at the moment `m` of a run, or the end of the run
+-- Returns the value of a factor at the moment `m`, or the reason why its evaluation ends the run.
 abbrev pub value_of_factor : {N : Type 0} → Tree N factor → OutcomeByMoment N Value
 value_of_factor e m = evaluate_factor m.active m.store e
 
--- returns the place of a designator at the moment `m` of a run, or the end of the run
+-- Returns the place of a designator at the moment `m`, or the reason why its evaluation ends the
+-- run.
 abbrev pub place_of_designator : {N : Type 0} → N → Tree N (items selector) → OutcomeByMoment N Place
 place_of_designator x path m = designated_place m.active m.store x path
 
@@ -212,8 +215,9 @@ RestCompletesChain {N} {A} checked slots Means rest whole =
     × Means so_far
     × ((m : Moment N) → IsMomentOfModule checked slots m → (so_far m >>= rest m) ≡ whole m)
 
--- States that the lowered place `q` is correct code for the first part of a designator. From there,
--- the remaining selectors lead to the place of the whole designator.
+-- States that the lowered place `q` is correct code for the first part of a designator. Starting at
+-- the place of this part, the remaining selectors must lead to the place of the whole designator
+-- (`RestCompletesChain`).
 abbrev pub PlaceStartsChain : {N : Type 0}
     → TypeMeanings N
     → (N → Slot)
@@ -225,8 +229,9 @@ abbrev pub PlaceStartsChain : {N : Type 0}
 PlaceStartsChain checked slots q s rest =
     RestCompletesChain checked slots (PlaceHasOutcome checked slots q s) (outcome_of_remaining_selectors rest)
 
--- States that the lowered number `n` is correct code for the first part of a chain. Given its
--- value, the rest of the chain has the value of the whole chain.
+-- States that the lowered number `n` is correct code for the first part of a chain. The rest of the
+-- chain, given the value of this part, must have the outcome of the whole chain
+-- (`RestCompletesChain`).
 abbrev pub NumberStartsChain : {N : Type 0}
     → TypeMeanings N
     → (N → Slot)
@@ -236,8 +241,9 @@ abbrev pub NumberStartsChain : {N : Type 0}
     → Type 0
 NumberStartsChain checked slots n = RestCompletesChain checked slots (NumberHasOutcome checked slots n)
 
--- States that the lowered truth `t` is correct code for the first part of a chain. Given its value,
--- the rest of the chain has the value of the whole chain.
+-- States that the lowered truth `t` is correct code for the first part of a chain. The rest of the
+-- chain, given the value of this part, must have the outcome of the whole chain
+-- (`RestCompletesChain`).
 abbrev pub TruthStartsChain : {N : Type 0}
     → TypeMeanings N
     → (N → Slot)
@@ -248,10 +254,10 @@ abbrev pub TruthStartsChain : {N : Type 0}
 TruthStartsChain checked slots t = RestCompletesChain checked slots (TruthHasOutcome checked slots t)
 
 -- converts a relation of the language to the machine's comparator
-abbrev pub relation_of : Relation → lowered.Comparator
-relation_of relation.Equal = lowered.equal
-relation_of relation.NotEqual = lowered.not_equal
-relation_of relation.Less = lowered.less
-relation_of relation.LessEqual = lowered.less_equal
-relation_of relation.Greater = lowered.greater
-relation_of relation.GreaterEqual = lowered.greater_equal
+abbrev pub comparator_of_relation : Relation → lowered.Comparator
+comparator_of_relation relation.Equal = lowered.equal
+comparator_of_relation relation.NotEqual = lowered.not_equal
+comparator_of_relation relation.Less = lowered.less
+comparator_of_relation relation.LessEqual = lowered.less_equal
+comparator_of_relation relation.Greater = lowered.greater
+comparator_of_relation relation.GreaterEqual = lowered.greater_equal

@@ -8,11 +8,11 @@ use Rattle.ob0_language_types.specs.Typing.{lone_designator}
 use Rattle.ob0_language_types.specs.WellTyped.{FormalParameter, ParameterMode, Signature, TypeMeanings, by_place, by_value}
 use Rattle.ob0_language_values.specs.Values.{Place, Shape, Store, boolean_shape, integer_shape}
 use Rattle.ob0_language_runs.specs.TypeAgreement.{ArgumentsMatchSignature, StoreHasTypes, StoreTyping}
-use Rattle.ob0_language_runs.specs.Runs.{Argument, CallFunction, Progress, State, PrintedItem, execute, execute_sequence, execute_else, execute_elsifs, execute_further_statements, printed_line_end, printed_number, place_argument, running, stopped, value_argument}
+use Rattle.ob0_language_runs.specs.Runs.{Argument, CallFunction, Progress, State, PrintedItem, execute_statement, execute_sequence, execute_else, execute_elsifs, execute_further_statements, printed_line_end, printed_number, place_argument, running, stopped, value_argument}
 use Rattle.ob0_run_machine.specs.Evaluation.{Levels}
 use Rattle.ob0_run_machine.specs.Execution as execution
 use Rattle.ob0_run_machine.specs.LoweredSyntax as lowered
-use Rattle.ob0_run_cells.specs.Cells.{address, cells_of_store, cells_of, size}
+use Rattle.ob0_run_cells.specs.Cells.{address_of_place, cells_of_store, cells_of, shape_cell_count}
 use Rattle.ob0_run_cells.specs.LoweredExpressions.{IsMomentOfModule, Moment, NumberHasOutcome, PlaceHasOutcome, Slot, TruthHasOutcome, PlaceHoldsValue, end_of, place_of_designator, value_of_expression}
 
 -- converts an item of the machine's output to an item of a module's output
@@ -32,7 +32,7 @@ pub record MachineStateRepresentsState (typing : StoreTyping) (low : execution.M
 
 -- States that a run of the machine and a run of the module agree. Both continue, in states that
 -- represent each other, or both have ended with the same end and output. Claims nothing if the
--- number of the machine's cells would have more than 64 bits (`no_room`).
+-- number of the machine's cells doesn't fit in 64 bits (`no_room`).
 abbrev pub MachineProgressRepresentsProgress : StoreTyping → execution.MachineProgress → Progress → Type 0
 MachineProgressRepresentsProgress typing execution.no_room q = Unit {0}
 MachineProgressRepresentsProgress typing (execution.running low) (running s) = MachineStateRepresentsState typing low s
@@ -50,7 +50,7 @@ value_argument_cells (value_argument v ∷ args) = cells_of v ++ value_argument_
 abbrev pub place_argument_addresses : StoreTyping → List Argument → List ℕ
 place_argument_addresses typing [] = []
 place_argument_addresses typing (place_argument p ∷ args) =
-    address typing p ∷ place_argument_addresses typing args
+    address_of_place typing p ∷ place_argument_addresses typing args
 place_argument_addresses typing (value_argument v ∷ args) = place_argument_addresses typing args
 
 -- The procedure that a call enters. `procedure` is its index in the program. `up` is the number of
@@ -60,13 +60,13 @@ pub record Target : Type 0 where
   pub up : ℕ
 
 -- The data that is unchanged while the statements of a body run. It has the types of the store, the
--- meanings of names, and the activations that the body can see. `enters` is the effect of the
+-- meanings of names, and the activations that the body can see. `call_effect` is the effect of the
 -- module's calls, and `lowered_call_effect` is the effect of lowered calls.
 pub record BodyContext (N : Type 0) : Type 0 where
   pub typing : StoreTyping
   pub active : Meanings N Place (List ParameterMode)
   pub levels : Levels
-  pub enters : CallFunction N
+  pub call_effect : CallFunction N
   pub lowered_call_effect : execution.CallEffect
 
 -- States that each lowered call has the effect of the module's call of the same procedure. This has
@@ -82,7 +82,7 @@ LoweredCallsRepresentCalls {N} checked targets b =
     → p.addresses ≡ place_argument_addresses b.typing args
     → MachineProgressRepresentsProgress b.typing (b.lowered_call_effect (targets x).procedure
     (execution.levels_in_call b.levels (length low.cells) (targets x).up p) record low
-    { cells = p.cells }) (b.enters x args s)
+    { cells = p.cells }) (b.call_effect x args s)
 
 -- returns the moment of a run (`Moment`) at which the body `b` runs and the store is `store`
 abbrev pub moment_with_store : {N : Type 0} → BodyContext N → Store → Moment N
@@ -124,7 +124,7 @@ abbrev pub CodeMeansStatement : {N : Type 0}
     → Type 0
 CodeMeansStatement checked slots targets c a =
     LoweredStepRepresentsStep checked slots targets (λ b t. execution.execute b.lowered_call_effect t b.levels c)
-    (λ b t. execute b.active b.enters t a)
+    (λ b t. execute_statement b.active b.call_effect t a)
 
 -- states that instructions are correct code for a sequence of statements: they have its effect
 abbrev pub CodeMeansSequence : {N : Type 0}
@@ -136,7 +136,7 @@ abbrev pub CodeMeansSequence : {N : Type 0}
     → Type 0
 CodeMeansSequence checked slots targets cs a =
     LoweredStepRepresentsStep checked slots targets (λ b t. execution.execute_sequence b.lowered_call_effect t b.levels cs)
-    (λ b t. execute_sequence b.active b.enters t a)
+    (λ b t. execute_sequence b.active b.call_effect t a)
 
 -- States that instructions are correct code for the statements after the first one of a sequence.
 abbrev pub CodeMeansStatementsAfterFirst : {N : Type 0}
@@ -148,7 +148,7 @@ abbrev pub CodeMeansStatementsAfterFirst : {N : Type 0}
     → Type 0
 CodeMeansStatementsAfterFirst checked slots targets cs rest =
     LoweredStepRepresentsStep checked slots targets (λ b t. execution.execute_sequence b.lowered_call_effect t b.levels cs)
-    (λ b t. execute_further_statements b.active b.enters t rest)
+    (λ b t. execute_further_statements b.active b.call_effect t rest)
 
 -- States that instructions are correct code for an ELSE part. If there is no ELSE part, the
 -- instructions have no effect.
@@ -161,7 +161,7 @@ abbrev pub CodeMeansElse : {N : Type 0}
     → Type 0
 CodeMeansElse checked slots targets cs last =
     LoweredStepRepresentsStep checked slots targets (λ b t. execution.execute_sequence b.lowered_call_effect t b.levels cs)
-    (λ b t. execute_else b.active b.enters t last)
+    (λ b t. execute_else b.active b.call_effect t last)
 
 -- States that branches are correct code for ELSIF parts. Also states that the instructions `cs`,
 -- which run if no condition is TRUE, are correct code for the ELSE part after them.
@@ -177,10 +177,10 @@ abbrev pub CodeMeansElsifs : {N : Type 0}
 CodeMeansElsifs checked slots targets bs cs rest last =
     LoweredStepRepresentsStep checked slots targets (λ b t. execution.execute_branches b.lowered_call_effect t b.levels bs
     (execution.execute_sequence b.lowered_call_effect t b.levels cs))
-    (λ b t. execute_elsifs b.active b.enters t rest (execute_else b.active b.enters t last))
+    (λ b t. execute_elsifs b.active b.call_effect t rest (execute_else b.active b.call_effect t last))
 
--- States that an expression is only a designator of a variable, and that the lowered place `q`
--- finds the place of this designator.
+-- States that an expression consists only of the designator of a variable, and that the lowered
+-- place `q` is correct code for this designator.
 pub record IsLoneDesignatorOfPlace {N : Type 0} (checked : TypeMeanings N) (slots : N → Slot) (q : lowered.Place) (s : Shape)
     (e : Tree N expression) : Type 0 where
   pub name : N
@@ -212,7 +212,7 @@ CodeMeansArgument checked slots f (lowered.by_truth t) e =
     × TruthHasOutcome checked slots t (value_of_expression e)
 CodeMeansArgument checked slots f (lowered.by_block q n) e =
     (f.mode ≡ by_value)
-    × (n ≡ size f.shape)
+    × (n ≡ shape_cell_count f.shape)
     × PlaceHoldsValue checked slots q f.shape (value_of_expression e)
 
 -- States that each lowered argument is correct code for the argument at the same index. The numbers

@@ -18,8 +18,8 @@ abbrev pub run_of : execution.MachineRun → Run
 run_of r = record { output = map printed_item_of r.output; ending = end_of r.ending }
 
 -- States that a program that is correct code for a well-typed module (`ProgramMeansModule`) has the
--- run of the module. This holds for each input and for all bounds `c` on open calls and `t` on
--- iterations. Claims nothing if the number of cells would have more than 64 bits.
+-- module's run. This holds for each input and for all bounds `c` on open calls and `t` on
+-- iterations. Claims nothing if the number of cells doesn't fit in 64 bits.
 abbrev pub LoweringKeepsRuns : Type 0
 LoweringKeepsRuns =
     (m : Tree Name module_text) (program : lowered.LoweredCode) (c t : ℕ) (input : List ℤ)

@@ -2,9 +2,9 @@
 
 ghost use Rattle.ob0_run_cells.specs.LoweringLaws.{LoweringKeepsRuns};
 
-/// States that a program that is correct code for a well-typed module (`ProgramMeansModule`) has
-/// the output and the end of the module's run. Claims nothing if the number of cells would have
-/// more than 64 bits.
+/// Proves that a program that is correct code for a well-typed module (`ProgramMeansModule`) has
+/// the module's run: the same output and the same end. Claims nothing if the number of cells
+/// doesn't fit in 64 bits.
 pub fn lowering_keeps_runs()
     ensures { LoweringKeepsRuns }
 {}

@@ -14,7 +14,7 @@ use Rattle.ob0_run_machine.specs.declared.code.Place.{Place}
 use Rattle.ob0_run_machine.specs.declared.code.Truth.{Truth}
 use Rattle.ob0_run_machine.specs.LoweredSyntax as lowered
 use Rattle.ob0_run_machine.specs.LoweredCodeViews.{number_of, place_of, truth_of}
-use Rattle.ob0_run_cells.specs.Cells.{size}
+use Rattle.ob0_run_cells.specs.Cells.{shape_cell_count}
 use Rattle.ob0_run_cells.specs.LoweredStatements.{CodeMeansStatement, Target}
 use Rattle.ob0_run_cells.specs.LoweredExpressions.{PlaceHasOutcome, Slot, PlaceHoldsValue, place_of_designator, value_of_expression}
 use Rattle.ob0_run_cells.proofs.LoweredAssignments.{block-assigned, number-assigned, truth-assigned}
@@ -33,7 +33,7 @@ module _ (checked : TypeMeanings Label) (slots : Label → Slot) (targets : Labe
   stores_truth t boolean_shape hq ht = truth-assigned checked slots targets x path e q (truth_of t) hq ht
   stores_truth t _ hq ht = absurd ht
 
-  copied : (r : lowered.Place) (n : ℕ) (s : Shape) → PlaceHasOutcome checked slots q s (place_of_designator x path) → (n ≡ size s) × PlaceHoldsValue checked slots r s (value_of_expression e) → CodeMeansStatement checked slots targets (lowered.copies q r n) (assigns x path e)
+  copied : (r : lowered.Place) (n : ℕ) (s : Shape) → PlaceHasOutcome checked slots q s (place_of_designator x path) → (n ≡ shape_cell_count s) × PlaceHoldsValue checked slots r s (value_of_expression e) → CodeMeansStatement checked slots targets (lowered.copies q r n) (assigns x path e)
   copied r n s hq hr =
       let P : ℕ → Type 0 = λ n. CodeMeansStatement checked slots targets (lowered.copies q r n) (assigns x path e) in
       subst P (sym hr.0) (block-assigned checked slots targets x path e q r s hq hr.1)

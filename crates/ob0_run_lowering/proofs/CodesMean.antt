@@ -10,13 +10,13 @@ use Rattle.ob0_tree.specs.declared.tree.MultiplyOperator.{MultiplyOperator}
 use Rattle.ob0_tree.specs.declared.tree.MultiplyOperator.TheVariants as multiply_operator
 use Rattle.ob0_tree.specs.Tree.{Tree, addend, adds, compares, end, expression, factor, items, more, multiplier, multiplies, negation, none, one, parenthesised, product, relates, simple, sum, term}
 use Rattle.ob0_language_names.specs.Names.{Label}
-use Rattle.ob0_language_types.specs.Expressions.{evaluate}
+use Rattle.ob0_language_types.specs.Expressions.{evaluate_expression}
 use Rattle.ob0_language_types.specs.Typing.{addition_type, negation_type, multiplication_type, relation_type, signed_operand_type}
 use Rattle.ob0_language_types.specs.WellTyped.{TypeMeanings}
 use Rattle.ob0_language_types.proofs.Literals.{some_inverse}
 use Rattle.ob0_language_values.specs.Values.{Outcome, Shape, Value, array_shape, boolean_shape, ends_run_with, succeeds_with, integer_shape, record_shape, ◌>>=◌}
 use Rattle.ob0_run_machine.specs.LoweredSyntax as lowered
-use Rattle.ob0_run_cells.specs.Cells.{size}
+use Rattle.ob0_run_cells.specs.Cells.{shape_cell_count}
 use Rattle.ob0_run_cells.specs.LoweredExpressions.{OutcomeByMoment, RestCompletesChain, NumberStartsChain, NumberHasOutcome, RestOfChain, Slot, TruthStartsChain, TruthHasOutcome, PlaceHoldsValue, outcome_of_remaining_addends, outcome_of_remaining_multipliers, value_of_expression, value_of_factor, value_of_simple_expression, value_of_term}
 use Rattle.ob0_run_cells.proofs.LoweredNumbers as numbers
 use Rattle.ob0_run_cells.proofs.LoweredOutcomes.{difference-operates, product-operates, quotient-operates, remainder-operates, sum-operates}
@@ -27,8 +27,8 @@ use Rattle.ob0_run_lowering.specs.OperationCodes.{ExpressionCode, CodeHasOutcome
 abbrev pub CodeLeads : TypeMeanings Label → (Label → Slot) → ExpressionCode → Shape → RestOfChain Label Value → OutcomeByMoment Label Value → Type 0
 CodeLeads checked slots (a_number n) integer_shape rest whole = NumberStartsChain checked slots n rest whole
 CodeLeads checked slots (a_truth t) boolean_shape rest whole = TruthStartsChain checked slots t rest whole
-CodeLeads checked slots (a_block q n) (array_shape k m s) rest whole = (n ≡ size (array_shape k m s)) × RestCompletesChain checked slots (PlaceHoldsValue checked slots q (array_shape k m s)) rest whole
-CodeLeads checked slots (a_block q n) (record_shape k fs) rest whole = (n ≡ size (record_shape k fs)) × RestCompletesChain checked slots (PlaceHoldsValue checked slots q (record_shape k fs)) rest whole
+CodeLeads checked slots (a_block q n) (array_shape k m s) rest whole = (n ≡ shape_cell_count (array_shape k m s)) × RestCompletesChain checked slots (PlaceHoldsValue checked slots q (array_shape k m s)) rest whole
+CodeLeads checked slots (a_block q n) (record_shape k fs) rest whole = (n ≡ shape_cell_count (record_shape k fs)) × RestCompletesChain checked slots (PlaceHoldsValue checked slots q (record_shape k fs)) rest whole
 CodeLeads checked slots _ _ rest whole = ⊥
 
 -- two codes with their variants, and a type
@@ -97,7 +97,7 @@ module _ (checked : TypeMeanings Label) (slots : Label → Slot) where
   -- a chain begins with its first operand
 
   value-begins : (q : lowered.Place) (s : Shape) (f : Tree Label factor) (rest : Tree Label (items multiplier)) → PlaceHoldsValue checked slots q s (value_of_factor f) → RestCompletesChain checked slots (PlaceHoldsValue checked slots q s) (outcome_of_remaining_multipliers rest) (value_of_term (product f rest))
-  unfolding evaluate
+  unfolding evaluate_expression
   value-begins q s f rest h = (value_of_factor f, h, λ z shown. refl)
 
   pub term-begins : (c : ExpressionCode) (x : Shape) (f : Tree Label factor) (rest : Tree Label (items multiplier)) → CodeHasOutcome checked slots c x (value_of_factor f) → CodeLeads checked slots c x (outcome_of_remaining_multipliers rest) (value_of_term (product f rest))
@@ -108,7 +108,7 @@ module _ (checked : TypeMeanings Label) (slots : Label → Slot) where
   term-begins _ _ f rest h = absurd h
 
   value-signed_term_code : (q : lowered.Place) (s : Shape) (e : Tree Label term) (rest : Tree Label (items addend)) → PlaceHoldsValue checked slots q s (value_of_term e) → RestCompletesChain checked slots (PlaceHoldsValue checked slots q s) (outcome_of_remaining_addends rest) (value_of_simple_expression (sum None e rest))
-  unfolding evaluate
+  unfolding evaluate_expression
   value-signed_term_code q s e rest h = (value_of_term e, h, λ z shown. refl)
 
   unsigned-begins : (c : ExpressionCode) (x : Shape) (e : Tree Label term) (rest : Tree Label (items addend)) → CodeHasOutcome checked slots c x (value_of_term e) → CodeLeads checked slots c x (outcome_of_remaining_addends rest) (value_of_simple_expression (sum None e rest))
@@ -150,21 +150,21 @@ module _ (checked : TypeMeanings Label) (slots : Label → Slot) where
   leads-end _ _ rest whole ends_here h = absurd h
 
   pub addends-end : (c : ExpressionCode) (x : Shape) (whole : OutcomeByMoment Label Value) → CodeLeads checked slots c x (outcome_of_remaining_addends end) whole → CodeHasOutcome checked slots c x whole
-  unfolding evaluate
+  unfolding evaluate_expression
   addends-end c x whole h = leads-end c x (outcome_of_remaining_addends end) whole (λ z v. refl) h
 
   pub multipliers-end : (c : ExpressionCode) (x : Shape) (whole : OutcomeByMoment Label Value) → CodeLeads checked slots c x (outcome_of_remaining_multipliers end) whole → CodeHasOutcome checked slots c x whole
-  unfolding evaluate
+  unfolding evaluate_expression
   multipliers-end c x whole h = leads-end c x (outcome_of_remaining_multipliers end) whole (λ z v. refl) h
 
   -- an expression without a relation is its sum, and what is in parentheses evaluates to the same
 
   pub alone-means : (c : ExpressionCode) (s : Shape) (a : Tree Label simple) → CodeHasOutcome checked slots c s (value_of_simple_expression a) → CodeHasOutcome checked slots c s (value_of_expression (compares a none))
-  unfolding evaluate
+  unfolding evaluate_expression
   alone-means c s a h = h
 
   pub parenthesised-means : (c : ExpressionCode) (s : Shape) (e : Tree Label expression) → CodeHasOutcome checked slots c s (value_of_expression e) → CodeHasOutcome checked slots c s (value_of_factor (parenthesised e))
-  unfolding evaluate
+  unfolding evaluate_expression
   parenthesised-means c s e h = h
 
   pub negation_code-means : (f : Tree Label factor) (c : ExpressionCode) (x s : Shape) → negation_type x ≡ Some s → CodeHasOutcome checked slots c x (value_of_factor f) → CodeHasOutcome checked slots (negation_code c) s (value_of_factor (negation f))

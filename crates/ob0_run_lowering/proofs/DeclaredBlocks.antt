@@ -12,7 +12,7 @@ use Rattle.ob0_language_values.specs.Values.{Shape}
 use Rattle.ob0_language_types.proofs.Bound.{newest_object-if}
 use Rattle.ob0_language_types.proofs.DeclaredPlaces.{Includes, bound-none, module-has, noted-binds, nothing}
 use Rattle.ob0_language_types.proofs.TypesByOrdinal.{TypeNoted, TypedBelow, typed_by_ordinal}
-use Rattle.ob0_run_lowering.specs.DeclaredBindings.{BindingsAreDeclared, BlockBindingsAreDeclared}
+use Rattle.ob0_run_lowering.specs.DeclaredBindings.{BindingsAreDeclared, BlockBindingsAreDeclared, NewestIsBelow}
 
 -- where ordinals descend, each binding is the one that is found
 tail-included : (all : TypeEnvironment Label) (i : ℕ) (o : Object Shape Signature) (noted : TypeNoted Name) → TypedBelow i noted → Includes all ((declared i, o) ∷ typed_by_ordinal noted) → Includes all (typed_by_ordinal noted)
@@ -23,6 +23,10 @@ tail-included all i o noted below st d p h = by (d == i) refl
     by false other =
         st d p (newest_object-if (d == i) (declared i) o (typed_by_ordinal noted) (suffix_from_newest_binding naming_by_label (typed_by_ordinal noted) (declared d)) ∙ ap (λ t. cond t (Some o) (object_of_ordinal (typed_by_ordinal noted) d)) other ∙ h)
 
+noted-newest : (n : ℕ) (noted : TypeNoted Name) → TypedBelow n noted → NewestIsBelow n (typed_by_ordinal noted)
+noted-newest n [] below = tt
+noted-newest n (b ∷ noted) below = (b.ordinal, refl, below.0)
+
 noted-declared : (all : TypeEnvironment Label) (n : ℕ) (noted : TypeNoted Name) → TypedBelow n noted → Includes all (typed_by_ordinal noted) → BindingsAreDeclared (object_of_ordinal all) (typed_by_ordinal noted)
 noted-declared all n [] below st = tt
 noted-declared all n (b ∷ noted) below st = (
@@ -31,6 +35,7 @@ noted-declared all n (b ∷ noted) below st = (
     refl,
     st b.ordinal b.object
         (newest_object-if (b.ordinal == b.ordinal) (declared b.ordinal) b.object (typed_by_ordinal noted) (suffix_from_newest_binding naming_by_label (typed_by_ordinal noted) (declared b.ordinal)) ∙ ap (λ t. cond t (Some b.object) (object_of_ordinal (typed_by_ordinal noted) b.ordinal)) (eq-eqb b.ordinal b.ordinal refl)),
+    noted-newest b.ordinal noted below.1,
   ),
   noted-declared all b.ordinal noted below.1 (tail-included all b.ordinal b.object noted below.1 st),
 )

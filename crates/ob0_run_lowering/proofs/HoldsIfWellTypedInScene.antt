@@ -9,7 +9,7 @@ use Rattle.ob0_language_types.specs.Environments.{meanings}
 use Rattle.ob0_language_types.specs.Typing.{type_of_expression}
 use Rattle.ob0_language_types.specs.WellTyped.{body_is_well_typed, condition_is_boolean, else_is_well_typed, elsifs_are_well_typed, sequence_is_well_typed, statement_is_well_typed, further_statements_are_well_typed}
 use Rattle.ob0_language_values.specs.Values.{boolean_shape}
-use Rattle.ob0_language_runs.specs.Runs.{execute}
+use Rattle.ob0_language_runs.specs.Runs.{execute_statement}
 use Rattle.ob0_language_types.proofs.Conditions.{same_known_shape-true, both_true}
 use Rattle.ob0_run_machine.specs.declared.code.Truth.{Truth}
 use Rattle.ob0_run_machine.specs.LoweredSyntax as lowered
@@ -40,7 +40,7 @@ module _ (scene : Scene) where
   empty-alone cs hr checked slots targets sees fits = control.first-empty checked slots targets end cs (hr checked slots targets sees fits)
 
   pub from-first : (a : Tree Label statement) (rest : Tree Label (items statement_after_semicolon)) (cs : lowered.InstructionList) → LowersStatementsAfterFirst scene cs (more (semicolon_then_statement a) rest) → LowersSequence scene cs (runs a rest)
-  unfolding statement_is_well_typed execute
+  unfolding statement_is_well_typed execute_statement
   from-first a rest cs h checked slots targets sees fits = h checked slots targets sees fits
 
   -- conditions

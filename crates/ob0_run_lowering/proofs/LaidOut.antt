@@ -15,7 +15,7 @@ use Rattle.ob0_types_table.specs.declared.declaration_table.FieldId.{FieldId}
 use Rattle.ob0_types_table.specs.declared.declaration_table.TypeEntry as code
 use Rattle.ob0_types_table.specs.declared.declaration_table.Field.{Field}
 use Rattle.ob0_language_values.specs.Values.{FieldShapes, Shape, array_shape, next_field_shape, no_field_shape, number, record_shape}
-use Rattle.ob0_run_cells.specs.Cells.{field_offset, total_field_size, size}
+use Rattle.ob0_run_cells.specs.Cells.{field_offset, fields_cell_count, shape_cell_count}
 use Rattle.ob0_run_lowering.specs.Layouts.{IsLayoutOfFields, IsLayoutOfType, AreLayoutsOfTypes, consecutive_field_offsets}
 use Rattle.ob0_run_lowering.specs.declared.type_layouts.CellLayout.{CellLayout}
 use Rattle.ob0_run_lowering.specs.declared.type_layouts.CellLayout.TheVariants as layout
@@ -27,12 +27,12 @@ abbrev pub array_size : Option CellLayout → ℕ
 array_size (Some (layout.Array cells)) = cells
 array_size _ = 0
 
-array-entry : (s : Shape) (l : CellLayout) → IsLayoutOfType s l → array_size (Some l) ≡ size (array_shape_or_faulty s)
+array-entry : (s : Shape) (l : CellLayout) → IsLayoutOfType s l → array_size (Some l) ≡ shape_cell_count (array_shape_or_faulty s)
 array-entry (array_shape k n s) (layout.Array cells) h = h
 array-entry (record_shape k fs) (layout.Record r) h = refl
 array-entry _ _ h = absurd h
 
-pub array_size-at : (shapes : List Shape) (layouts : List CellLayout) (i : ℕ) → AreLayoutsOfTypes shapes layouts → array_size (slice_get layouts i) ≡ size (array_shape_or_faulty (slice_index_or shapes i faulty_shape))
+pub array_size-at : (shapes : List Shape) (layouts : List CellLayout) (i : ℕ) → AreLayoutsOfTypes shapes layouts → array_size (slice_get layouts i) ≡ shape_cell_count (array_shape_or_faulty (slice_index_or shapes i faulty_shape))
 array_size-at [] [] i h = refl
 array_size-at (s ∷ shapes) (l ∷ layouts) zero h = array-entry s l h.0
 array_size-at (s ∷ shapes) (l ∷ layouts) (suc i) h = array_size-at shapes layouts i h.1
@@ -69,47 +69,47 @@ further-listed _ n k _ f xs later _ h = absurd (cc)
 
 pub offset-listed : (fs : FieldShapes) (n : ℕ) (x : Name) (i : ℕ) → position_of_field fs x ≡ Some i → slice_index_or (consecutive_field_offsets n fs) i 0 ≡ n + field_offset fs x
 offset-listed no_field_shape n x i h = absurd (cc)
-offset-listed (next_field_shape y s rest) n x i h = further-listed (same_name x y) n (size s) (position_of_field rest x) (field_offset rest x) (consecutive_field_offsets (n + size s) rest) (λ i h. offset-listed rest (n + size s) x i h) i h
+offset-listed (next_field_shape y s rest) n x i h = further-listed (same_name x y) n (shape_cell_count s) (position_of_field rest x) (field_offset rest x) (consecutive_field_offsets (n + shape_cell_count s) rest) (λ i h. offset-listed rest (n + shape_cell_count s) x i h) i h
 
 further-past : (b : Bool) (k : ℕ) (o : Option ℕ) (f g : ℕ) → (o ≡ None → f ≡ g) → (if b then Some 0 else option_map suc o) ≡ None → (if b then 0 else k + f) ≡ k + g
 further-past false k None f g later h = ap (λ n. k + n) (later refl)
 further-past _ k _ f g later h = absurd (cc)
 
-pub offset-past : (fs : FieldShapes) (x : Name) → position_of_field fs x ≡ None → field_offset fs x ≡ total_field_size fs
+pub offset-past : (fs : FieldShapes) (x : Name) → position_of_field fs x ≡ None → field_offset fs x ≡ fields_cell_count fs
 offset-past no_field_shape x h = refl
-offset-past (next_field_shape y s rest) x h = further-past (same_name x y) (size s) (position_of_field rest x) (field_offset rest x) (total_field_size rest) (λ h. offset-past rest x h) h
+offset-past (next_field_shape y s rest) x h = further-past (same_name x y) (shape_cell_count s) (position_of_field rest x) (field_offset rest x) (fields_cell_count rest) (λ h. offset-past rest x h) h
 
 -- the fields so far, and those that are left
 pub record LaidSoFar (shapes : List Shape) (fields : List Field) (done cells : ℕ) (offsets : List ℕ) : Type 0 where
-  pub cells_left : cells + total_field_size (field_shapes shapes (drop done fields)) ≡ total_field_size (field_shapes shapes fields)
+  pub cells_left : cells + fields_cell_count (field_shapes shapes (drop done fields)) ≡ fields_cell_count (field_shapes shapes fields)
   pub offsets_left : offsets ++ consecutive_field_offsets cells (field_shapes shapes (drop done fields)) ≡ consecutive_field_offsets 0 (field_shapes shapes fields)
 
 pub laid_begins : (shapes : List Shape) (fields : List Field) (offsets : List ℕ) → offsets ≡ [] → LaidSoFar shapes fields 0 0 offsets
 laid_begins shapes fields offsets none = record {
-  cells_left = zero-add (total_field_size (field_shapes shapes fields));
+  cells_left = zero-add (fields_cell_count (field_shapes shapes fields));
   offsets_left = ap (λ os. os ++ consecutive_field_offsets 0 (field_shapes shapes fields)) none;
 }
 
 pub laid_goes_on : {shapes : List Shape} {fields : List Field} {done cells : ℕ} {offsets : List ℕ} (d : Field) (more cells' : ℕ) (offsets' : List ℕ) → LaidSoFar shapes fields done cells offsets → done < length fields
-    → more ≡ size (type_shape shapes (get_or fields done d).of) → cells' ≡ cells + more → offsets' ≡ offsets ++ cells ∷ [] → LaidSoFar shapes fields (done + 1) cells' offsets'
+    → more ≡ shape_cell_count (type_shape shapes (get_or fields done d).of) → cells' ≡ cells + more → offsets' ≡ offsets ++ cells ∷ [] → LaidSoFar shapes fields (done + 1) cells' offsets'
 laid_goes_on {shapes} {fields} {done} {cells} {offsets} d more cells' offsets' h less sized sum pushed =
     let rest = field_shapes shapes (drop (done + 1) fields) in
     let split : drop done fields ≡ get_or fields done d ∷ drop (done + 1) fields = drop_more fields done d less in
-    let sizes : total_field_size (field_shapes shapes (drop done fields)) ≡ size (type_shape shapes (get_or fields done d).of) + total_field_size rest = ap (λ xs. total_field_size (field_shapes shapes xs)) split in
+    let sizes : fields_cell_count (field_shapes shapes (drop done fields)) ≡ shape_cell_count (type_shape shapes (get_or fields done d).of) + fields_cell_count rest = ap (λ xs. fields_cell_count (field_shapes shapes xs)) split in
     let left = h.cells_left in
     record {
       cells_left = omega (arith, sizes, left, sized, sum);
       offsets_left = ap (λ os. os ++ consecutive_field_offsets cells' rest) pushed
           ∙ ap (λ n. (offsets ++ cells ∷ []) ++ consecutive_field_offsets n rest) (sum ∙ ap (λ m. cells + m) sized)
-          ∙ append_assoc offsets (cells ∷ []) (consecutive_field_offsets (cells + size (type_shape shapes (get_or fields done d).of)) rest)
+          ∙ append_assoc offsets (cells ∷ []) (consecutive_field_offsets (cells + shape_cell_count (type_shape shapes (get_or fields done d).of)) rest)
           ∙ sym (ap (λ xs. offsets ++ consecutive_field_offsets cells (field_shapes shapes xs)) split)
           ∙ h.offsets_left;
     }
 
-pub laid_ends : {shapes : List Shape} {fields : List Field} {done cells : ℕ} {offsets : List ℕ} → LaidSoFar shapes fields done cells offsets → length fields ≤ done → (cells ≡ total_field_size (field_shapes shapes fields)) × (offsets ≡ consecutive_field_offsets 0 (field_shapes shapes fields))
+pub laid_ends : {shapes : List Shape} {fields : List Field} {done cells : ℕ} {offsets : List ℕ} → LaidSoFar shapes fields done cells offsets → length fields ≤ done → (cells ≡ fields_cell_count (field_shapes shapes fields)) × (offsets ≡ consecutive_field_offsets 0 (field_shapes shapes fields))
 laid_ends {shapes} {fields} {done} {cells} {offsets} h all =
     let none : drop done fields ≡ [] = drop_all done fields all in (
-      sym (add-zero cells) ∙ sym (ap (λ xs. cells + total_field_size (field_shapes shapes xs)) none) ∙ h.cells_left,
+      sym (add-zero cells) ∙ sym (ap (λ xs. cells + fields_cell_count (field_shapes shapes xs)) none) ∙ h.cells_left,
       sym (append-nil offsets) ∙ sym (ap (λ xs. offsets ++ consecutive_field_offsets cells (field_shapes shapes xs)) none) ∙ h.offsets_left,
     )
 

@@ -13,5 +13,5 @@ pub mod Assigned
 pub mod Called
 pub mod DeclaredBlocks
 pub mod Placings
-pub mod FollowingSites
+pub mod GrowingSites
 pub mod LoweredBlocks

@@ -25,7 +25,7 @@ use Rattle.ob0_run_machine.specs.declared.code.Argument.{Argument}
 use Rattle.ob0_run_machine.specs.declared.code.Argument.TheVariants as argument
 use Rattle.ob0_run_machine.specs.declared.code.Number.{Number}
 use Rattle.ob0_run_machine.specs.declared.code.Truth.{Truth}
-use Rattle.ob0_run_cells.specs.Cells.{size}
+use Rattle.ob0_run_cells.specs.Cells.{shape_cell_count}
 use Rattle.ob0_run_cells.specs.LoweredStatements.{CodeMeansArgument}
 use Rattle.ob0_run_cells.specs.LoweredExpressions.{NumberHasOutcome, PlaceHasOutcome, Slot, TruthHasOutcome, PlaceHoldsValue, place_of_designator, value_of_expression}
 use Rattle.ob0_run_lowering.specs.OperationCodes.{CodeHasOutcome, PlaceWithShape}
@@ -115,10 +115,10 @@ value-means : (checked : TypeMeanings Label) (slots : Label → Slot) (f : typin
 value-means checked slots f e integer_shape (code.Number n) mode shape h a same = subst (λ a. CodeMeansArgument checked slots f (argument_of a) e) same (mode, shape, h)
 value-means checked slots f e boolean_shape (code.Truth t) mode shape h a same = subst (λ a. CodeMeansArgument checked slots f (argument_of a) e) same (mode, shape, h)
 value-means checked slots f e (array_shape k m s) (code.Block q n) mode shape h a same =
-    let there : (n ≡ size f.shape) × PlaceHoldsValue checked slots (place_of q) f.shape (value_of_expression e) = subst (λ z. (n ≡ size z) × PlaceHoldsValue checked slots (place_of q) z (value_of_expression e)) (sym shape) h in
+    let there : (n ≡ shape_cell_count f.shape) × PlaceHoldsValue checked slots (place_of q) f.shape (value_of_expression e) = subst (λ z. (n ≡ shape_cell_count z) × PlaceHoldsValue checked slots (place_of q) z (value_of_expression e)) (sym shape) h in
     subst (λ a. CodeMeansArgument checked slots f (argument_of a) e) same (mode, there.0, there.1)
 value-means checked slots f e (record_shape k fs) (code.Block q n) mode shape h a same =
-    let there : (n ≡ size f.shape) × PlaceHoldsValue checked slots (place_of q) f.shape (value_of_expression e) = subst (λ z. (n ≡ size z) × PlaceHoldsValue checked slots (place_of q) z (value_of_expression e)) (sym shape) h in
+    let there : (n ≡ shape_cell_count f.shape) × PlaceHoldsValue checked slots (place_of q) f.shape (value_of_expression e) = subst (λ z. (n ≡ shape_cell_count z) × PlaceHoldsValue checked slots (place_of q) z (value_of_expression e)) (sym shape) h in
     subst (λ a. CodeMeansArgument checked slots f (argument_of a) e) same (mode, there.0, there.1)
 value-means checked slots f e _ _ mode shape h a same = absurd h
 

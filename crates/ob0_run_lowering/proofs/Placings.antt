@@ -1,9 +1,8 @@
 -- Where what is in scope is placed, and what the code's table has of it.
-use Rattle.std.proofs.Common.{◌≡◌, ℕ, suc, ◌+◌, ◌-◌, ◌≤◌, ◌==◌, Bool, true, false, List, [], ◌∷◌, ◌++◌, map, Some, None, Option, option_and_then, if◌then◌else◌, refl, sym, ap, ◌∙◌, subst, arith, eqb-true, true≢false}
+use Rattle.std.proofs.Common.{◌≡◌, ℕ, suc, ◌+◌, ◌-◌, ◌≤◌, Bool, true, false, List, [], ◌∷◌, ◌++◌, map, Some, option_and_then, refl, sym, ap, ◌∙◌, subst, arith, eqb-true, true≢false}
 use Rattle.ob0_tree.specs.Tree.{Tree, block, constant, declares_constant, declares_type, declares_variable, end, section_after_semicolon, items, more, section, semicolon_then_section, type_definition, variable}
-use Rattle.ob0_language_names.specs.Names.{Label, Name, naming_by_label, naming_by_spelling, as_written, declared, same_ordinal_label}
+use Rattle.ob0_language_names.specs.Names.{Label, naming_by_label, as_written, declared, same_ordinal_label}
 use Rattle.ob0_language_names.specs.BlockParts.{block_constants, block_types, constant_names, declared_type_names, names_in_list, parameter_section_names, parameter_section_type}
-use Rattle.ob0_language_names.specs.Scopes.{label_from_ordinal}
 use Rattle.ob0_types_table.specs.DeclarationTables.{DeclarationTableView, declared_object_in}
 use Rattle.ob0_language_types.specs.Declarations.{declare_constants, declare_constants_and_types, declare_types}
 use Rattle.ob0_language_types.specs.Environments.{suffix_from_newest_binding, meanings, newest_object}
@@ -14,32 +13,17 @@ use Rattle.ob0_language_types.proofs.Literals.{some_inverse}
 use Rattle.ob0_language_types.proofs.TypedElsewhere.{then_some}
 use Rattle.ob0_language_values.specs.Values.{Shape}
 use Rattle.ob0_run_cells.specs.Activations.{ReturnsSizesOfVariables, HasSizeIfVariable, PlacementState, Placement, BindingPlace, at_target, slot_of_first_binding, target_of_first_binding, suffix_from_latest_binding, add_names_without_place, in_slot, placement_seen_one_level_deeper, slot_seen_one_level_deeper, binding_place_seen_one_level_deeper, nowhere, place_parameters, slot_of_binding_place, slot_in_placement, target_of_binding_place, target_in_placement, add_name_to_placement}
-use Rattle.ob0_run_cells.specs.Cells.{size}
+use Rattle.ob0_run_cells.specs.Cells.{shape_cell_count}
 use Rattle.ob0_run_cells.specs.LoweredStatements.{Target}
 use Rattle.ob0_run_cells.specs.LoweredExpressions.{Slot, in_activation, by_reference}
 use Rattle.ob0_run_lowering.specs.Scenes.{SceneAgreesWithChecker, object_of_label, place_seen_from_depth, site_in_table, slot_of_label, target_of_label}
 use Rattle.ob0_run_lowering.specs.declared.scene.Scene.{Scene}
 use Rattle.ob0_run_lowering.specs.declared.scene.LoweredSite.{LoweredSite}
 use Rattle.ob0_run_lowering.specs.declared.scene.LoweredSite.TheVariants as site
-use Rattle.ob0_run_lowering.specs.DeclaredBindings.{BindingsAreDeclared, ObjectByOrdinal}
-use Rattle.ob0_run_lowering.specs.PlacedNames.{SitesMatchPlacement, PlacementMatchesEnvironment, PlaceMatchesObject, SiteMatchesPlace, declared_size, place_of_first_binding, place_in_placement, add_declared_names_to_placement, place_variable_declarations, place_parameter_sections, sites_after_binding_ordinal, optional_shape_size, depth_of_site}
+use Rattle.ob0_run_lowering.specs.DeclaredBindings.{BindingsAreDeclared, NewestIsBelow, ObjectByOrdinal, OrdinalsDescend}
+use Rattle.ob0_run_lowering.specs.PlacedNames.{SitesMatchPlacement, PlacementMatchesEnvironment, PlaceMatchesObject, SiteMatchesPlace, declared_size, place_of_first_binding, place_in_placement, add_declared_names_to_placement, place_variable_declarations, place_parameter_sections, optional_shape_size, depth_of_site}
 
--- bindings
-
-pub holds_bound : (sites later : List LoweredSite) (d : ℕ) (placement : Placement Label) (o : Option ℕ) (name : Name) (s : LoweredSite) (w : BindingPlace) → SiteMatchesPlace d s w → ((k : ℕ) → site_in_table later k ≡ sites_after_binding_ordinal o s (site_in_table sites) k) → SitesMatchPlacement sites d placement → SitesMatchPlacement later d ((label_from_ordinal naming_by_spelling o name, w) ∷ placement)
-holds_bound sites later d placement None name s w new put h = λ k. subst (λ z. SiteMatchesPlace d z (place_in_placement placement (declared k))) (sym (put k)) (h k)
-holds_bound sites later d placement (Some j) name s w new put h = λ k.
-    subst (λ z. SiteMatchesPlace d z (place_in_placement ((declared j, w) ∷ placement) (declared k))) (sym (put k))
-    (by k (k == j))
-  where
-    by : (k : ℕ) (t : Bool) → SiteMatchesPlace d (if t then s else site_in_table sites k) (place_of_first_binding (elim t [ true ↦ (declared j, w) ∷ placement | false ↦ suffix_from_latest_binding naming_by_label placement (declared k) ]))
-    by k true = new
-    by k false = h k
-
-pub holds_same : (sites later : List LoweredSite) (d : ℕ) (placement : Placement Label) → ((k : ℕ) → site_in_table later k ≡ site_in_table sites k) → SitesMatchPlacement sites d placement → SitesMatchPlacement later d placement
-holds_same sites later d placement same h = λ k. subst (λ z. SiteMatchesPlace d z (place_in_placement placement (declared k))) (sym (same k)) (h k)
-
--- what is nowhere needs no site
+-- a name whose place is `nowhere` needs no site
 holds_nowhere : (sites : List LoweredSite) (d : ℕ) (x : Label) (placement : Placement Label) → SitesMatchPlacement sites d placement → SitesMatchPlacement sites d ((x, nowhere) ∷ placement)
 holds_nowhere sites d x placement h = λ k. by k (same_ordinal_label (declared k) x)
   where
@@ -93,6 +77,17 @@ matches_found (b ∷ env) (w ∷ placement) m x o h =
     by following true e = subst (λ (z : Object Shape Signature). PlaceMatchesObject z w.1) (some_inverse e) m.1
     by following false e = following e
 matches_found _ _ m x o h = absurd m
+
+-- if the newest ordinal of an environment is below `n`, the same holds for a matching placement
+newest_below : (n : ℕ) (env : TypeEnvironment Label) (placement : Placement Label) → NewestIsBelow n env → PlacementMatchesEnvironment env placement → NewestIsBelow n placement
+newest_below n [] [] h m = tt
+newest_below n (b ∷ env) (w ∷ placement) h m = (h.0, sym m.0 ∙ h.1, h.2)
+newest_below n _ _ h m = absurd m
+
+pub descends : (objects : ObjectByOrdinal) (env : TypeEnvironment Label) (placement : Placement Label) → BindingsAreDeclared objects env → PlacementMatchesEnvironment env placement → OrdinalsDescend placement
+descends objects [] [] a m = tt
+descends objects (b ∷ env) (w ∷ placement) a m = ((a.0.0, sym m.0 ∙ a.0.1, newest_below a.0.0 env placement a.0.3 m.2), descends objects env placement a.1 m.2)
+descends objects _ _ a m = absurd m
 
 same_declared : (x : Label) (k : ℕ) → same_ordinal_label x (declared k) ≡ true → x ≡ declared k
 same_declared (declared j) k h = ap declared (eqb-true j k h)
@@ -161,7 +156,7 @@ first_match b k env first placement h m =
 
 -- names of one type
 
-one_size : (t : DeclarationTableView) (x : Label) (s : Shape) → ((k : ℕ) × (x ≡ declared k) × (declared_object_in t k ≡ Some (a_variable s))) → declared_size t x ≡ size s
+one_size : (t : DeclarationTableView) (x : Label) (s : Shape) → ((k : ℕ) × (x ≡ declared k) × (declared_object_in t k ≡ Some (a_variable s))) → declared_size t x ≡ shape_cell_count s
 one_size t x s f = ap (declared_size t) f.1 ∙ ap (λ o. optional_shape_size (type_of_object o)) f.2
 
 has_size : (t : DeclarationTableView) (x : Label) (o : Object Shape Signature) → ((k : ℕ) × (x ≡ declared k) × (declared_object_in t k ≡ Some o)) → HasSizeIfVariable (declared_size t x) o
@@ -170,7 +165,7 @@ has_size t x _ f = tt
 
 pub sizes_declared : (t : DeclarationTableView) (env : TypeEnvironment Label) → BindingsAreDeclared (declared_object_in t) env → ReturnsSizesOfVariables (declared_size t) env
 sizes_declared t [] a = tt
-sizes_declared t (b ∷ env) a = (has_size t b.0 b.1 a.0, sizes_declared t env a.1)
+sizes_declared t (b ∷ env) a = (has_size t b.0 b.1 (a.0.0, a.0.1, a.0.2), sizes_declared t env a.1)
 
 one_matches : (at : ℕ → Slot) (mode : ParameterMode) (x : Label) (n : ℕ) (s : Shape) (env : TypeEnvironment Label) (p : PlacementState Label) → PlacementMatchesEnvironment env p.placement → PlacementMatchesEnvironment ((x, a_variable s) ∷ env) (add_name_to_placement at mode x n p).placement
 one_matches at by_value x n s env p m = (refl, (at p.cells, refl), m)
@@ -204,7 +199,7 @@ section_placed t f s [] rest env p a = (refl, a)
 section_placed t f s (x ∷ xs) rest env p a =
     let head = typed_before (declared_object_in t) (of_section f s xs ++ rest) ((x, a_variable s) ∷ env) a in
     let following = section_placed t f s xs rest ((x, a_variable s) ∷ env) (add_name_to_placement (in_activation 0) (parameter_section_mode f) x (declared_size t x) p) a in
-    (ap (λ n. place_parameters (of_section f s xs ++ rest) (add_name_to_placement (in_activation 0) (parameter_section_mode f) x n p)) (sym (one_size t x s head.0)) ∙ following.0, following.1)
+    (ap (λ n. place_parameters (of_section f s xs ++ rest) (add_name_to_placement (in_activation 0) (parameter_section_mode f) x n p)) (sym (one_size t x s (head.0.0, head.0.1, head.0.2))) ∙ following.0, following.1)
 
 pub sections_placed : (t : DeclarationTableView) (fs : Tree Label (items section_after_semicolon)) (k : ℕ) (env outer : TypeEnvironment Label) (ps : List (TypedParameter Label)) (p : PlacementState Label) → typed_parameters naming_by_label env k fs ≡ Some ps → BindingsAreDeclared (declared_object_in t) (bind_typed_parameters ps outer)
     → place_parameters ps p ≡ place_parameter_sections (in_activation 0) (declared_size t) fs p
@@ -223,4 +218,4 @@ sections_placed t (more (semicolon_then_section f) fs) k env outer ps p h a =
 pub parameters_match : (ps : List (TypedParameter Label)) (env : TypeEnvironment Label) (p : PlacementState Label) → PlacementMatchesEnvironment env p.placement → PlacementMatchesEnvironment (bind_typed_parameters ps env) (place_parameters ps p).placement
 parameters_match [] env p m = m
 parameters_match (q ∷ ps) env p m =
-    parameters_match ps ((q.name, a_variable q.formal.shape) ∷ env) (add_name_to_placement (in_activation 0) q.formal.mode q.name (size q.formal.shape) p) (one_matches (in_activation 0) q.formal.mode q.name (size q.formal.shape) q.formal.shape env p m)
+    parameters_match ps ((q.name, a_variable q.formal.shape) ∷ env) (add_name_to_placement (in_activation 0) q.formal.mode q.name (shape_cell_count q.formal.shape) p) (one_matches (in_activation 0) q.formal.mode q.name (shape_cell_count q.formal.shape) q.formal.shape env p m)

@@ -12,7 +12,7 @@ use Rattle.ob0_language_types.proofs.Literals.{some_inverse}
 use Rattle.ob0_language_values.specs.Values.{Place, Shape, Value, array_shape, boolean_shape, integer_shape, number, record_shape, truth}
 use Rattle.ob0_run_machine.specs.Evaluation as machine
 use Rattle.ob0_run_machine.specs.LoweredSyntax as lowered
-use Rattle.ob0_run_cells.specs.Cells.{field_offset, size}
+use Rattle.ob0_run_cells.specs.Cells.{field_offset, shape_cell_count}
 use Rattle.ob0_run_cells.specs.LoweredStatements.{Target}
 use Rattle.ob0_run_cells.specs.LoweredExpressions.{OutcomeByMoment, PlaceStartsChain, PlaceHasOutcome, Slot, place_at_offset, place_of_designator, slot_place, value_of_expression, value_of_factor, value_of_simple_expression, value_of_term}
 use Rattle.ob0_run_cells.specs.LoweredExpressions as lowering
@@ -90,10 +90,10 @@ module _ (checked : TypeMeanings Label) (slots : Label → Slot) where
       → (p : lowered.Place) × (element_of_optional_place c (Some (found_at q z)) ≡ Some (found_at p t)) × PlaceStartsChain checked slots p t rest whole
   element-step c q (array_shape k n u) integer_shape t e rest whole leads h hc =
       let (m, em, hm) = number-code checked slots c (value_of_expression e) hc in (
-        place_of_element q m n (size u),
-        ap (λ c. element_place_with_shape c q (array_shape k n u)) em ∙ ap (λ t. Some (found_at (place_of_element q m n (size u)) t)) (some_inverse h),
-        leads-from checked slots (place_of_element q m n (size u)) (lowered.element q m n (size u) 0) t rest whole (element-same q m n (size u))
-            (subst (λ t. PlaceStartsChain checked slots (lowered.element q m n (size u) 0) t rest whole) (some_inverse h) (places.index-leads checked slots q k n u e m rest whole leads hm)),
+        place_of_element q m n (shape_cell_count u),
+        ap (λ c. element_place_with_shape c q (array_shape k n u)) em ∙ ap (λ t. Some (found_at (place_of_element q m n (shape_cell_count u)) t)) (some_inverse h),
+        leads-from checked slots (place_of_element q m n (shape_cell_count u)) (lowered.element q m n (shape_cell_count u) 0) t rest whole (element-same q m n (shape_cell_count u))
+            (subst (λ t. PlaceStartsChain checked slots (lowered.element q m n (shape_cell_count u) 0) t rest whole) (some_inverse h) (places.index-leads checked slots q k n u e m rest whole leads hm)),
       )
   element-step c q _ _ t e rest whole leads h hc = absurd (cc)
 

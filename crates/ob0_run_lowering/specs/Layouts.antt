@@ -5,7 +5,7 @@ use Rattle.std.specs.Prelude.{◌≡◌, ℕ, ◌+◌, List, [], ◌∷◌, Some
 use Rattle.std.specs.Borrow.{Bor}
 use Rattle.ob0_types_table.specs.DeclarationTableView.{faulty_shape}
 use Rattle.ob0_language_values.specs.Values.{FieldShapes, Shape, array_shape, next_field_shape, no_field_shape, record_shape}
-use Rattle.ob0_run_cells.specs.Cells.{total_field_size, size}
+use Rattle.ob0_run_cells.specs.Cells.{fields_cell_count, shape_cell_count}
 use Rattle.ob0_run_lowering.specs.declared.type_layouts.CellLayout.{CellLayout}
 use Rattle.ob0_run_lowering.specs.declared.type_layouts.CellLayout.TheVariants as layout
 use Rattle.ob0_run_lowering.specs.declared.type_layouts.RecordLayout.{RecordLayout}
@@ -14,18 +14,18 @@ use Rattle.ob0_run_lowering.specs.declared.type_layouts.RecordLayout.{RecordLayo
 -- offset `n`
 abbrev pub consecutive_field_offsets : ℕ → FieldShapes → List ℕ
 consecutive_field_offsets n no_field_shape = []
-consecutive_field_offsets n (next_field_shape x s rest) = n ∷ consecutive_field_offsets (n + size s) rest
+consecutive_field_offsets n (next_field_shape x s rest) = n ∷ consecutive_field_offsets (n + shape_cell_count s) rest
 
 -- states that the layout of a record has the number of cells of these fields, and the offset of
 -- each field
 pub record IsLayoutOfFields (fs : FieldShapes) (r : RecordLayout) : Type 0 where
-  pub cells : r.cells ≡ total_field_size fs
+  pub cells : r.cells ≡ fields_cell_count fs
   pub offsets : r.offsets.items ≡ consecutive_field_offsets 0 fs
 
 -- States that a layout is right for a type. This is never true for a type that is neither an array
 -- nor a record.
 abbrev pub IsLayoutOfType : Shape → CellLayout → Type 0
-IsLayoutOfType (array_shape k n s) (layout.Array cells) = cells ≡ size (array_shape k n s)
+IsLayoutOfType (array_shape k n s) (layout.Array cells) = cells ≡ shape_cell_count (array_shape k n s)
 IsLayoutOfType (record_shape k fs) (layout.Record r) = IsLayoutOfFields fs r
 IsLayoutOfType _ _ = ⊥
 

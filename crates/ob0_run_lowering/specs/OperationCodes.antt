@@ -15,8 +15,8 @@ use Rattle.ob0_language_types.specs.Typing.{field_type}
 use Rattle.ob0_language_types.specs.WellTyped.{TypeMeanings}
 use Rattle.ob0_language_values.specs.Values.{Shape, Value, array_shape, at_field, boolean_shape, elements, integer_shape, members, number, record_shape, truth}
 use Rattle.ob0_run_machine.specs.LoweredSyntax as lowered
-use Rattle.ob0_run_cells.specs.Cells.{size, step_offset}
-use Rattle.ob0_run_cells.specs.LoweredExpressions.{OutcomeByMoment, NumberHasOutcome, Slot, TruthHasOutcome, PlaceHoldsValue, place_at_offset, relation_of}
+use Rattle.ob0_run_cells.specs.Cells.{shape_cell_count, step_offset}
+use Rattle.ob0_run_cells.specs.LoweredExpressions.{OutcomeByMoment, NumberHasOutcome, Slot, TruthHasOutcome, PlaceHoldsValue, place_at_offset, comparator_of_relation}
 
 -- The code of an expression: a number, a truth, or the cells of an array or a record. `no_code`
 -- stands for an expression without code, which doesn't occur in a well-typed module.
@@ -36,9 +36,9 @@ abbrev pub CodeHasOutcome : TypeMeanings Label → (Label → Slot) → Expressi
 CodeHasOutcome checked slots (a_number n) integer_shape value = NumberHasOutcome checked slots n value
 CodeHasOutcome checked slots (a_truth t) boolean_shape value = TruthHasOutcome checked slots t value
 CodeHasOutcome checked slots (a_block q n) (array_shape k m s) value =
-    (n ≡ size (array_shape k m s)) × PlaceHoldsValue checked slots q (array_shape k m s) value
+    (n ≡ shape_cell_count (array_shape k m s)) × PlaceHoldsValue checked slots q (array_shape k m s) value
 CodeHasOutcome checked slots (a_block q n) (record_shape k fs) value =
-    (n ≡ size (record_shape k fs)) × PlaceHoldsValue checked slots q (record_shape k fs) value
+    (n ≡ shape_cell_count (record_shape k fs)) × PlaceHoldsValue checked slots q (record_shape k fs) value
 CodeHasOutcome checked slots _ _ value = ⊥
 
 -- A place of lowered code, and the type of the value there.
@@ -50,8 +50,8 @@ pub record PlaceWithShape : Type 0 where
 abbrev pub code_of_value_at_place : lowered.Place → Shape → ExpressionCode
 code_of_value_at_place q integer_shape = a_number (lowered.cell q)
 code_of_value_at_place q boolean_shape = a_truth (lowered.flag q)
-code_of_value_at_place q (array_shape k n s) = a_block q (size (array_shape k n s))
-code_of_value_at_place q (record_shape k fs) = a_block q (size (record_shape k fs))
+code_of_value_at_place q (array_shape k n s) = a_block q (shape_cell_count (array_shape k n s))
+code_of_value_at_place q (record_shape k fs) = a_block q (shape_cell_count (record_shape k fs))
 
 -- returns the code of the value at a place, or `no_code` for None
 abbrev pub code_of_value_at_optional_place : Option PlaceWithShape → ExpressionCode
@@ -116,7 +116,7 @@ negation_code _ = no_code
 -- Returns the code of a relation between two numbers, or of `=` or `#` between two truths. Returns
 -- `no_code` for any other operands or relation.
 abbrev pub relation_code : Relation → ExpressionCode → ExpressionCode → ExpressionCode
-relation_code r (a_number m) (a_number n) = a_truth (lowered.related (relation_of r) m n)
+relation_code r (a_number m) (a_number n) = a_truth (lowered.related (comparator_of_relation r) m n)
 relation_code relation.Equal (a_truth t) (a_truth u) = a_truth (lowered.same t u)
 relation_code relation.NotEqual (a_truth t) (a_truth u) = a_truth (lowered.different t u)
 relation_code _ _ _ = no_code
@@ -153,7 +153,7 @@ record_field_place x f =
 -- isn't a number, or the value at the place isn't an array.
 abbrev pub element_place_with_shape : ExpressionCode → lowered.Place → Shape → Option PlaceWithShape
 element_place_with_shape (a_number i) q (array_shape k n s) =
-    Some (record { place = place_of_element q i n (size s); shape = s })
+    Some (record { place = place_of_element q i n (shape_cell_count s); shape = s })
 element_place_with_shape _ _ _ = None
 
 -- Returns the place and the type of an element of the array at a place that was found. Returns None

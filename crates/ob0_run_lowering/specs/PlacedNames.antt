@@ -9,7 +9,7 @@
 -- cells, VAR parameters) has the counts of a placement so far, without its names
 -- (`FrameMatchesPlacement`).
 -- Rule: none; used in contracts of lowering.
-use Rattle.std.specs.Prelude.{◌≡◌, ℕ, zero, suc, ◌≤◌, List, [], ◌∷◌, ◌++◌, length, if◌then◌else◌, ◌==◌, Some, None, Option}
+use Rattle.std.specs.Prelude.{◌≡◌, ℕ, zero, suc, ◌≤◌, List, [], ◌∷◌, ◌++◌, length, Some, None, Option}
 use Rattle.ob0_tree.specs.Tree.{Tree, end, section_after_semicolon, items, more, semicolon_then_section}
 use Rattle.ob0_language_names.specs.Names.{Label, naming_by_label, declared}
 use Rattle.ob0_language_names.specs.BlockParts.{parameter_section_names}
@@ -20,15 +20,14 @@ use Rattle.ob0_language_types.specs.WellTyped.{Signature, TypeEnvironment, param
 use Rattle.ob0_language_values.specs.Values.{Shape}
 use Rattle.ob0_run_cells.specs.Activations.{PlacementState, Placement, BindingPlace, at_target, suffix_from_latest_binding, in_slot, nowhere}
 pub use Rattle.ob0_run_cells.specs.Activations.{add_declared_names_to_placement, place_variable_declarations}
-use Rattle.ob0_run_cells.specs.Cells.{size}
+use Rattle.ob0_run_cells.specs.Cells.{shape_cell_count}
 use Rattle.ob0_run_cells.specs.LoweredStatements.{Target}
 use Rattle.ob0_run_cells.specs.LoweredExpressions.{Slot, in_activation, in_module_activation}
+use Rattle.ob0_run_lowering.specs.DeclaredBindings.{OrdinalsDescend}
 use Rattle.ob0_run_lowering.specs.Scenes.{object_of_label, place_seen_from_depth, site_in_table}
 use Rattle.ob0_run_lowering.specs.declared.scene.LoweredSite.{LoweredSite}
 use Rattle.ob0_run_lowering.specs.declared.scene.LoweredSite.TheVariants as site
-use Rattle.ob0_run_lowering.specs.declared.visible_sites.Frame.{Frame}
-use Rattle.ob0_run_lowering.specs.declared.visible_sites.HiddenSite.{HiddenSite}
-use Rattle.ob0_run_lowering.specs.declared.visible_sites.VisibleSites.{VisibleSites}
+use Rattle.ob0_run_lowering.specs.declared.declaration_sites.Frame.{Frame}
 
 -- returns the place of the first name in a placement, or `nowhere` if the placement is empty
 abbrev pub place_of_first_binding : Placement Label → BindingPlace
@@ -77,7 +76,7 @@ PlacementMatchesEnvironment _ _ = ⊥
 -- returns the number of cells of a variable with this type, or 0 for None
 abbrev pub optional_shape_size : Option Shape → ℕ
 optional_shape_size None = 0
-optional_shape_size (Some s) = size s
+optional_shape_size (Some s) = shape_cell_count s
 
 -- returns the number of cells of the variable that a name declares, or 0 if the name has no type
 abbrev pub declared_size : DeclarationTableView → Label → ℕ
@@ -105,59 +104,39 @@ place_parameter_sections at size_of end p = p
 place_parameter_sections at size_of (more (semicolon_then_section f) fs) p =
     place_parameter_sections at size_of fs (add_declared_names_to_placement at size_of (parameter_section_mode f) (parameter_section_names f) p)
 
--- Returns the site of the ordinal `k` after the site of `ordinal` was set to `s`. `sites` returns
--- the site of each ordinal before this change.
-abbrev pub sites_after_setting_ordinal : ℕ → LoweredSite → (ℕ → LoweredSite) → ℕ → LoweredSite
-sites_after_setting_ordinal ordinal s sites k = if k == ordinal then s else sites k
+-- states that a list begins with an earlier list, because items were only added at its end
+abbrev pub GrowsTo : {A : Type 0} → List A → List A → Type 0
+GrowsTo {A} before now = (more : List A) × (now ≡ before ++ more)
 
--- Returns the site of each ordinal after the site of one ordinal was set to `s`. For None, all
--- sites are unchanged.
-abbrev pub sites_after_binding_ordinal : Option ℕ → LoweredSite → (ℕ → LoweredSite) → ℕ → LoweredSite
-sites_after_binding_ordinal None s sites = sites
-sites_after_binding_ordinal (Some ordinal) s sites = sites_after_setting_ordinal ordinal s sites
+-- States that the site `s` of the declaration with an ordinal is added at the end of the table
+-- `before`. If `before` has no entry for this ordinal, `now` has the site there, as its last entry.
+pub record AddsSite (ordinal : Option ℕ) (s : LoweredSite) (before now : List LoweredSite) : Type 0 where
+  pub grows : GrowsTo before now
+  pub added : (k : ℕ) → ordinal ≡ Some k → length before ≤ k → (length now ≡ suc k) × (site_in_table now k ≡ s)
 
--- Returns the site of each ordinal after all hidden sites were restored. The list begins with the
--- site that was hidden first.
-abbrev pub sites_after_restoring_hidden_sites : List HiddenSite → (ℕ → LoweredSite) → ℕ → LoweredSite
-sites_after_restoring_hidden_sites [] sites = sites
-sites_after_restoring_hidden_sites (h ∷ later) sites = sites_after_setting_ordinal h.ordinal h.earlier_site (sites_after_restoring_hidden_sites later sites)
-
--- states that the ordinals of all hidden sites in a list are below `n`
-abbrev pub HiddenOrdinalsAreBelowLimit : ℕ → List HiddenSite → Type 0
-HiddenOrdinalsAreBelowLimit n [] = Unit {0}
-HiddenOrdinalsAreBelowLimit n (h ∷ hs) = (suc h.ordinal ≤ n) × HiddenOrdinalsAreBelowLimit n hs
-
--- States that the table `v` results from the table `w` by hiding more sites. If these are restored
--- in `v`, each ordinal has the site that it has in `w`.
-pub record HidesMoreSites (w v : VisibleSites) : Type 0 where
-  pub more : List HiddenSite
-  pub added : v.hidden.items ≡ w.hidden.items ++ more
-  pub within : HiddenOrdinalsAreBelowLimit (length v.sites.items) more
-  pub longer : length w.sites.items ≤ length v.sites.items
-  pub restores_sites : (k : ℕ) → sites_after_restoring_hidden_sites more (site_in_table v.sites.items) k ≡ site_in_table w.sites.items k
-
--- States that restoring hidden sites leads from the table `u` to the table `v`, and undoes all
--- bindings since the table `w`. `v` has the site of each ordinal and the hidden sites of `w`, and as
--- many entries as `u`.
-abbrev pub HiddenSitesAreRestored : VisibleSites → VisibleSites → VisibleSites → Type 0
-HiddenSitesAreRestored w u v =
-    (v.hidden.items ≡ w.hidden.items)
-    × ((k : ℕ) → site_in_table v.sites.items k ≡ site_in_table w.sites.items k)
-    × (length v.sites.items ≡ length u.sites.items)
+-- states that a table of sites has no entry after the ordinal of a placement's newest name
+abbrev pub SitesEndAtNewestName : List LoweredSite → Placement Label → Type 0
+SitesEndAtNewestName sites [] = sites ≡ []
+SitesEndAtNewestName sites (b ∷ placement) = (k : ℕ) × (b.0 ≡ declared k) × (length sites ≤ suc k)
 
 -- States that a frame has the counts of a placement: the numbers of its cells and of its VAR
--- parameters. Also states that the table of sites has the places of all names of the placement.
+-- parameters. Also states that the table of sites has the places of all names of the placement, and
+-- nothing after them.
 pub record FrameMatchesPlacement (sites : List LoweredSite) (f : Frame) (p : PlacementState Label) : Type 0 where
   pub holds : SitesMatchPlacement sites f.depth p.placement
+  pub ends : SitesEndAtNewestName sites p.placement
   pub cells : f.cells ≡ p.cells
   pub var_parameters_so_far : f.var_parameter_count ≡ p.var_parameters_so_far
 
 -- States that names are added to a table of sites and to a frame. `w` and `f` are the table and the
 -- frame before, `v` and `g` are the table and the frame after. If `w` and `f` match a placement,
 -- `v` and `g` match the result of `step` on this placement.
-pub record AddsNamesToSitesAndFrame (w v : VisibleSites) (f : Frame) (step : PlacementState Label → PlacementState Label) (g : Frame)
+pub record AddsNames (w v : List LoweredSite) (f : Frame) (step : PlacementState Label → PlacementState Label) (g : Frame)
     : Type 0 where
-  pub placed : (p : PlacementState Label) → FrameMatchesPlacement w.sites.items f p → FrameMatchesPlacement v.sites.items g (step p)
-  pub follows : HidesMoreSites w v
+  pub placed : (p : PlacementState Label)
+      → OrdinalsDescend (step p).placement
+      → FrameMatchesPlacement w f p
+      → FrameMatchesPlacement v g (step p)
+  pub sites : GrowsTo w v
   pub depth : g.depth ≡ f.depth
   pub has_no_fewer_cells : f.cells ≤ g.cells

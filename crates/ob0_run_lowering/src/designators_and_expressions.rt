@@ -62,7 +62,7 @@ impl<'s, 'k, 't> Scene<'s, 'k, 't> {
     {
         match self.object_at_token(name)? {
             Object::Variable(of) => Some(*of),
-            Object::Named(_) => None,
+            Object::TypeName(_) => None,
             Object::Constant(_) => None,
             Object::FaultyConstant => None,
             Object::Procedure(_) => None,
@@ -78,7 +78,7 @@ impl<'s, 'k, 't> Scene<'s, 'k, 't> {
     {
         match self.object_at_token(name)? {
             Object::Constant(value) => Some(*value),
-            Object::Named(_) => None,
+            Object::TypeName(_) => None,
             Object::FaultyConstant => None,
             Object::Variable(_) => None,
             Object::Procedure(_) => None,

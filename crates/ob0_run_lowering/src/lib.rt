@@ -12,6 +12,7 @@
 //! code. So every tree is accepted and lowered.
 #![tactic(auto)]
 
+mod declaration_sites;
 mod designators_and_expressions;
 mod lowered_assignments;
 mod lowered_calls;
@@ -25,7 +26,6 @@ mod scene;
 mod statement_operands;
 mod statements;
 mod type_layouts;
-mod visible_sites;
 
 pub(crate) use lowered_expression::{LoweredExpression, TypedPlace};
 pub use programs::{Program, lower};

@@ -47,7 +47,7 @@ pub(crate) fn lower_call_statement(
                 *standard,
                 &c.arguments,
             ),
-            Object::Named(_) => Ok(Instruction::WriteLine),
+            Object::TypeName(_) => Ok(Instruction::WriteLine),
             Object::Constant(_) => Ok(Instruction::WriteLine),
             Object::FaultyConstant => Ok(Instruction::WriteLine),
             Object::Variable(_) => Ok(Instruction::WriteLine),

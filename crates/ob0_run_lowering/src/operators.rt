@@ -4,7 +4,7 @@ ghost use Rattle.std.specs.Prelude.{◌≡◌, IfOk, Some};
 ghost use Rattle.ob0_tree.specs.declared.tree.Sign.TheVariants as signs;
 ghost use Rattle.ob0_run_machine.specs.LoweredSyntax as machine;
 ghost use Rattle.ob0_run_machine.specs.LoweredCodeViews.{number_of, operator_of, truth_of};
-ghost use Rattle.ob0_run_cells.specs.LoweredExpressions.{relation_of};
+ghost use Rattle.ob0_run_cells.specs.LoweredExpressions.{comparator_of_relation};
 ghost use Rattle.ob0_run_machine.specs.LoweredCodeViews as view;
 ghost use Rattle.ob0_run_lowering.specs.OperationCodes as codes;
 ghost use Rattle.ob0_run_lowering.specs.CodeParts.{number_in_code, truth_in_code};
@@ -212,7 +212,7 @@ pub(crate) fn lower_negation(
 }
 
 fn comparator_of(relation: Relation) -> code::Comparator
-    ensures { view.relation_of result ≡ relation_of relation }
+    ensures { view.relation_of result ≡ comparator_of_relation relation }
 {
     match relation {
         Relation::Equal => code::Comparator::Equal,
@@ -313,7 +313,7 @@ fn lower_number_comparison(
     right: Number,
 ) -> Result<Truth, AllocError>
     ensures code { IfOk result (λ t. truth_of t
-        ≡ machine.related (relation_of relation) (number_of left) (number_of right)) }
+        ≡ machine.related (comparator_of_relation relation) (number_of left) (number_of right)) }
     ensures flat { IfOk result (λ t. (conjunction_depth t ≡ 0) × (disjunction_depth t ≡ 0)) }
 {
     let relation = comparator_of(relation);

@@ -5,7 +5,7 @@
 //! The offset of a field is found by the index of the field in the record.
 
 ghost use Rattle.std.specs.Prelude.{◌≡◌, ◌≤◌, ◌+◌, ◌*◌, ◌^◌, ℕ, IfOk, List, MatchResult, slice_index_or};
-ghost use Rattle.ob0_run_cells.specs.Cells.{field_offset, size, step_offset};
+ghost use Rattle.ob0_run_cells.specs.Cells.{field_offset, shape_cell_count, step_offset};
 ghost use Rattle.ob0_language_names.specs.Names.{Name};
 ghost use Rattle.ob0_types_table.specs.FieldPlaces.{selected_field};
 ghost use Rattle.ob0_types_table.specs.DeclarationTables.{shapes_of};
@@ -66,7 +66,7 @@ fn cell_count_product(count: usize, cells: usize) -> Result<usize, AllocError>
 fn array_cell_count(layouts: &[CellLayout], place: usize) -> usize
     ensures { (shapes : List values.Shape)
         → AreLayoutsOfTypes shapes layouts.now
-        → result ≡ size (array_shape_or_faulty (slice_index_or shapes place faulty_shape)) }
+        → result ≡ shape_cell_count (array_shape_or_faulty (slice_index_or shapes place faulty_shape)) }
 {
     match layouts.get(place) {
         None => 0,
@@ -96,7 +96,7 @@ fn record_layout_at(layouts: &[CellLayout], place: usize) -> Option<&RecordLayou
 fn record_cell_count(layouts: &[CellLayout], place: usize) -> usize
     ensures { (shapes : List values.Shape)
         → AreLayoutsOfTypes shapes layouts.now
-        → result ≡ size (record_shape_or_faulty (slice_index_or shapes place faulty_shape)) }
+        → result ≡ shape_cell_count (record_shape_or_faulty (slice_index_or shapes place faulty_shape)) }
 {
     match record_layout_at(layouts, place) {
         None => 0,
@@ -109,7 +109,7 @@ fn record_cell_count(layouts: &[CellLayout], place: usize) -> usize
 fn size_from_layouts(layouts: &[CellLayout], of: TypeId) -> usize
     ensures { (shapes : List values.Shape)
         → AreLayoutsOfTypes shapes layouts.now
-        → result ≡ size (type_shape shapes of) }
+        → result ≡ shape_cell_count (type_shape shapes of) }
 {
     match of {
         TypeId::Integer => 1,
@@ -202,7 +202,7 @@ impl<'k> TypeLayouts<'k> {
 
     /// Returns the number of cells of a type, or 0 for an unknown type.
     pub fn size(&self, of: TypeId) -> usize
-        ensures { result ≡ size (type_shape (shapes_of self.now) of) }
+        ensures { result ≡ shape_cell_count (type_shape (shapes_of self.now) of) }
     {
         size_from_layouts(self.layouts.as_slice(), of)
     }

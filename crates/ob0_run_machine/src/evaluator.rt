@@ -305,8 +305,8 @@ fn apply_operator_to_expression(
     }
 }
 
-/// Applies a link to the value of a variable. Returns the result, or the fault that ends the
-/// evaluation.
+/// Applies the operator of a `ChainLink` to the value of a variable and the link's operand. Returns
+/// the result, or the fault that ends the evaluation.
 #[inline(always)]
 pub(crate) fn evaluate_update(
     variable: Variable,

@@ -1,5 +1,5 @@
--- Proves that all tokens of the text have the same kinds as before, if the new tokens have the
--- kinds of the ones that they replace.
+-- Proves that a changed text has tokens of the same kinds as the old text, if the new tokens have
+-- the same kinds as the replaced tokens.
 use Rattle.std.proofs.Common.{◌≡◌, ℕ, ◌+◌, ◌-◌, ◌≤◌, List, [], ◌∷◌, ◌++◌, map, take, drop, refl, sym, ap, ◌∙◌, arith}
 use Rattle.std.proofs.lemmas.List.{take-append-drop, drop-drop}
 use Rattle.ob0_scan.specs.declared.lexeme.Token.{Token}

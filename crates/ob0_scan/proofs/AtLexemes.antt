@@ -1,4 +1,5 @@
--- Proves the facts about the places of tokens and comments among lexemes that both share.
+-- Proves facts about the places of tokens and comments in a list of lexemes. Tokens and comments
+-- have these facts in common, so each is proved once for both (`AtLexemes`).
 use Rattle.std.proofs.Common.{◌≡◌, ◌≢◌, ℕ, suc, ◌+◌, ◌-◌, ◌<◌, ◌≤◌, Bool, true, false, List, [], ◌∷◌, ◌++◌, length, map, take, drop, refl, sym, ap, ap₂, ◌∙◌, subst, arith, ◌⊎◌, inl, inr, ⊎_elim, append_assoc, length-append, add-zero, ltb, eqb, eqb-true, eq-eqb}
 use Rattle.std.specs.List.{All, prefix_len}
 use Rattle.std.proofs.Math.Seq.{drop-append_seam, take-append_seam}

@@ -1,5 +1,5 @@
--- Finds the lexemes that end before a place, without white space at their end, and proves at which
--- place the last of them ends.
+-- Splits off the lexemes that end before a place, except white space after the last token or
+-- comment. Proves at which offset the last of these lexemes ends.
 use Rattle.std.proofs.Common.{◌≡◌, ◌≢◌, ℕ, ◌+◌, ◌-◌, ◌<◌, ◌≤◌, List, [], ◌∷◌, ◌++◌, length, max, refl, sym, ap, ap₂, ◌∙◌, subst, arith, ◌⊎◌, inl, inr, ⊎_elim, append-nil, length-append, add-zero, ltb, Some}
 use Rattle.std.specs.List.{All, prefix_len, slice_get}
 use Rattle.std.proofs.lemmas.List.{length_push}

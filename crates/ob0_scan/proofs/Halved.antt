@@ -1,5 +1,5 @@
--- Proves that the tokens and comments of a scan are in order, so that binary search finds the ones
--- before a place.
+-- Proves that the tokens and comments of a scan are in order, so that binary search finds how many
+-- of them come before a place.
 use Rattle.std.proofs.Common.{◌≡◌, ℕ, zero, suc, ◌<◌, ◌≤◌, Bool, true, false, List, [], ◌∷◌, length, get_or, sym, subst, arith}
 use Rattle.std.specs.List.{prefix_len}
 use Rattle.std.specs.List.Sorted.{IsNonDecreasingBy, IsPartitionPoint}

@@ -1,5 +1,5 @@
--- Proves facts about the old tokens and comments that a changed text still has, and the ones
--- between them.
+-- Proves facts about the old tokens and comments that are reused in a changed text, and about the
+-- tokens and comments between the two reused parts.
 use Rattle.std.proofs.Common.{◌≡◌, ℕ, zero, suc, ◌+◌, ◌-◌, ◌<◌, ◌≤◌, get_or, set, Bool, true, false, cond, List, [], ◌∷◌, ◌++◌, length, map, take, drop, refl, sym, ap, ap₂, ◌∙◌, subst, arith, append_assoc, length-drop, length-take-le, take-append-drop, drop_at, ltb}
 use Rattle.std.specs.List.{All, prefix_len, splice}
 use Rattle.std.proofs.lemmas.List.{take-append-le, set-append_right, get_or-append_right}

@@ -1,5 +1,6 @@
--- Proves that the tokens and the identifiers of the whole text have the same spellings as before,
--- if the new tokens have the spellings of the ones that they replace.
+-- Proves that spellings in a changed text are the same as in the old text, if the new tokens have
+-- the same spellings as the replaced tokens. This is proved for all tokens, and for identifiers
+-- only.
 use Rattle.std.proofs.Common.{◌≡◌, ℕ, ◌+◌, ◌-◌, ◌≤◌, List, [], ◌∷◌, ◌++◌, map, take, drop, length, refl, sym, ap, ap₂, ◌∙◌, arith, append_assoc, length-append, ⊎_elim}
 use Rattle.std.specs.List.{All}
 use Rattle.std.proofs.lemmas.List.{take-append-drop, drop-drop, drop-take, take-take, take-map, drop-map, take_at, drop_at, length-map, length-take-le}
@@ -10,7 +11,7 @@ use Rattle.ob0_scan.specs.declared.lexeme.Token.{Token}
 use Rattle.ob0_scan.specs.declared.lexeme.TokenKind.{TokenKind}
 use Rattle.ob0_scan.specs.declared.incremental_scan.RescannedMiddle.{RescannedMiddle}
 use Rattle.ob0_scan.specs.TextWithTokens.{TextWithTokens, Word, text_in_span}
-use Rattle.ob0_scan.specs.ReusedLexemes.{ReplacesRange, name_or_empty, spellings_of_identifiers_in, words_of_tokens, span_after_shift, token_after_shift}
+use Rattle.ob0_scan.specs.ReusedLexemes.{ReplacesRange, spelling_if_identifier, spellings_of_identifiers_in, words_of_tokens, span_after_shift, token_after_shift}
 use Rattle.ob0_scan.specs.RescanState.{IsRescannedMiddle, scan_with_new_middle}
 
 -- A part that lies within the first n bytes of a text is the same part of those n bytes.
@@ -88,7 +89,7 @@ module _ {X : Type 0} (of : TokenKind → List ℕ → X) where
 pub names_stay : (old : TextWithTokens) (new : List ℕ) (from removed added : ℕ) (b : RescannedMiddle) → ReplacesRange old.text new from removed added → IsRescannedMiddle old new from removed added b
     → spellings_of_identifiers_in new b.tokens.items ≡ spellings_of_identifiers_in old.text (take (b.old_end.tokens - b.old_start.tokens) (drop b.old_start.tokens old.tokens))
     → spellings_of_identifiers_in new (scan_with_new_middle old new removed added b).tokens ≡ spellings_of_identifiers_in old.text old.tokens
-names_stay old new from removed added b r w same = written_stays name_or_empty old new from removed added b r w same
+names_stay old new from removed added b r w same = written_stays spelling_if_identifier old new from removed added b r w same
 
 pub words_stay : (old : TextWithTokens) (new : List ℕ) (from removed added : ℕ) (b : RescannedMiddle) → ReplacesRange old.text new from removed added → IsRescannedMiddle old new from removed added b
     → words_of_tokens new b.tokens.items ≡ words_of_tokens old.text (take (b.old_end.tokens - b.old_start.tokens) (drop b.old_start.tokens old.tokens))

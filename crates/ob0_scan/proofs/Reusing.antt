@@ -1,4 +1,5 @@
--- Proves that the text before a change and the text after it have the same lexemes as before.
+-- Proves that the parts of a text before and after a change have the same lexemes as in the old
+-- text.
 use Rattle.std.proofs.Common.{◌≡◌, ℕ, ◌+◌, ◌-◌, ◌<◌, ◌≤◌, List, [], ◌∷◌, ◌++◌, length, map, get_or, take, drop, refl, sym, ap, ap₂, ◌∙◌, subst, arith, ⊎_elim, append_assoc, append-nil, length-append, length-take-le, take-append-drop, drop_at, take_at, drop-drop, get_or-take, get_or-drop, add-zero, IsUtf8, IsCharBoundary}
 use Rattle.std.specs.List.{All}
 use Rattle.std.proofs.lemmas.List.{take-append-le}

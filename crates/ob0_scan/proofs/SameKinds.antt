@@ -1,4 +1,4 @@
--- Proves that the tokens before and after a change have the same kinds as before.
+-- Proves that the tokens before and after a change have the same kinds as in the old text.
 use Rattle.std.proofs.Common.{◌≡◌, ℕ, ◌+◌, ◌-◌, ◌≤◌, List, ◌++◌, map, take, drop, length, sym, ap, ◌∙◌, arith, append_assoc, length-append, length-drop}
 use Rattle.std.proofs.lemmas.List.{take-map, drop-map, take_at, drop_at, length-map, length-take-le}
 use Rattle.ob0_scan.specs.declared.lexeme.Token.{Token}

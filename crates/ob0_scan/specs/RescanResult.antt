@@ -9,10 +9,10 @@ use Rattle.ob0_scan.specs.SamePrefixAndSuffix.{PrefixAndSuffixHaveSameKinds, Pre
 
 -- States that `r` has the scan of the new text, reuses old tokens as `ReusesOldLexemes` says, and
 -- compares the tokens correctly with the old ones. If `same_kinds` is true, all tokens have the
--- same kinds as the old tokens. If `same_names` is true, the identifiers have the same spellings as
--- in the old text. If `same_words` is true, all tokens have the same kinds and spellings as the old
--- tokens. The tokens in the two parts that `same` describes always have the same kinds and
--- spellings as in the old text.
+-- same kinds as the old tokens, except that the values of integers may differ. If `same_names` is
+-- true, the identifiers have the same spellings as in the old text. If `same_words` is true, all
+-- tokens have the same kinds and spellings as the old tokens. The tokens in the two parts that
+-- `same` describes always have the same kinds and spellings as in the old text.
 pub record IsRescanOf (old : TextWithTokens) (new : List ℕ) (from removed added : ℕ) (r : RescanWithComparison)
     : Type 0 where
   pub scan : IsScanOf new r.rescan.tokens

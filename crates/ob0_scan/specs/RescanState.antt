@@ -54,9 +54,9 @@ pub record IsShiftable (removed added : ℕ) (span : Span) : Type 0 where
   pub ordered : span.start ≤ span.end
   pub small : span.end + added < 2 ^ 32
 
--- States that the scanner `s` becomes the scanner `t` by reading one lexeme, which begins at the
--- byte offset `s.at`. `t` has the tokens and comments of `s`, and also this lexeme if it is a token
--- or a comment. White space adds nothing. The scanner `s` has found no fault.
+-- States that the scanner `t` has the tokens and comments of the scanner `s`, followed by one
+-- lexeme that begins at the byte offset `s.at`. White space adds no token and no comment. The
+-- scanner `s` has found no fault.
 pub record AddsOneLexeme (s t : Scanner) : Type 0 where
   pub kind : LexemeKind
   pub len : ℕ
@@ -105,7 +105,7 @@ scan_with_new_middle old new removed added b = record {
 
 -- States that `b` has the correct middle part of the scan of the new text. The tokens and comments
 -- in `b` replace the old ones in the index ranges of `b`. The spans of all later old ones are
--- shifted. The result (`scan_with_new_middle`) must be the scan of the new text. The old tokens and
+-- shifted. The result (`scan_with_new_middle`) is the scan of the new text. The old tokens and
 -- comments that are kept are the ones that `ReusesOldLexemes` describes.
 pub record IsRescannedMiddle (old : TextWithTokens) (new : List ℕ) (from removed added : ℕ) (b : RescannedMiddle)
     : Type 0 where

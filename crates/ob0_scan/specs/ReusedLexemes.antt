@@ -17,7 +17,7 @@ pub record ReplacesRange (old new : List ℕ) (from removed added : ℕ) : Type 
   pub front : take from old ≡ take from new
   pub behind : drop (from + removed) old ≡ drop (from + added) new
 
--- Returns the kind of a token with the value of an integer set to 0. Other kinds are returned
+-- Returns a token's kind, with the value of an integer set to 0. Any other kind is returned
 -- unchanged.
 abbrev pub kind_without_value : TokenKind → TokenKind
 kind_without_value (kind.Integer value) = kind.Integer 0
@@ -29,16 +29,16 @@ token_kinds_without_values tokens = map (λ (t : Token). kind_without_value t.ki
 
 -- Returns the spelling `text` of a token if the token is an identifier, or the empty text for any
 -- other kind of token.
-abbrev pub name_or_empty : TokenKind → List ℕ → List ℕ
-name_or_empty kind.Identifier text = text
-name_or_empty (kind.Integer value) text = []
-name_or_empty (kind.ReservedWord word) text = []
-name_or_empty (kind.Symbol symbol) text = []
+abbrev pub spelling_if_identifier : TokenKind → List ℕ → List ℕ
+spelling_if_identifier kind.Identifier text = text
+spelling_if_identifier (kind.Integer value) text = []
+spelling_if_identifier (kind.ReservedWord word) text = []
+spelling_if_identifier (kind.Symbol symbol) text = []
 
 -- Returns the spellings of the identifiers among a text's tokens, in order, with an empty text for
 -- each other token.
 abbrev pub spellings_of_identifiers_in : List ℕ → List Token → List (List ℕ)
-spellings_of_identifiers_in text tokens = map (λ (t : Token). name_or_empty t.kind (text_in_span text t.span)) tokens
+spellings_of_identifiers_in text tokens = map (λ (t : Token). spelling_if_identifier t.kind (text_in_span text t.span)) tokens
 
 -- Returns the tokens of a text as words: their kinds and spellings, without their spans.
 abbrev pub words_of_tokens : List ℕ → List Token → List Word
@@ -65,11 +65,11 @@ abbrev pub comments_ending_before : ℕ → List Span → List Span
 comments_ending_before place comments =
     take (prefix_len (λ c. nat_lt c.end place) comments) comments
 
--- Returns the tokens without the leading ones that begin before the byte offset `place`.
+-- Returns the tokens without the leading tokens that begin before the byte offset `place`.
 abbrev pub tokens_beginning_at_or_after : ℕ → List Token → List Token
 tokens_beginning_at_or_after place tokens = drop (prefix_len (λ t. nat_lt t.span.start place) tokens) tokens
 
--- Returns the comments without the leading ones that begin before the byte offset `place`.
+-- Returns the comments without the leading comments that begin before the byte offset `place`.
 abbrev pub comments_beginning_at_or_after : ℕ → List Span → List Span
 comments_beginning_at_or_after place comments = drop (prefix_len (λ c. nat_lt c.start place) comments) comments
 

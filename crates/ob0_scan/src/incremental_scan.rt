@@ -3,18 +3,18 @@
 //!
 //! `rescan_in_place` takes the tokens of the old text and turns them into the tokens of the new
 //! text. If the new text has faults, the function returns the faults and the old tokens. `rescan`
-//! does the same with a copy of the old tokens. Both functions return the tokens and comments that
-//! `scan` of the new text returns. `ReusesOldLexemes` (`specs/ReusedLexemes`) says which of these
-//! are reused from the old scan:
+//! does the same with a copy of the old tokens, which it never returns. Both functions return the
+//! tokens and comments that `scan` of the new text returns. `ReusesOldLexemes`
+//! (`specs/ReusedLexemes`) says which of these are reused from the old scan:
 //! - Before the change: each token and comment that ends before it. (A token that ends right at the
 //!   change may continue with the inserted text.)
 //! - After the change, shifted by `added - removed` bytes: each token and comment that begins at a
 //!   certain place or later. This is the first place after the change at which a token or comment
 //!   begins in both texts (`MatchesNoOldLexemeAfterChange`).
 //!
-//! If `same_kinds` is true in the result, the new tokens have the same kinds as the old tokens. If
-//! `same_names` is true, the identifiers have the same spellings. If `same_words` is true, all
-//! tokens have the same kinds and spellings.
+//! If `same_kinds` is true in the result, the new tokens have the same kinds as the old tokens,
+//! except that the values of integers may differ. If `same_names` is true, the identifiers have the
+//! same spellings. If `same_words` is true, all tokens have the same kinds and spellings.
 //!
 //! Binary search finds the old tokens and comments before the change
 //! (`LexemeSlices::lexemes_ending_before`). A scanner continues at the end of the last of them.
@@ -53,11 +53,11 @@
 
 ghost use Rattle.std.specs.Prelude.{◌≡◌, ℕ, List, [], false, ◌+◌, ◌-◌, ◌<◌, ◌≤◌, true, IfOk, IfErr, OnOk, length, take, drop};
 ghost use Rattle.ob0_scan.specs.declared.lexeme.TokenKind.TheVariants.{Identifier, Integer};
-ghost use Rattle.ob0_scan.specs.declared.incremental_scan.RescanRefusal.TheVariants as rescanned;
+ghost use Rattle.ob0_scan.specs.declared.incremental_scan.RescanFailure.TheVariants as rescanned;
 ghost use Rattle.ob0_scan.specs.TextWithTokens.{IsScanOf, word_of_token, text_in_span};
-ghost use Rattle.ob0_scan.specs.ScanRefusals.{IsRightScanRefusal, IsRightRescanRefusal};
+ghost use Rattle.ob0_scan.specs.ScanRefusals.{IsRightScanRefusal, IsRightRescanFailure};
 ghost use Rattle.ob0_scan.specs.ScannerState.{IsConsistentScanner};
-ghost use Rattle.ob0_scan.specs.ReusedLexemes.{ReplacesRange, ReusesOldLexemes, token_kinds_without_values, kind_without_value, name_or_empty, spellings_of_identifiers_in, words_of_tokens};
+ghost use Rattle.ob0_scan.specs.ReusedLexemes.{ReplacesRange, ReusesOldLexemes, token_kinds_without_values, kind_without_value, spelling_if_identifier, spellings_of_identifiers_in, words_of_tokens};
 ghost use Rattle.ob0_scan.specs.SamePrefixAndSuffix.{PrefixAndSuffixHaveSameKinds, PrefixAndSuffixHaveSameWords};
 ghost use Rattle.ob0_scan.specs.RescanResult.{IsRescanOf};
 ghost use Rattle.ob0_scan.specs.RescanState.{AddsNewLexemes, RescanCanStopAt, IsRescannedMiddle};
@@ -105,8 +105,8 @@ impl RescannedMiddle {
         )
     }
 
-    /// Returns whether the new tokens have the same names as the old tokens that they replace. Both
-    /// lists must be equally long and have the same identifiers at the same indexes.
+    /// Returns whether the new tokens have the same names as the old tokens that they replace: both
+    /// lists are equally long and have identifiers with the same spellings at the same indexes.
     fn has_same_names_as_replaced_tokens(&self, new_text: &str, old: &Tokens) -> bool
         requires ordered { self.now.old_start.tokens ≤ self.now.old_end.tokens }
         requires inside { self.now.old_end.tokens ≤ length old.now.tokens }
@@ -187,8 +187,8 @@ fn have_same_names(new_text: &[u8], new: &[Token], old_text: &[u8], old: &[Token
 /// Returns whether the tokens `new` and `old` of two texts are identifiers with the same spelling.
 /// Also returns true if neither token is an identifier.
 fn is_same_name(new_text: &[u8], new: Token, old_text: &[u8], old: Token) -> bool
-    ensures { result ≡ true → name_or_empty new.kind (text_in_span new_text.now new.span)
-        ≡ name_or_empty old.kind (text_in_span old_text.now old.span) }
+    ensures { result ≡ true → spelling_if_identifier new.kind (text_in_span new_text.now new.span)
+        ≡ spelling_if_identifier old.kind (text_in_span old_text.now old.span) }
 {
     if is_identifier_kind(new.kind) {
         is_identifier_kind(old.kind) && is_same_spelling(new_text, new.span, old_text, old.span)
@@ -200,7 +200,7 @@ fn is_same_name(new_text: &[u8], new: Token, old_text: &[u8], old: Token) -> boo
 /// Returns whether a token of this kind is an identifier.
 fn is_identifier_kind(kind: TokenKind) -> bool
     ensures yes { result ≡ true → kind ≡ Identifier }
-    ensures no { result ≡ false → (text : List ℕ) → name_or_empty kind text ≡ [] }
+    ensures no { result ≡ false → (text : List ℕ) → spelling_if_identifier kind text ≡ [] }
 {
     match kind {
         TokenKind::Identifier => true,
@@ -269,18 +269,18 @@ fn is_integer_kind(kind: TokenKind) -> bool
 /// The reason why a changed text wasn't scanned: the text's faults, returned with the old tokens,
 /// or a failed allocation.
 #[derive(Debug, Drop, Error)]
-pub enum RescanRefusal {
+pub enum RescanFailure {
     #[error("faults in the text")]
     Faults(Vec<Fault>, Tokens),
     #[error("out of memory")]
     Memory,
 }
 
-impl From<AllocError> for RescanRefusal {
+impl From<AllocError> for RescanFailure {
     ghost from_gives = { λ _ e. e ≡ rescanned.Memory };
 
-    fn from(_error: AllocError) -> RescanRefusal {
-        RescanRefusal::Memory
+    fn from(_error: AllocError) -> RescanFailure {
+        RescanFailure::Memory
     }
 }
 
@@ -306,8 +306,8 @@ pub fn rescan(
     match rescan_in_place(alloc, old.copy(alloc)?, new_text, from, removed, added) {
         Ok(found) => Ok(found.rescan),
         Err(refusal) => match refusal {
-            RescanRefusal::Faults(faults, _) => Err(ScanRefusal::Faults(faults)),
-            RescanRefusal::Memory => Err(ScanRefusal::Memory),
+            RescanFailure::Faults(faults, _) => Err(ScanRefusal::Faults(faults)),
+            RescanFailure::Memory => Err(ScanRefusal::Memory),
         },
     }
 }
@@ -324,10 +324,10 @@ pub fn rescan_in_place(
     from: usize,
     removed: usize,
     added: usize,
-) -> Result<RescanWithComparison, RescanRefusal>
+) -> Result<RescanWithComparison, RescanFailure>
     requires { ReplacesRange old.text new_text.now from removed added }
     ensures ok { IfOk result (λ r. IsScanOf new_text.now r.rescan.tokens) }
-    ensures err { IfErr result (IsRightRescanRefusal old new_text.now) }
+    ensures err { IfErr result (IsRightRescanFailure old new_text.now) }
     ensures reused { IfOk result
         (λ r. ReusesOldLexemes old r.rescan.tokens from removed added r.rescan.read) }
     ensures alike { IfOk result
@@ -380,15 +380,15 @@ fn rescan_refusal(
     new_text: &str,
     change: ReplacedRange,
     refusal: ScanRefusal,
-) -> Result<RescanWithComparison, RescanRefusal>
+) -> Result<RescanWithComparison, RescanFailure>
     requires { IsRightScanRefusal new_text.now refusal }
     ensures ok { IfOk result
         (IsRescanOf old new_text.now change.from change.removed change.added) }
-    ensures err { IfErr result (IsRightRescanRefusal old new_text.now) }
+    ensures err { IfErr result (IsRightRescanFailure old new_text.now) }
 {
     match refusal {
-        ScanRefusal::Faults(faults) => Err(RescanRefusal::Faults(faults, old)),
-        ScanRefusal::Memory => Err(RescanRefusal::Memory),
+        ScanRefusal::Faults(faults) => Err(RescanFailure::Faults(faults, old)),
+        ScanRefusal::Memory => Err(RescanFailure::Memory),
     }
 }
 

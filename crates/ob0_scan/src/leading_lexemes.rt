@@ -1,4 +1,4 @@
-//! Reads the first lexeme of a text, or finds the error that the text begins with.
+//! Reads the first lexeme of a text, or the fault that the text begins with.
 
 ghost use Rattle.std.specs.Prelude.{◌≡◌, ◌≢◌, ◌<◌, ◌≤◌, ◌++◌, ◌∷◌, [], List, ℕ, length, take, IsTrue, IfSome, IfNone, SomeIff, slice_index, codes};
 ghost use Rattle.std.specs.List.{AllPass, prefix_len};

@@ -1,14 +1,14 @@
-//! Finds the tokens and comments of an older scan that lie before a change of the text, and the
-//! ones that lie after it. Replaces the tokens and comments between these two parts, and shifts the
-//! spans of the part after the change.
+//! Finds the tokens and comments of an older scan that are before a change of the text, and the
+//! tokens and comments that are after the change. Replaces the tokens and comments between these
+//! two parts, and shifts the spans of the part after the change.
 //!
 //! The two parts are found by binary search. The spans of a scan are in order (`SpansAreInOrder`),
 //! so a binary search gives the same count as a linear search (`proofs/Halved`).
 //!
 //! Spans are shifted by a loop over indexes (`for index in first..tokens.len()`). The loop's
 //! invariant is `ChangedTo`: the items from `first` up to the current index are changed, and the
-//! other items aren't. A call with `&mut items[first..]` isn't used, because the proof would have
-//! no name for the list that such a call leaves.
+//! other items aren't. A call with `&mut items[first..]` isn't used, because a proof about such a
+//! call would have no name for the whole list after it.
 
 ghost use Rattle.std.specs.Prelude.{◌≡◌, ◌+◌, ◌-◌, ◌<◌, ◌≤◌, ◌^◌, ◌||◌, ◌++◌, OnOk, length, map, take, drop, nat_lt, option_copied, string_bytes};
 ghost use Rattle.std.specs.List.{All, prefix_len};
@@ -97,8 +97,8 @@ impl<'t> LexemeSlices<'t> {
         }
     }
 
-    /// Returns the tokens and comments without the leading ones that begin before the byte offset
-    /// `offset`. Finds them by binary search.
+    /// Returns the tokens and comments without the leading tokens and comments that begin before
+    /// the byte offset `offset`. Finds these by binary search.
     pub(crate) fn lexemes_beginning_at_or_after(self, offset: usize) -> LexemeSlices<'t>
         requires { SpansAreInOrder self.tokens.now self.comments.now }
         ensures tokens { result.tokens.now ≡ tokens_beginning_at_or_after offset
@@ -114,8 +114,9 @@ impl<'t> LexemeSlices<'t> {
         }
     }
 
-    /// Returns the tokens and comments without the leading ones that begin before the byte offset
-    /// `offset`. Visits the skipped ones one by one, so this is fast only if they are few.
+    /// Returns the tokens and comments without the leading tokens and comments that begin before
+    /// the byte offset `offset`. Visits these one by one, so the function is fast only if they are
+    /// few.
     pub(crate) fn skip_lexemes_before(self, offset: usize) -> LexemeSlices<'t>
         ensures tokens { result.tokens.now ≡ tokens_beginning_at_or_after offset
             self.entry.tokens.now }

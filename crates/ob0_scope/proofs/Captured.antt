@@ -6,7 +6,7 @@ use Rattle.ob0_tree.specs.Tree.{Tree, module_text}
 use Rattle.ob0_scope.specs.declared.name_conflicts.FirstConflict as reported
 use Rattle.ob0_scope.specs.declared.name_conflicts.FirstConflict.TheVariants as reports
 use Rattle.ob0_language_names.specs.Names.{Name, same_name}
-use Rattle.ob0_language_names.specs.Occurrences.{IsFreeName, at_declaration, at_occurrence, bindings, scopes_in_block, declares_ordinal, first_name_conflict, first_binding_difference, is_duplicate_name, another_declaration_has_name}
+use Rattle.ob0_language_names.specs.Occurrences.{IsFreeName, at_declaration, at_occurrence, labels_of_occurrences, scopes_in_block, declares_ordinal, first_name_conflict, first_binding_difference, is_duplicate_name, another_declaration_has_name}
 use Rattle.ob0_language_names.specs.BlockParts.{module_block}
 use Rattle.ob0_scope.specs.Renames.{namesake_ordinal, namesake_in_scopes, other_declaration_with_name, conflict_of}
 use Rattle.ob0_language_names.specs.Scopes.{Scope, renamed}
@@ -39,14 +39,14 @@ duplicate_is m d new o e = sym (namesake_is (scopes_in_block 7 [] (module_block 
 
 pub captured_there : (m : Tree Name module_text) (d : ℕ) (new : Name) (other : ℕ) → Some other ≡ namesake_ordinal m d new → Some at_declaration ≡ first_name_conflict m d new
 captured_there m d new other e =
-    sym (ap (λ b. if b then Some at_declaration else option_map at_occurrence (first_binding_difference (bindings (renamed m d new)) (bindings m))) (duplicate_is m d new (Some other) e))
+    sym (ap (λ b. if b then Some at_declaration else option_map at_occurrence (first_binding_difference (labels_of_occurrences (renamed m d new)) (labels_of_occurrences m))) (duplicate_is m d new (Some other) e))
 
 pub captured_later : (m : Tree Name module_text) (d : ℕ) (new : Name) (found : Option reported.FirstConflict) → None ≡ namesake_ordinal m d new
-    → found ≡ option_map reports.Occurrence (first_binding_difference (bindings (renamed m d new)) (bindings m)) → option_map conflict_of found ≡ first_name_conflict m d new
+    → found ≡ option_map reports.Occurrence (first_binding_difference (labels_of_occurrences (renamed m d new)) (labels_of_occurrences m)) → option_map conflict_of found ≡ first_name_conflict m d new
 captured_later m d new found e f =
     ap (option_map conflict_of) f
-    ∙ (placed (first_binding_difference (bindings (renamed m d new)) (bindings m))
-    ∙ sym (ap (λ b. if b then Some at_declaration else option_map at_occurrence (first_binding_difference (bindings (renamed m d new)) (bindings m))) (duplicate_is m d new None e)))
+    ∙ (placed (first_binding_difference (labels_of_occurrences (renamed m d new)) (labels_of_occurrences m))
+    ∙ sym (ap (λ b. if b then Some at_declaration else option_map at_occurrence (first_binding_difference (labels_of_occurrences (renamed m d new)) (labels_of_occurrences m))) (duplicate_is m d new None e)))
   where
     placed : (o : Option ℕ) → option_map conflict_of (option_map reports.Occurrence o) ≡ option_map at_occurrence o
     placed None = refl

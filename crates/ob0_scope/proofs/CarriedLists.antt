@@ -4,6 +4,7 @@ use Rattle.std.proofs.Math.ListN.{get_or-append}
 use Rattle.std.proofs.Math.Nat.{min-eq_left}
 use Rattle.std.proofs.Math.Seq.{get_or-append_right}
 use Rattle.std.proofs.lemmas.List.{get_or-drop, length-replicate}
+use Rattle.ob0_scan.specs.declared.tokens.CommonPrefixAndSuffix.{CommonPrefixAndSuffix}
 use Rattle.ob0_tree.specs.declared.tree.Role.{Role}
 use Rattle.ob0_tree.specs.declared.tree.Role.TheVariants as role
 use Rattle.ob0_tree.specs.IdentifierIndexes.{AreAscendingWithin, names_without_roles}
@@ -215,43 +216,43 @@ module _ (range : BodyRange) where
       ∙ ((λ i. first i ++ (pick others ++ last i))
       ∙ sym (p.joined before (others ++ map (beside_role far) after) ∙ ap (λ z. pick before ++ z) (p.joined others (map (beside_role far) after) ∙ ap (λ z. pick others ++ z) (p.renamed far after))))
 
-  -- ---- the table
+-- ---- the table
 
-  module _ (table : List (Option ℕ)) (less : range.first ≤ range.closing) where
-    abbrev front : List (Option ℕ)
-    front = take range.first table
+module _ (same : CommonPrefixAndSuffix) (table : List (Option ℕ)) (less : same.prefix ≤ same.new_suffix) where
+  abbrev front : List (Option ℕ)
+  front = take same.prefix table
 
-    front_short : length front ≤ range.first
-    front_short = take_short range.first table
+  front_short : length front ≤ same.prefix
+  front_short = take_short same.prefix table
 
-    abbrev filler : List (Option ℕ)
-    filler = replicate (range.closing - length front) None
+  abbrev filler : List (Option ℕ)
+  filler = replicate (same.new_suffix - length front) None
 
-    filler_long : length filler ≡ range.closing - length front
-    filler_long = length-replicate (range.closing - length front) (let nothing : Option ℕ = None in nothing)
+  filler_long : length filler ≡ same.new_suffix - length front
+  filler_long = length-replicate (same.new_suffix - length front) (let nothing : Option ℕ = None in nothing)
 
-    table_is : ordinals_in_changed_text range table ≡ (front ++ filler) ++ drop range.old_closing table
-    table_is = ap (λ z. (z ++ filler) ++ drop range.old_closing table) (take_all range.closing front (omega (arith, front_short, less)))
+  table_is : ordinals_in_changed_text same table ≡ (front ++ filler) ++ drop same.old_suffix table
+  table_is = ap (λ z. (z ++ filler) ++ drop same.old_suffix table) (take_all same.new_suffix front (omega (arith, front_short, less)))
 
-    filled_long : length (front ++ filler) ≡ range.closing
-    filled_long = omega (arith, length-append front filler, filler_long, front_short, less)
+  filled_long : length (front ++ filler) ≡ same.new_suffix
+  filled_long = omega (arith, length-append front filler, filler_long, front_short, less)
 
-    pub table_before : (i : ℕ) → i < range.first → ordinal_in (ordinals_in_changed_text range table) i ≡ ordinal_in table i
-    table_before i h =
-        ap (λ (t : List (Option ℕ)). ordinal_in t i) table_is
-        ∙ (get_or-append (front ++ filler) (drop range.old_closing table) None i (omega (arith, h, filled_long, less))
-        ∙ reads_first range.first (range.closing - length front) table i h)
+  pub table_before : (i : ℕ) → i < same.prefix → ordinal_in (ordinals_in_changed_text same table) i ≡ ordinal_in table i
+  table_before i h =
+      ap (λ (t : List (Option ℕ)). ordinal_in t i) table_is
+      ∙ (get_or-append (front ++ filler) (drop same.old_suffix table) None i (omega (arith, h, filled_long, less))
+      ∙ reads_first same.prefix (same.new_suffix - length front) table i h)
 
-    pub table_within : (i : ℕ) → range.first ≤ i → i < range.closing → ordinal_in (ordinals_in_changed_text range table) i ≡ None
-    table_within i h k =
-        ap (λ (t : List (Option ℕ)). ordinal_in t i) table_is
-        ∙ (get_or-append (front ++ filler) (drop range.old_closing table) None i (omega (arith, k, filled_long))
-        ∙ (get_or-append_right front filler i None (omega (arith, h, front_short))
-        ∙ none_at (range.closing - length front) (i - length front)))
+  pub table_within : (i : ℕ) → same.prefix ≤ i → i < same.new_suffix → ordinal_in (ordinals_in_changed_text same table) i ≡ None
+  table_within i h k =
+      ap (λ (t : List (Option ℕ)). ordinal_in t i) table_is
+      ∙ (get_or-append (front ++ filler) (drop same.old_suffix table) None i (omega (arith, k, filled_long))
+      ∙ (get_or-append_right front filler i None (omega (arith, h, front_short))
+      ∙ none_at (same.new_suffix - length front) (i - length front)))
 
-    pub table_after : (i : ℕ) → range.closing ≤ i → ordinal_in (ordinals_in_changed_text range table) i ≡ ordinal_in table (range.old_closing + (i - range.closing))
-    table_after i h =
-        ap (λ (t : List (Option ℕ)). ordinal_in t i) table_is
-        ∙ (get_or-append_right (front ++ filler) (drop range.old_closing table) i None (omega (arith, h, filled_long))
-        ∙ (ap (λ n. get_or (drop range.old_closing table) (i - n) None) filled_long
-        ∙ get_or-drop range.old_closing table (i - range.closing) None))
+  pub table_after : (i : ℕ) → same.new_suffix ≤ i → ordinal_in (ordinals_in_changed_text same table) i ≡ ordinal_in table (same.old_suffix + (i - same.new_suffix))
+  table_after i h =
+      ap (λ (t : List (Option ℕ)). ordinal_in t i) table_is
+      ∙ (get_or-append_right (front ++ filler) (drop same.old_suffix table) i None (omega (arith, h, filled_long))
+      ∙ (ap (λ n. get_or (drop same.old_suffix table) (i - n) None) filled_long
+      ∙ get_or-drop same.old_suffix table (i - same.new_suffix) None))

@@ -1,7 +1,7 @@
 -- Proves that a first capture exists exactly if the new name isn't free.
 use Rattle.std.proofs.Common.{List, None, Option, Some, [], ap, arith, eq-eqb, eqb-true, false, if◌then◌else◌, length, option_map, refl, suc, sym, true, ℕ, ◌∙◌, ◌∷◌, ◌≡◌}
 use Rattle.ob0_tree.specs.Tree.{Tree, module_text}
-use Rattle.ob0_language_names.specs.Occurrences.{IsFreeName, at_declaration, at_occurrence, bindings, first_binding_difference, is_duplicate_name, same_binding}
+use Rattle.ob0_language_names.specs.Occurrences.{IsFreeName, at_declaration, at_occurrence, labels_of_occurrences, first_binding_difference, is_duplicate_name, same_binding}
 use Rattle.ob0_language_names.specs.RenamingLaws.{NameIsFreeIffNoConflict}
 use Rattle.ob0_language_names.specs.Scopes.{label_from_ordinal, renamed, same_ordinal}
 use Rattle.ob0_language_names.proofs.OccurrenceNames.{as_many-module}
@@ -37,7 +37,7 @@ no_difference-refl [] = refl
 no_difference-refl (a ∷ as₁) =
     ap (λ v. if v then option_map suc (first_binding_difference as₁ as₁) else Some 0) (same_binding-refl a) ∙ ap (option_map suc) (no_difference-refl as₁)
 
-pub as_many-bindings : (m : Tree Name module_text) (d : ℕ) (new : Name) → length (bindings (renamed m d new)) ≡ length (bindings m)
+pub as_many-bindings : (m : Tree Name module_text) (d : ℕ) (new : Name) → length (labels_of_occurrences (renamed m d new)) ≡ length (labels_of_occurrences m)
 as_many-bindings m d new =
     as_many-module naming_by_spelling (label_from_ordinal naming_by_spelling) (renamed m d new)
     ∙ (as_many-module naming_by_spelling (λ ordinal x. if same_ordinal ordinal d then new else x) m ∙ sym (as_many-module naming_by_spelling (label_from_ordinal naming_by_spelling) m))
@@ -48,10 +48,10 @@ no_occurrence (Some k) h = absurd (cc)
 
 pub name_is_free_iff_no_conflict-holds : NameIsFreeIffNoConflict
 name_is_free_iff_no_conflict-holds m d new = (
-  (elim (is_duplicate_name m d new) as (λ v. is_duplicate_name m d new ≡ v → (if v then Some at_declaration else option_map at_occurrence (first_binding_difference (bindings (renamed m d new)) (bindings m))) ≡ None → IsFreeName m d new) [
+  (elim (is_duplicate_name m d new) as (λ v. is_duplicate_name m d new ≡ v → (if v then Some at_declaration else option_map at_occurrence (first_binding_difference (labels_of_occurrences (renamed m d new)) (labels_of_occurrences m))) ≡ None → IsFreeName m d new) [
     | true ↦ λ e h. absurd (cc)
-    | false ↦ λ e h. (e, no_difference (bindings (renamed m d new)) (bindings m) (as_many-bindings m d new) (no_occurrence (first_binding_difference (bindings (renamed m d new)) (bindings m)) h))
+    | false ↦ λ e h. (e, no_difference (labels_of_occurrences (renamed m d new)) (labels_of_occurrences m) (as_many-bindings m d new) (no_occurrence (first_binding_difference (labels_of_occurrences (renamed m d new)) (labels_of_occurrences m)) h))
   ]) refl,
-  λ free. ap (λ v. if v then Some at_declaration else option_map at_occurrence (first_binding_difference (bindings (renamed m d new)) (bindings m))) free.0
-      ∙ ap (option_map at_occurrence) (ap (λ l. first_binding_difference l (bindings m)) free.1 ∙ no_difference-refl (bindings m)),
+  λ free. ap (λ v. if v then Some at_declaration else option_map at_occurrence (first_binding_difference (labels_of_occurrences (renamed m d new)) (labels_of_occurrences m))) free.0
+      ∙ ap (option_map at_occurrence) (ap (λ l. first_binding_difference l (labels_of_occurrences m)) free.1 ∙ no_difference-refl (labels_of_occurrences m)),
 )

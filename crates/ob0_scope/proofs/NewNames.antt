@@ -11,7 +11,7 @@ use Rattle.ob0_tree.specs.Tree.{Sort, Tree, mapped_leaves, mapped_tree, occurren
 use Rattle.ob0_tree.proofs.Mapped.{mapped_twice}
 use Rattle.ob0_language_names.specs.MappedNames.{map_names}
 use Rattle.ob0_language_names.specs.Names.{Label, Name, naming_by_spelling, as_written, declared, same_name}
-use Rattle.ob0_language_names.specs.Occurrences.{IsFreeName, bindings, scopes_in_block, scopes_in_procedure, scopes_in_procedure_list, declares_ordinal, another_declaration_has_name}
+use Rattle.ob0_language_names.specs.Occurrences.{IsFreeName, labels_of_occurrences, scopes_in_block, scopes_in_procedure, scopes_in_procedure_list, declares_ordinal, another_declaration_has_name}
 use Rattle.ob0_language_names.specs.BlockParts.{constant_names, formal_parameter_names, formal_parameter_sections, names_after_first, declared_type_names, names_in_list, procedure_name, section_constants, parameter_section_names, section_types, section_variables, variable_names}
 use Rattle.ob0_language_names.specs.Scopes.{Labelling, Scope, ordinal_after_names, ordinal_after_procedure, label_from_ordinal, body_scope, declare_names, declare_procedure_names, first_procedure_ordinal, first_type_ordinal, first_variable_ordinal, labels_of_declared_names, label_in_scope, ordinal_in_scope, predeclared_scope, scope_before_procedures, relabel_block, relabel_constant_section, relabel_constants, relabel_formals, relabel_names, relabel_procedure, relabel_procedure_list, relabel_parameter_section, relabel_parameter_section_list, relabel_type_section, relabel_types, relabel_uses, relabel_variable_section, relabel_variables, renamed, same_ordinal, scope_before_types, scope_before_variables}
 use Rattle.ob0_language_names.proofs.DistinctNames.{new_name}
@@ -338,7 +338,7 @@ module _ (d : ℕ) (new : Name) (f : ℕ → Name) (g : ℕ → ℕ) (fresh : (i
   agrees_predeclared h y fy =
       ap (λ b. ordinal_in_scope naming_by_spelling (predeclared_scope naming_by_spelling) (if b then new else y)) (bound_to_others (predeclared_scope naming_by_spelling) (other_scope h) y)
 
-  bindings_same : 7 ≤ d → (m : Tree ℕ module_text) → bindings (renamed (mapped_tree f g m) d new) ≡ bindings (mapped_tree f g m)
+  bindings_same : 7 ≤ d → (m : Tree ℕ module_text) → labels_of_occurrences (renamed (mapped_tree f g m) d new) ≡ labels_of_occurrences (mapped_tree f g m)
   bindings_same h (forms_module x b closing) =
       let scope : Scope Name = predeclared_scope naming_by_spelling in
       ap occurrences (λ i. forms_module (as_written (f x)) (block_same scope scope 7 7 refl (agrees_predeclared h) b i) (as_written (f closing)))

@@ -7,13 +7,11 @@ use Rattle.ob0_scan.specs.declared.lexeme.Span.{Span}
 use Rattle.ob0_scan.specs.declared.lexeme.Token.{Token}
 use Rattle.ob0_scan.specs.declared.lexeme.TokenKind.{TokenKind}
 use Rattle.ob0_scan.specs.declared.lexeme.TokenKind.TheVariants as kind
-use Rattle.ob0_tree.proofs.Leaves.{leaves_parsed, leaves_spelled, lexeme_names}
-use Rattle.ob0_tree.proofs.Mapped.{spell_mapped}
-use Rattle.ob0_tree.specs.Terminals.{EndOfText, Terminal, WordOrSymbol, Name, Number, mapped_terminal}
+use Rattle.ob0_tree.proofs.Leaves.{leaves_parsed}
 use Rattle.ob0_tree.specs.IdentifierIndexes.{index_if_identifier, identifier_indexes_from, identifier_names, names_without_roles}
 use Rattle.ob0_tree.specs.ParsedModule.{tree_of}
 use Rattle.ob0_tree.specs.TokenIndexLeaves.{token_text_at, token_value_at}
-use Rattle.ob0_tree.specs.Tree.{Sort, Tree, identifiers, mapped_tree, spell}
+use Rattle.ob0_tree.specs.Tree.{identifiers}
 use Rattle.ob0_tree.specs.declared.tree.Role.{Role}
 use Rattle.ob0_tree.specs.declared.tree.Role.TheVariants as role
 use Rattle.ob0_tree.proofs.MappedIdentifiers.{leaves_mapped}

@@ -6,7 +6,7 @@ use Rattle.ob0_tree.specs.ParsedModule.{named_tree_of, tree_of}
 use Rattle.ob0_tree.specs.TokenIndexLeaves.{token_text_at, token_value_at}
 use Rattle.ob0_tree.specs.Tree.{mapped_tree, occurrences}
 use Rattle.ob0_language_names.specs.Names.{Label, Name, naming_by_spelling, as_written}
-use Rattle.ob0_language_names.specs.Occurrences.{bindings, first_binding_difference, label_ordinal, same_binding}
+use Rattle.ob0_language_names.specs.Occurrences.{labels_of_occurrences, first_binding_difference, label_ordinal, same_binding}
 use Rattle.ob0_scope.specs.Renames.{AreOrdinalsAfterRename, have_same_binding, spellings_after_rename}
 use Rattle.ob0_scope_table.specs.Resolution.{IsResolution, Resolution, ordinal_and_spelling_at_token, label_from_table, ordinal_in, ordinal_and_spelling}
 use Rattle.ob0_language_names.specs.Scopes.{label_from_ordinal, numbered, renamed, same_ordinal}
@@ -42,7 +42,7 @@ renumbered r d new v ordinals is gone tabled =
 
 -- The bindings of the renamed module are the table's labels at the occurrences.
 renamed_bindings : (r : Resolution) (d : ℕ) (new : Name) (ordinals : List (Option ℕ)) → IsResolution r → AreOrdinalsAfterRename r d new ordinals
-    → bindings (renamed (named_tree_of r.module_read) d new) ≡ map (λ i. label_from_ordinal naming_by_spelling (ordinal_in ordinals i) (spelling_at_token (spellings_after_rename r d new) i)) r.uses
+    → labels_of_occurrences (renamed (named_tree_of r.module_read) d new) ≡ map (λ i. label_from_ordinal naming_by_spelling (ordinal_in ordinals i) (spelling_at_token (spellings_after_rename r d new) i)) r.uses
 renamed_bindings r d new ordinals is numbering =
     let m = r.module_read in
     let label : ℕ → Label = λ i. label_from_ordinal naming_by_spelling (ordinal_in ordinals i) (spelling_at_token (spellings_after_rename r d new) i) in
@@ -58,7 +58,7 @@ ordinals_back written ordinals (i ∷ is) = λ j. back (ordinal_in ordinals i) (
 
 -- The table has the ordinals to which the occurrences are bound in the renamed module.
 pub ordinals_renamed : (r : Resolution) (d : ℕ) (new : Name) (ordinals : List (Option ℕ)) → IsResolution r → AreOrdinalsAfterRename r d new ordinals
-    → map (ordinal_in ordinals) r.uses ≡ map label_ordinal (bindings (renamed (named_tree_of r.module_read) d new))
+    → map (ordinal_in ordinals) r.uses ≡ map label_ordinal (labels_of_occurrences (renamed (named_tree_of r.module_read) d new))
 ordinals_renamed r d new ordinals is numbering =
     sym (ap (map label_ordinal) (renamed_bindings r d new ordinals is numbering) ∙ ordinals_back (spelling_at_token (spellings_after_rename r d new)) ordinals r.uses)
 
@@ -94,7 +94,7 @@ first_by_index d new text ordinals old k (i ∷ is) =
     one false rest e = ap Some (omega arith)
 
 pub first_changed_is : (r : Resolution) (d : ℕ) (new : Name) (ordinals : List (Option ℕ)) → IsResolution r → AreOrdinalsAfterRename r d new ordinals
-    → position_from (λ i. not (have_same_binding (ordinal_in ordinals i) (ordinal_in r.ordinals i))) 0 r.uses ≡ first_binding_difference (bindings (renamed (named_tree_of r.module_read) d new)) (bindings (named_tree_of r.module_read))
+    → position_from (λ i. not (have_same_binding (ordinal_in ordinals i) (ordinal_in r.ordinals i))) 0 r.uses ≡ first_binding_difference (labels_of_occurrences (renamed (named_tree_of r.module_read) d new)) (labels_of_occurrences (named_tree_of r.module_read))
 first_changed_is r d new ordinals is numbering =
     let m = r.module_read in
     let here = bindings_by_table m r.ordinals is.numbering ∙ ap (map (label_from_table m.source r.ordinals)) (sym is.occurring) in

@@ -2,12 +2,12 @@
 -- tree are in no scope, so the facts about each part hold for any numbers. The table of the old
 -- text has all marks of its module, so it numbers the new one. If all tokens have the same
 -- spellings, the faults of names are also the same.
-use Rattle.std.proofs.Common.{◌≡◌, ◌<◌, ℕ, zero, suc, not, Option, List, [], ◌∷◌, ◌++◌, length, drop, get_or, slice_get, refl, sym, ap, ◌∙◌, subst, arith}
+use Rattle.std.proofs.Common.{◌≡◌, ◌<◌, ℕ, zero, suc, not, List, [], ◌∷◌, ◌++◌, length, drop, get_or, slice_get, refl, sym, ap, ◌∙◌, subst, arith}
 use Rattle.std.specs.List.{HoldsAt, filter, list_any}
 use Rattle.ob0_scan.specs.declared.lexeme.Token.{Token}
 use Rattle.ob0_scan.specs.declared.lexeme.TokenKind.{TokenKind}
 use Rattle.ob0_scan.specs.declared.lexeme.TokenKind.TheVariants as kind
-use Rattle.ob0_scan.specs.ReusedLexemes.{token_kinds_without_values, name_or_empty, spellings_of_identifiers_in, kind_without_value}
+use Rattle.ob0_scan.specs.ReusedLexemes.{token_kinds_without_values, spelling_if_identifier, spellings_of_identifiers_in, kind_without_value}
 use Rattle.ob0_scan.specs.TextWithTokens.{TextWithTokens, text_in_span}
 use Rattle.ob0_tree.specs.declared.tree.ModuleTree.{ModuleTree}
 use Rattle.ob0_tree.specs.declared.tree.Role.{Role}
@@ -22,7 +22,7 @@ use Rattle.ob0_scope_table.proofs.SameWords.{same_named_tree, same_texts, same_v
 use Rattle.ob0_language_names.specs.ConsistentNames.{has_consistent_names}
 use Rattle.ob0_scope_table.specs.DuplicatesAndEndNames.{declaration_faults, tree_declaration_faults}
 use Rattle.ob0_language_names.specs.Names.{Name, naming_by_spelling}
-use Rattle.ob0_language_names.specs.Occurrences.{bindings}
+use Rattle.ob0_language_names.specs.Occurrences.{labels_of_occurrences}
 use Rattle.ob0_scope_table.specs.Resolution.{AreNameFaultsOf, IsNumberingTable, IsResolution, is_duplicate_or_end_name_fault, is_undeclared_fault, ordinal_in, undeclared_faults_from_labels, undeclared_faults_from_table, ordinal_and_spelling}
 use Rattle.ob0_language_names.specs.Scopes.{Labelling, label_from_ordinal, numbered, relabel_module}
 use Rattle.ob0_scope_table.specs.declared.resolved.Bindings.{Bindings}
@@ -44,10 +44,10 @@ is_identifier (kind.Integer value) e = absurd (cc)
 is_identifier (kind.ReservedWord word) e = absurd (cc)
 is_identifier (kind.Symbol symbol) e = absurd (cc)
 
-same_text : (u t : Token) (x y : List ℕ) → kind_without_value u.kind ≡ kind_without_value t.kind → t.kind ≡ kind.Identifier → name_or_empty u.kind x ≡ name_or_empty t.kind y → x ≡ y
+same_text : (u t : Token) (x y : List ℕ) → kind_without_value u.kind ≡ kind_without_value t.kind → t.kind ≡ kind.Identifier → spelling_if_identifier u.kind x ≡ spelling_if_identifier t.kind y → x ≡ y
 same_text u t x y k e n =
     let other : u.kind ≡ kind.Identifier = is_identifier u.kind (k ∙ ap kind_without_value e) in
-    sym (ap (λ z. name_or_empty z x) other) ∙ (n ∙ ap (λ z. name_or_empty z y) e)
+    sym (ap (λ z. spelling_if_identifier z x) other) ∙ (n ∙ ap (λ z. spelling_if_identifier z y) e)
 
 texts : (a b : List ℕ) (ts us : List Token) (i : ℕ) → token_kinds_without_values us ≡ token_kinds_without_values ts → spellings_of_identifiers_in b us ≡ spellings_of_identifiers_in a ts → i < length ts → HoldsAt (λ (t : Token). t.kind ≡ kind.Identifier) ts i → token_text_or_empty b (slice_get us i) ≡ token_text_or_empty a (slice_get ts i)
 texts a b [] us i k n less h = absurd (omega (arith, less))
@@ -128,8 +128,8 @@ bindings_depend_only_on_spellings old new tree b same parsed r =
       declaring = r.declaring;
       occurring = r.occurring;
       reported = record {
-        by_kind = r.reported.by_kind ∙ (λ i. tree_declaration_faults (texts i) read ++ undeclared_faults_from_labels (occurrences read) (bindings (named i)));
+        by_kind = r.reported.by_kind ∙ (λ i. tree_declaration_faults (texts i) read ++ undeclared_faults_from_labels (occurrences read) (labels_of_occurrences (named i)));
         declared_twice = r.reported.declared_twice ∙ ap (λ t. not (has_consistent_names t)) named;
-        undeclared = r.reported.undeclared ∙ ap (λ t. undeclared_faults_from_labels (occurrences read) (bindings t)) named;
+        undeclared = r.reported.undeclared ∙ ap (λ t. undeclared_faults_from_labels (occurrences read) (labels_of_occurrences t)) named;
       };
     }

@@ -76,7 +76,7 @@ map-append₄ f a b c d =
     (λ i. map f a ++ (map f b ++ sym (map-append f c d) i))
     ∙ ((λ i. map f a ++ sym (map-append f b (c ++ d)) i) ∙ sym (map-append f a (b ++ (c ++ d))))
 
-block-with : {N M : Type 0} (f : N → M) (g : ℕ → ℕ) (b : Tree N block) → names_declared_in_block (mapped_tree f g b) ≡ map f (names_declared_in_block b)
+pub block-with : {N M : Type 0} (f : N → M) (g : ℕ → ℕ) (b : Tree N block) → names_declared_in_block (mapped_tree f g b) ≡ map f (names_declared_in_block b)
 block-with f g (forms_block (declares cs ts vs ps) statements) =
     (λ i. constant_section-with f g cs i ++ (type_section-with f g ts i ++ (variable_section-with f g vs i ++ procedures-with f g ps i)))
     ∙ map-append₄ f (constant_names (section_constants cs)) (declared_type_names (section_types ts)) (variable_names (section_variables vs)) (procedure_names ps)

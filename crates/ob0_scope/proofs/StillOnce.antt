@@ -1,6 +1,6 @@
 -- Proves that if the statements of one body were replaced or changed, names are declared once
 -- exactly if they were before. A body declares nothing.
-use Rattle.std.proofs.Common.{◌≡◌, ℕ, zero, suc, Bool, true, false, not, ◌&&◌, ◌||◌, List, [], ◌∷◌, ◌++◌, length, refl, sym, ap, ◌∙◌}
+use Rattle.std.proofs.Common.{◌≡◌, ℕ, zero, suc, Bool, true, false, not, ◌&&◌, ◌||◌, List, [], ◌∷◌, ◌++◌, refl, sym, ap, ◌∙◌}
 use Rattle.std.specs.List.{list_any}
 use Rattle.ob0_scan.specs.declared.tokens.CommonPrefixAndSuffix.{CommonPrefixAndSuffix}
 use Rattle.ob0_scan.specs.TextWithTokens.{TextWithTokens}
@@ -12,13 +12,11 @@ use Rattle.ob0_language_names.specs.Names.{Name, same_name}
 use Rattle.ob0_language_names.specs.BlockParts.{constant_names, formal_parameter_names, formal_parameter_sections, declared_type_names, procedure_name, section_constants, section_types, section_variables, variable_names}
 use Rattle.ob0_scope_table.specs.BodyReplacement.{ReplacesStatementsOfOneBody, PathToBody, block_without_body, procedure_without_body, procedure_list_without_body, path_to_body_in_module, module_without_body}
 use Rattle.ob0_scope_table.specs.DuplicatesAndEndNames.{declaration_faults}
-use Rattle.ob0_scope_table.specs.SpellingChangesInOneBody.{ChangesSpellingsInOneBody, is_outside_range}
+use Rattle.ob0_scope_table.specs.SpellingChangesInOneBody.{ChangesSpellingsInOneBody}
 use Rattle.ob0_scope_table.specs.Resolution.{is_duplicate_or_end_name_fault}
 use Rattle.ob0_scope_table.specs.declared.faults.FaultAtTokens.{FaultAtTokens}
-use Rattle.ob0_scope_table.proofs.BodyOutside.{module_outside}
-use Rattle.ob0_scope_table.proofs.BodyReplacement.{names_outside, text_by_word, value_by_word, without_mapped}
-use Rattle.ob0_scope_table.proofs.MappedAlike.{mapped_alike}
-use Rattle.ob0_scope_table.proofs.Placed.{places_ascend}
+use Rattle.ob0_scope_table.proofs.BodyReplacement.{names_outside, without_mapped}
+use Rattle.ob0_scope.proofs.BodyChanges.{names_kept}
 use Rattle.ob0_scope.proofs.TwiceOnce.{twice_alone, twice_where}
 use Rattle.ob0_scope.proofs.WithoutRelabelled.{name_without}
 
@@ -62,12 +60,7 @@ pub still_once : (old new : ParsedModule) (path : PathToBody) (s : CommonPrefixA
 still_once old new path s r = once_outside path new.source old.source (tree_of new) (tree_of old) (names_outside old new path s r)
 
 pub still_once_written : (old : TextWithTokens) (m : ParsedModule) (low high : ℕ) → TreeMatchesText m → ChangesSpellingsInOneBody old m low high → has_consistent_names (named_tree_of m) ≡ has_consistent_names (tree_with_names old (tree_of m))
-still_once_written old m low high parsed change =
-    let path = path_to_body_in_module low (tree_of m) in
-    once_outside path m.source old (tree_of m) (tree_of m)
-    (mapped_alike (λ i. is_outside_range low high i ≡ true) (token_text_at m.source) (token_text_at old) (token_value_at m.source) (token_value_at old)
-    (λ i e. text_by_word old m.source i i (change.same_words i e)) (λ i e. value_by_word old m.source i i (change.same_words i e)) (module_without_body path (tree_of m))
-    (module_outside low high (λ i. is_outside_range low high i ≡ true) (λ k e. e) 0 (length m.source.tokens) (tree_of m) (places_ascend m parsed) change.in_body))
+still_once_written old m low high parsed change = once_outside (path_to_body_in_module low (tree_of m)) m.source old (tree_of m) (tree_of m) (names_kept old m low high parsed change)
 
 -- ---- the reported faults
 

@@ -33,7 +33,7 @@ use Rattle.ob0_scope_numbering.proofs.Tables.{marks_in_table}
 
 -- ---- the ordinals of a resolution are in order
 
-marks_same : (f g : ℕ → Option ℕ) (ms : List OrdinalMark) → map f (tokens_of ms) ≡ map g (tokens_of ms) → HasMarks f ms → HasMarks g ms
+pub marks_same : (f g : ℕ → Option ℕ) (ms : List OrdinalMark) → map f (tokens_of ms) ≡ map g (tokens_of ms) → HasMarks f ms → HasMarks g ms
 marks_same f g [] e h = tt
 marks_same f g (m ∷ ms) e h = (sym (ap (λ l. get_or l 0 None) e) ∙ h.0, marks_same f g ms (ap (drop 1) e) h.1)
 

@@ -1,4 +1,4 @@
--- The bindings of a module before the tokens of one body changed.
+-- The bindings of a module before the spellings of tokens in one body changed.
 -- Rule: none; used in contracts of `rebind_changed_body`.
 use Rattle.ob0_scan.specs.TextWithTokens.{TextWithTokens}
 use Rattle.ob0_tree.specs.ParsedModule.{TreeMatchesText, ParsedModule}
@@ -8,9 +8,9 @@ use Rattle.ob0_scope_table.specs.Resolution.{IsResolution}
 use Rattle.ob0_scope_table.specs.declared.resolved.Bindings.{Bindings}
 use Rattle.std.specs.Prelude.{ℕ}
 
--- States that only the spellings of tokens in one body of the module `m` changed. `b` has the
--- bindings of the module before this change. The changed tokens have the indexes from `low` up to,
--- but not including, `high`.
+-- States that `b` has the bindings of the module `m` before a change. Only the spellings of tokens
+-- in one body of `m` changed: the tokens from `low` up to, but not including, `high`. After the
+-- change, the tree of `m` matches its text.
 pub record AreBindingsBeforeBodyChange (m : ParsedModule) (b : Bindings) (low high : ℕ) : Type 0 where
   pub old : TextWithTokens
   pub change : ChangesSpellingsInOneBody old m low high

@@ -1,46 +1,16 @@
 -- The data about a module's names that is kept when the statements of one body are replaced. This
 -- is the data about the tokens before that body, and about the tokens after it, which have moved.
 -- Rule: none; used in private contracts about bindings that are kept when one body is replaced (`body_range.rt`).
-use Rattle.std.specs.Prelude.{◌≡◌, ℕ, ◌+◌, ◌-◌, ◌^◌, min, nat_lt, List, [], ◌∷◌, ◌++◌, Option, Some, None, if◌then◌else◌, is_some, length, take, drop, replicate}
+use Rattle.std.specs.Prelude.{◌≡◌, ℕ, ◌+◌, ◌-◌, ◌^◌, min, nat_lt, List, [], ◌∷◌, ◌++◌, Option, Some, None, if◌then◌else◌, length, take, drop, replicate}
 use Rattle.ob0_scan.specs.declared.tokens.CommonPrefixAndSuffix.{CommonPrefixAndSuffix}
-use Rattle.ob0_tree.specs.declared.tree.Role.{Role}
-use Rattle.ob0_tree.specs.declared.tree.Role.TheVariants as role
 use Rattle.ob0_tree.specs.ParsedModule.{ParsedModule, tree_of}
-use Rattle.ob0_tree.specs.Tree.{identifiers, occurrences}
-use Rattle.ob0_tree.specs.FirstIdentifier.{token_of_first_identifier}
+use Rattle.ob0_tree.specs.Tree.{Tree, body, maybe}
+use Rattle.ob0_tree.specs.FirstIdentifier.{first_identifier}
 use Rattle.ob0_scope_table.specs.BodyReplacement.{body_at_path, closing_name_at_path, path_to_body_in_module}
 use Rattle.ob0_scope_table.specs.declared.resolved.Bindings.{Bindings}
 use Rattle.ob0_scope.specs.BindingsBeforeBodyReplacement.{AreBindingsBeforeBodyReplacement}
+use Rattle.ob0_scope.specs.NamesVisibleInBody.{names_visible_at_path}
 use Rattle.ob0_scope.specs.declared.body_range.BodyRange.{BodyRange}
-
--- The token indexes of identifiers seen so far while a body is walked. `first` is the first
--- identifier, or None if there is none yet. `uses` has all occurrences of names, which are the
--- identifiers with the role `LookedUpName`.
-pub record BodyNamesView : Type 0 where
-  pub first : Option ℕ
-  pub uses : List ℕ
-
--- the names of a body in which no identifier has been seen yet
-abbrev pub no_names_seen : BodyNamesView
-no_names_seen = record { first = None; uses = [] }
-
--- returns `first`, the first identifier seen in a body; if none has been seen (None), returns the identifier `i`
-abbrev pub first_or_new_identifier : Option ℕ → ℕ → Option ℕ
-first_or_new_identifier first i = if is_some first then first else Some i
-
--- adds the token `i` of an occurrence to the names seen in a body
-abbrev pub with_occurrence : ℕ → BodyNamesView → BodyNamesView
-with_occurrence i names = record names { uses = names.uses ++ (i ∷ []) }
-
--- adds the identifier at token `i` to the names seen in a body; the identifier is an occurrence only if its role is
--- `LookedUpName`
-abbrev pub with_identifier : Role → ℕ → BodyNamesView → BodyNamesView
-with_identifier role.LookedUpName i names =
-    record { first = first_or_new_identifier names.first i; uses = names.uses ++ (i ∷ []) }
-with_identifier role.DeclaringName i names = record names { first = first_or_new_identifier names.first i }
-with_identifier role.ClosingName i names = record names { first = first_or_new_identifier names.first i }
-with_identifier role.FieldName i names = record names { first = first_or_new_identifier names.first i }
-with_identifier role.ModuleName i names = record names { first = first_or_new_identifier names.first i }
 
 -- returns the tokens of a list that are before the replaced body in the text
 abbrev pub tokens_before_body : BodyRange → List ℕ → List ℕ
@@ -48,7 +18,8 @@ tokens_before_body range [] = []
 tokens_before_body range (i ∷ is) =
     if nat_lt i range.first then i ∷ tokens_before_body range is else tokens_before_body range is
 
--- returns the index in the changed text of a token after the replaced body, given its old index; at most 2^64 - 1
+-- returns the index in the changed text of a token after the replaced body, given its old index; at
+-- most 2^64 - 1
 abbrev pub shifted_token : BodyRange → ℕ → ℕ
 shifted_token range i = min (i - range.old_closing + range.closing) (2 ^ 64 - 1)
 
@@ -68,24 +39,27 @@ tokens_in_changed_text range tokens own = tokens_before_body range tokens ++ (ow
 abbrev pub resized_with_none : ℕ → List (Option ℕ) → List (Option ℕ)
 resized_with_none n table = take n table ++ replicate (n - length table) None
 
--- Converts the old module's table of ordinals to a table for the changed text: each entry moves to
--- its token's new index. The entries of the new body are None.
-abbrev pub ordinals_in_changed_text : BodyRange → List (Option ℕ) → List (Option ℕ)
-ordinals_in_changed_text range table =
-    resized_with_none range.closing (take range.first table) ++ drop range.old_closing table
+-- Converts the old module's table of ordinals to a table for the changed text: each entry outside
+-- the changed tokens moves to its token's new index. The entries of the changed tokens are None.
+abbrev pub ordinals_in_changed_text : CommonPrefixAndSuffix → List (Option ℕ) → List (Option ℕ)
+ordinals_in_changed_text same table =
+    resized_with_none same.new_suffix (take same.prefix table) ++ drop same.old_suffix table
 
--- returns the old token index of the closing name after the replaced statements, given its index in the changed text;
--- at most 2^64 - 1
+-- returns the old token index of the closing name after the replaced statements, given its index in
+-- the changed text; at most 2^64 - 1
 abbrev pub old_closing_token : CommonPrefixAndSuffix → ℕ → ℕ
 old_closing_token same closing = min (closing - same.new_suffix + same.old_suffix) (2 ^ 64 - 1)
 
--- States that `range` is the range of the new statements in a module in which one body's statements were replaced.
--- `own` has the occurrences in these statements, and `b` has the bindings of the old module.
-pub record IsRangeOfNewBody (m : ParsedModule) (b : Bindings) (range : BodyRange) (own : List ℕ) : Type 0 where
+-- States that `range` is the range of the new statements in a module in which one body's statements
+-- were replaced. `b` has the bindings of the old module, and `table` has the ordinals of the
+-- unchanged tokens at their new indexes. `names` has the tokens of the declared names that are
+-- visible in the new statements, `statements`.
+pub record IsRangeOfNewBody (m : ParsedModule) (b : Bindings) (table : List (Option ℕ)) (range : BodyRange) (names : List ℕ) (statements : Tree ℕ (maybe body)) : Type 0 where
   pub same : CommonPrefixAndSuffix
   pub was_bound : AreBindingsBeforeBodyReplacement m b same
-  pub first : token_of_first_identifier (identifiers role.DeclaringName (body_at_path (path_to_body_in_module same.prefix (tree_of m)) (tree_of m)))
-      ≡ Some range.first
+  pub table_is : table ≡ ordinals_in_changed_text same b.ordinals.items
+  pub first : first_identifier statements ≡ Some range.first
   pub closing : range.closing ≡ closing_name_at_path (path_to_body_in_module same.prefix (tree_of m)) (tree_of m)
   pub old_closing : range.old_closing ≡ old_closing_token same range.closing
-  pub uses : own ≡ occurrences (body_at_path (path_to_body_in_module same.prefix (tree_of m)) (tree_of m))
+  pub names_are : names ≡ names_visible_at_path (path_to_body_in_module same.prefix (tree_of m)) (tree_of m)
+  pub statements_are : statements ≡ body_at_path (path_to_body_in_module same.prefix (tree_of m)) (tree_of m)

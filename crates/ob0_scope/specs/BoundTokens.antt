@@ -18,8 +18,8 @@ is_identifier (kind.Symbol symbol) = false
 abbrev pub is_identifier_at_offset : ℕ → Token → Bool
 is_identifier_at_offset offset t = is_identifier t.kind && is_in_span_or_at_end offset t.span
 
--- Returns the index of each entry of a table that equals the ordinal `d`, except the index `omitted`. Indexes are
--- counted from `i`, the index of the first entry.
+-- Returns the indexes of the entries of a list that equal the ordinal `d`, without the index
+-- `omitted`. The first entry of the list has the index `i`.
 abbrev pub tokens_with_ordinal : Option ℕ → ℕ → ℕ → List (Option ℕ) → List ℕ
 tokens_with_ordinal omitted d i [] = []
 tokens_with_ordinal omitted d i (ordinal ∷ ordinals) =
@@ -27,11 +27,13 @@ tokens_with_ordinal omitted d i (ordinal ∷ ordinals) =
     then i ∷ tokens_with_ordinal omitted d (i + 1) ordinals
     else tokens_with_ordinal omitted d (i + 1) ordinals
 
--- returns the tokens with indexes of at least `first` that have the ordinal `d` in a table, except the token `omitted`
+-- returns the tokens with indexes of at least `first` that have the ordinal `d` in a table, except
+-- the token `omitted`
 abbrev pub tokens_bound_in_table : Option ℕ → ℕ → ℕ → List (Option ℕ) → List ℕ
 tokens_bound_in_table omitted d first ordinals = tokens_with_ordinal omitted d first (drop first ordinals)
 
--- returns the token to omit from the tokens bound to a declaration: the declaring token, or None if `include` is true
+-- returns the token to omit from the tokens bound to a declaration: the declaring token, or None if
+-- `include` is true
 abbrev pub omitted_token : Bool → Option ℕ → Option ℕ
 omitted_token include declaring = if include then None else declaring
 

@@ -48,13 +48,13 @@ is_declaring_role role.ClosingName = false
 is_declaring_role role.FieldName = false
 is_declaring_role role.ModuleName = false
 
--- returns whether an identifier is bound to the declaration with ordinal `d`; the declaring identifier counts only if
--- `include` is true
+-- returns whether an identifier is bound to the declaration with ordinal `d`; the declaring
+-- identifier counts only if `include` is true
 abbrev pub identifier_is_bound_to_declaration : Bool → ℕ → LabelledIdentifier → Bool
 identifier_is_bound_to_declaration include d s = same_ordinal_label s.1 (declared d) && (include || not (is_declaring_role s.0.0))
 
--- returns the tokens of the identifiers that are bound to the declaration with ordinal `d`; the declaring identifier is
--- included only if `include` is true
+-- returns the tokens of the identifiers that are bound to the declaration with ordinal `d`; the
+-- declaring identifier is included only if `include` is true
 abbrev pub tokens_bound_to_declaration : ParsedModule → ℕ → Bool → List ℕ
 tokens_bound_to_declaration m d include = map (λ s. s.0.1) (filter (identifier_is_bound_to_declaration include d) (labelled_identifiers m))
 
@@ -63,8 +63,8 @@ abbrev pub is_among : ℕ → List ℕ → Bool
 is_among i [] = false
 is_among i (x ∷ xs) = i == x || is_among i xs
 
--- States that renaming the declaration with ordinal `d` to any name writes this name at each token in the list `tokens`
--- and changes nothing else.
+-- States that renaming the declaration with ordinal `d` to any name writes this name at each token
+-- in the list `tokens` and changes nothing else.
 abbrev pub RenamingChangesExactlyTokens : ParsedModule → ℕ → List ℕ → Type 0
 RenamingChangesExactlyTokens m d tokens =
     (new : Name)

@@ -30,27 +30,31 @@ ordinal_in_search s i = ordinal_in s.ordinals i
 abbrev pub is_bound_to_declaration : NamesakeSearchView → ℕ → Bool
 is_bound_to_declaration s i = same_ordinal (ordinal_in_search s i) s.declaration
 
--- returns whether a token has the sought name and isn't bound to the declaration whose block is searched
+-- returns whether a token has the sought name and isn't bound to the declaration whose block is
+-- searched
 abbrev pub is_namesake_token : NamesakeSearchView → ℕ → Bool
 is_namesake_token s i = same_name (token_text_at s.source i) s.new && not (is_bound_to_declaration s i)
 
--- Finds the last token in the list that is spelled like the sought name and isn't bound to the search's declaration
--- (`s.declaration`). Returns the ordinal to which that token is bound, or `found` if there is no such token.
+-- Finds the last token in the list that is spelled like the sought name and isn't bound to the
+-- search's declaration (`s.declaration`). Returns the ordinal to which that token is bound, or
+-- `found` if there is no such token.
 abbrev pub last_namesake : NamesakeSearchView → Option ℕ → List ℕ → Option ℕ
 last_namesake s found [] = found
 last_namesake s found (i ∷ is) = last_namesake s (if is_namesake_token s i then ordinal_in_search s i else found) is
 
--- Finds the last token in the list that is spelled like the sought name and isn't bound to the search's declaration
--- (`s.declaration`). Returns the ordinal to which this token is bound. Returns None if there is no such token, or if no
--- token in the list is bound to that declaration.
+-- Finds the last token in the list that is spelled like the sought name and isn't bound to the
+-- search's declaration (`s.declaration`). Returns the ordinal to which this token is bound. Returns
+-- None if there is no such token, or if no token in the list is bound to that declaration.
 abbrev pub namesake_among : NamesakeSearchView → List ℕ → Option ℕ
 namesake_among s is = if list_any (is_bound_to_declaration s) is then last_namesake s None is else None
 
--- Searches a block and then the blocks inside it. Returns the ordinal of another declaration with the sought name in
--- the block that declares `s.declaration`. Returns None if there is no such declaration.
+-- Searches a block and then the blocks inside it. Returns the ordinal of another declaration with
+-- the sought name in the block that declares `s.declaration`. Returns None if there is no such
+-- declaration.
 abbrev mutual
-  -- returns the ordinal found among the parameters `own` and the names that a block declares (`namesake_among`),
-  -- otherwise the ordinal found in the blocks inside it; None if neither is found
+  -- returns the ordinal found among the parameters `own` and the names that a block declares
+  -- (`namesake_among`), otherwise the ordinal found in the blocks inside it; None if neither is
+  -- found
   pub namesake_in_block : NamesakeSearchView → List ℕ → Tree ℕ block → Option ℕ
   namesake_in_block s own (forms_block (declares cs ts vs ps) statements) =
       option_or (namesake_among s (own ++ names_declared_in_block (forms_block (declares cs ts vs ps) statements)))

@@ -23,9 +23,9 @@ other_declaration_with_name [] d new = None
 other_declaration_with_name (b ∷ own) d new =
     if same_name b.0 new && not (b.1 == d) then Some b.1 else other_declaration_with_name own d new
 
--- Finds the first scope in a list that has both the declaration with ordinal `d` and another declaration with the name
--- `new`. Each scope has the declarations of one block. Returns the ordinal of this other declaration, or None if there
--- is no such scope.
+-- Finds the first scope in a list that has both the declaration with ordinal `d` and another
+-- declaration with the name `new`. Each scope has the declarations of one block. Returns the
+-- ordinal of this other declaration, or None if there is no such scope.
 abbrev pub namesake_in_scopes : List (Scope Name) → ℕ → Name → Option ℕ
 namesake_in_scopes [] d new = None
 namesake_in_scopes (own ∷ others) d new =
@@ -37,7 +37,8 @@ namesake_in_scopes (own ∷ others) d new =
 abbrev pub namesake_ordinal : Tree Name module_text → ℕ → Name → Option ℕ
 namesake_ordinal m d new = namesake_in_scopes (scopes_in_block predeclared_count [] (module_block m)) d new
 
--- converts a conflict of the code to a conflict of the definitions; this drops the ordinal of the other declaration
+-- converts a conflict of the code to a conflict of the definitions; this drops the ordinal of the
+-- other declaration
 abbrev pub conflict_of : reported.FirstConflict → NameConflict
 conflict_of (reports.Duplicate other) = at_declaration
 conflict_of (reports.Occurrence k) = at_occurrence k
@@ -56,7 +57,8 @@ have_same_binding None (Some k) = false
 have_same_binding (Some j) None = false
 have_same_binding (Some j) (Some k) = j == k
 
--- returns the spellings of a module's identifiers after the declaration `d` is renamed to `new`
+-- returns the spellings of a module's identifiers after the declaration with ordinal `d` is renamed
+-- to `new`
 abbrev pub spellings_after_rename : Resolution → ℕ → Name → Spellings
 spellings_after_rename r d new =
     record { source = r.module_read.source; ordinals = r.ordinals; declaration = Some d; new = new }
@@ -65,8 +67,9 @@ spellings_after_rename r d new =
 abbrev pub OccursNowhere : TextWithTokens → Name → Type 0
 OccursNowhere source x = (i : ℕ) → same_name (token_text_at source i) x ≡ false
 
--- States that the table `ordinals` has, for each identifier, the ordinal to which it is bound after the declaration `d`
--- is renamed to `new`.
+-- States that `ordinals` is the table of ordinals after the declaration with ordinal `d` is renamed
+-- to `new`. It has the ordinal to which each identifier is then bound. An identifier that is then
+-- unbound has None.
 abbrev pub AreOrdinalsAfterRename : Resolution → ℕ → Name → List (Option ℕ) → Type 0
 AreOrdinalsAfterRename r d new ordinals =
     numbered (renamed (named_tree_of r.module_read) d new)

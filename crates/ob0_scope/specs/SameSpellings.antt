@@ -1,6 +1,6 @@
--- Laws about two texts that have the same tree and the same bindings. The tokens of both texts have
--- the same kinds. In one law only the identifiers have the same spellings, in the other law all
--- tokens do.
+-- Laws by which two texts with the same tree have the same bindings. Both laws require that the
+-- tokens of the texts have the same kinds. One law also requires that the identifiers have the same
+-- spellings, the other that all tokens do.
 -- Rule: docs/LANGUAGE.md, Scopes 2 to 4.
 use Rattle.std.specs.Prelude.{◌≡◌, []}
 use Rattle.ob0_scan.specs.ReusedLexemes.{token_kinds_without_values, spellings_of_identifiers_in, words_of_tokens}

@@ -2,7 +2,7 @@
 
 ghost use Rattle.std.specs.Prelude.{◌≡◌, IfOk, map};
 ghost use Rattle.ob0_tree.specs.ParsedModule.{named_tree_of};
-ghost use Rattle.ob0_language_names.specs.Occurrences.{bindings, label_ordinal};
+ghost use Rattle.ob0_language_names.specs.Occurrences.{labels_of_occurrences, label_ordinal};
 ghost use Rattle.ob0_language_names.specs.Scopes.{renamed};
 ghost use Rattle.ob0_scope.specs.Renames.{AreOrdinalsAfterRename};
 ghost use Rattle.ob0_scope_table.specs.Resolution.{IsResolution, ordinal_in};
@@ -11,10 +11,10 @@ use ob0_scope_numbering::{Spellings, number_identifiers};
 use ob0_scope_table::{OrdinalEntry, Resolved, ordinal_at};
 use std::alloc::{AllocError, Global};
 
-/// Returns an entry for each occurrence of the module, in text order, after a declaration is
-/// renamed to `new`. The entry is the ordinal of the declaration to which the occurrence would be
-/// bound, or None if it would be unbound. All names bound to the renamed declaration are renamed
-/// with it.
+/// Returns an entry for each occurrence of a name in the module, in text order. The entry is the
+/// ordinal to which the occurrence would be bound after a renaming, or None if it would be unbound.
+/// The renaming gives the name `new` to the declaration with the ordinal `declaration` and to all
+/// names that are bound to it.
 pub fn resolve_renamed(
     alloc: Global,
     names: &Resolved,
@@ -23,15 +23,15 @@ pub fn resolve_renamed(
 ) -> Result<Vec<Option<usize>>, AllocError>
     ensures { IfOk result (λ bound. bound.items
         ≡ map label_ordinal
-        (bindings (renamed (named_tree_of names.now.module_read) declaration new.now))) }
+        (labels_of_occurrences (renamed (named_tree_of names.now.module_read) declaration new.now))) }
 {
     let ordinals = ordinals_after_rename(alloc, names, declaration, new)?;
     ordinals_at_tokens(alloc, &ordinals, names.occurrences())
 }
 
-/// Returns the table of ordinals of the module in which the declaration with the ordinal
-/// `declaration` is renamed to `new`. For each token, the table has the ordinal to which the token
-/// is bound, or None.
+/// Returns the table of ordinals of the module after the declaration with the ordinal `declaration`
+/// is renamed to `new`. For each token, the table has the ordinal to which the token is bound, or
+/// None.
 pub(crate) fn ordinals_after_rename(
     alloc: Global,
     names: &Resolved,

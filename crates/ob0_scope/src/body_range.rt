@@ -1,17 +1,20 @@
-//! Finds the body whose statements were replaced, and moves the bindings of all other tokens to the
-//! tokens' new indexes.
+//! Finds the body (the statements of a block) that changed, and the names that are visible in it.
+//! After a body is replaced, moves the bindings of all tokens outside it to the tokens' new
+//! indexes.
 
-ghost use Rattle.std.specs.Prelude.{◌≡◌, ◌++◌, ◌∷◌, [], IfOk, OnOk};
+ghost use Rattle.std.specs.Prelude.{◌≡◌, ◌++◌, IfOk, OnOk};
 ghost use Rattle.ob0_tree.specs.View.{block_of, body_of, procedure_of};
 ghost use Rattle.ob0_scope_table.specs.BodyReplacement.{body_at_path_in_block, body_at_path_in_procedure, closing_name_at_path_in_block, closing_name_at_path_in_procedure, path_to_body_in_block, path_to_body_in_procedure};
-ghost use Rattle.ob0_scope.specs.BindingsOutsideBody.{shifted_tokens_after_body, tokens_before_body, tokens_in_changed_text, ordinals_in_changed_text, old_closing_token, shifted_token, with_occurrence};
+ghost use Rattle.ob0_scope.specs.NamesVisibleInBody.{names_visible_at_path_in_block, names_visible_at_path_in_procedure};
+ghost use Rattle.ob0_scope.specs.BindingsOutsideBody.{shifted_tokens_after_body, tokens_before_body, tokens_in_changed_text, ordinals_in_changed_text, old_closing_token, shifted_token};
 
+use crate::declaration_checks::{
+    append_constant_names, append_formal_parameter_names, append_type_names, append_variable_names,
+};
 use ob0_scan::CommonPrefixAndSuffix;
 use ob0_scope_table::OrdinalEntry;
-use ob0_tree::identifier_walk::Visitor;
-use ob0_tree::{Block, Procedure, Role, Statement};
+use ob0_tree::{Block, Procedure, Statement};
 use std::alloc::{AllocError, Global};
-use std::marker::Model;
 
 /// The range of tokens from a body's first identifier up to, but not including, the closing name of
 /// its block. `old_closing` is the index that the closing name had before the statements were
@@ -30,88 +33,78 @@ pub(crate) struct BodyWithClosingName<'t> {
     pub(crate) closing: usize,
 }
 
-/// The token indexes of identifiers seen so far while a body is walked. `first` is the first
-/// identifier, or None if there is none yet. `uses` has all occurrences of names, which are the
-/// identifiers with the role `LookedUpName`.
-#[derive(Drop)]
-pub(crate) struct BodyNames {
-    pub(crate) first: Option<usize>,
-    pub(crate) uses: Vec<usize>,
-}
-
-impl Model for BodyNames {
-    ghost use Rattle.ob0_scope.specs.BindingsOutsideBody.{BodyNamesView};
-
-    ghost Value = { BodyNamesView };
-
-    ghost view = { λ names. record { first = names.first; uses = names.uses.items } };
-}
-
-impl Visitor for BodyNames {
-    ghost use Rattle.ob0_scope.specs.BindingsOutsideBody.{with_identifier};
-
-    ghost state_after_one_identifier = { with_identifier };
-
-    fn visit_one_identifier(&mut self, role: Role, token: usize) -> Result<(), AllocError> {
-        if self.first.is_none() {
-            self.first = Some(token);
-        }
-        match role {
-            Role::LookedUpName => self.append_occurrence(token),
-            Role::DeclaringName => Ok(()),
-            Role::ClosingName => Ok(()),
-            Role::FieldName => Ok(()),
-            Role::ModuleName => Ok(()),
-        }
-    }
-}
-
-impl BodyNames {
-    /// Appends the token of an occurrence to `uses`.
-    fn append_occurrence(&mut self, token: usize) -> Result<(), AllocError>
-        ensures { OnOk result (self.new ≡ with_occurrence token self.old) }
-    {
-        self.uses.push(token)?;
-        Ok(())
-    }
-}
-
 /// Returns the body that contains the token `low`: the body of this block or of a procedure inside
 /// it. If no body contains `low`, the result may be any of these bodies. The search continues in
 /// the block's first procedure whose closing name is at or after `low`. If there is no such
 /// procedure, the result is the block's own body. `own` is the token of the block's closing name.
+/// Also appends to `names` the tokens of all names declared in this block and in the procedures
+/// around the body, before the body and in text order. These names are visible in the body, except
+/// those that an inner declaration hides.
 #[cycle(blocks)]
 pub(crate) fn find_body_in_block<'t>(
     inner: &'t Block,
     own: usize,
     low: usize,
-) -> BodyWithClosingName<'t>
-    ensures statements { body_of result.statements.now
-        ≡ body_at_path_in_block (path_to_body_in_block low (block_of inner.now)) (block_of inner.now) }
-    ensures closing { result.closing
-        ≡ closing_name_at_path_in_block (path_to_body_in_block low (block_of inner.now)) own (block_of inner.now) }
+    names: &mut Vec<usize>,
+) -> Result<BodyWithClosingName<'t>, AllocError>
+    ensures statements { IfOk result (λ found. body_of found.statements.now
+        ≡ body_at_path_in_block (path_to_body_in_block low (block_of inner.now)) (block_of inner.now)) }
+    ensures closing { IfOk result (λ found. found.closing
+        ≡ closing_name_at_path_in_block (path_to_body_in_block low (block_of inner.now)) own (block_of inner.now)) }
+    ensures names { OnOk result (names.new.items ≡ names.old.items
+        ++ names_visible_at_path_in_block (path_to_body_in_block low (block_of inner.now)) (block_of inner.now)) }
 {
+    append_constant_names(names, &inner.constants)?;
+    append_type_names(names, &inner.types)?;
+    append_variable_names(names, &inner.variables)?;
     for p in &inner.procedures {
+        names.push(p.name)?;
         if p.closing >= low {
-            return find_body_in_procedure(p, low);
+            return find_body_in_procedure(p, low, names);
         }
     }
-    BodyWithClosingName {
+    Ok(BodyWithClosingName {
         statements: &inner.body,
         closing: own,
-    }
+    })
 }
 
 /// Returns the body that contains the token `low`: the body of this procedure or of a procedure
-/// inside it. If no body contains `low`, the result may be any of these bodies.
+/// inside it. If no body contains `low`, the result may be any of these bodies. Also appends to
+/// `names` the tokens of all names declared in this procedure and in the procedures around the
+/// body, before the body and in text order. The procedure's own name isn't appended here.
 #[cycle(blocks)]
-fn find_body_in_procedure<'t>(p: &'t Procedure, low: usize) -> BodyWithClosingName<'t>
-    ensures statements { body_of result.statements.now
-        ≡ body_at_path_in_procedure (path_to_body_in_procedure low (procedure_of p.now)) (procedure_of p.now) }
-    ensures closing { result.closing
-        ≡ closing_name_at_path_in_procedure (path_to_body_in_procedure low (procedure_of p.now)) (procedure_of p.now) }
+fn find_body_in_procedure<'t>(
+    p: &'t Procedure,
+    low: usize,
+    names: &mut Vec<usize>,
+) -> Result<BodyWithClosingName<'t>, AllocError>
+    ensures statements { IfOk result (λ found. body_of found.statements.now
+        ≡ body_at_path_in_procedure (path_to_body_in_procedure low (procedure_of p.now)) (procedure_of p.now)) }
+    ensures closing { IfOk result (λ found. found.closing
+        ≡ closing_name_at_path_in_procedure (path_to_body_in_procedure low (procedure_of p.now)) (procedure_of p.now)) }
+    ensures names { OnOk result (names.new.items ≡ names.old.items
+        ++ names_visible_at_path_in_procedure (path_to_body_in_procedure low (procedure_of p.now)) (procedure_of p.now)) }
 {
-    find_body_in_block(&p.block, p.closing, low)
+    append_formal_parameter_names(names, &p.formals)?;
+    find_body_in_block(&p.block, p.closing, low, names)
+}
+
+/// Converts the old module's table of ordinals, `old`, to a table for the changed text: each entry
+/// outside the changed tokens moves to its token's new index. The entries of the changed tokens are
+/// None. `same` says which tokens at the start and at the end of the text are unchanged.
+pub(crate) fn ordinals_in_changed_text(
+    alloc: Global,
+    old: &[OrdinalEntry],
+    same: CommonPrefixAndSuffix,
+) -> Result<Vec<OrdinalEntry>, AllocError>
+    ensures { IfOk result (λ table. table.items ≡ ordinals_in_changed_text same old.now) }
+{
+    let mut table = Vec::with_capacity(alloc, old.len())?;
+    table.extend_from_slice(&old[..same.prefix.min(old.len())])?;
+    table.resize(same.new_suffix, OrdinalEntry::new(None))?;
+    table.extend_from_slice(&old[same.old_suffix.min(old.len())..])?;
+    Ok(table)
 }
 
 /// Returns the old token index of the closing name that follows the replaced statements. `closing`
@@ -186,21 +179,5 @@ impl BodyRange {
         all.extend_from_slice(own)?;
         self.append_shifted_tokens_after_body(&mut all, tokens)?;
         Ok(all)
-    }
-
-    /// Converts the old module's table of ordinals, `old`, to a table for the changed text: each
-    /// entry moves to its token's new index. The entries of the new body are None.
-    pub(crate) fn ordinals_in_changed_text(
-        self,
-        alloc: Global,
-        old: &[OrdinalEntry],
-    ) -> Result<Vec<OrdinalEntry>, AllocError>
-        ensures { IfOk result (λ table. table.items ≡ ordinals_in_changed_text self old.now) }
-    {
-        let mut table = Vec::with_capacity(alloc, old.len())?;
-        table.extend_from_slice(&old[..self.first.min(old.len())])?;
-        table.resize(self.closing, OrdinalEntry::new(None))?;
-        table.extend_from_slice(&old[self.old_closing.min(old.len())..])?;
-        Ok(table)
     }
 }

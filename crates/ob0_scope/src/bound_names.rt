@@ -1,9 +1,9 @@
 //! Finds the name at an offset of a module's text, and the tokens that are bound to a declaration.
 //!
-//! In the definitions, each identifier of the tree has a role, a token and a label. The label is
-//! the ordinal to which the identifier is bound, or else its spelling. The definitions don't use a
-//! table of ordinals. The code doesn't walk the tree. It reads the tokens that are bound to a
-//! declaration from the table of ordinals, starting at the declaring token.
+//! The definitions and the code find these tokens in different ways. The definitions list the
+//! identifiers of the tree, each with a role, a token and a label. The label is the ordinal to
+//! which the identifier is bound, or its spelling if it is unbound. The code doesn't walk the tree.
+//! It searches the table of ordinals, starting at the declaring token.
 
 ghost use Rattle.std.specs.Prelude.{◌≡◌, ◌≤◌, IfOk, false, length, nat_lt, true};
 ghost use Rattle.std.specs.List.{position_from};
@@ -27,7 +27,8 @@ pub struct BoundName {
 
 /// Returns the name that contains the byte offset `offset` or ends there. The name may be
 /// predeclared. A closing name of a procedure counts as the procedure's name. Returns None if there
-/// is no identifier at `offset`, and at a field, the module's name or an unbound name.
+/// is no identifier at `offset`, or if the identifier is a field, the module's name or an unbound
+/// name.
 pub fn name_at_offset(names: &Resolved, offset: usize) -> Option<BoundName>
     ensures { result ≡ name_at_offset names.now.module_read offset }
 {
@@ -67,16 +68,16 @@ pub fn tokens_bound_to_declaration(
     )
 }
 
-/// Returns the token to omit from the tokens bound to a declaration. This is the token `declaring`.
-/// If `include` is true, no token is omitted, and the result is None.
+/// Returns the token to omit from the tokens bound to a declaration: the declaring token
+/// `declaring`. If `include` is true, returns None, because no token is omitted.
 fn omitted_token(include: bool, declaring: Option<usize>) -> Option<usize>
     ensures { result ≡ omitted_token include declaring }
 {
     if include { None } else { declaring }
 }
 
-/// Returns the first token that can refer to a declaration: the declaring token, or 0 for a
-/// predeclared name.
+/// Returns the first token that can be bound to a declaration: the declaring token, or token 0 if
+/// the name is predeclared (`declaring` is None).
 fn first_bound_token(declaring: Option<usize>) -> usize
     ensures { result ≡ first_bound_token declaring }
 {
@@ -129,8 +130,9 @@ pub fn tokens_changed_by_rename(
 }
 
 /// Returns the token index of the first identifier that contains the byte offset `offset` or ends
-/// there, found by binary search. Only the first token that doesn't end before `offset`, and the
-/// token after it, can be that identifier. Returns None if neither token is.
+/// there, found by binary search. The tokens must be in text order and must not overlap. So only
+/// the first token that doesn't end before `offset`, and the token after it, can be that
+/// identifier. Returns None if neither token is.
 fn first_identifier_at_offset(tokens: &[Token], offset: usize) -> Option<usize>
     ensures { TokensAreDisjoint 0 tokens.now
         → result ≡ position_from (is_identifier_at_offset offset) 0 tokens.now }
@@ -152,8 +154,9 @@ fn first_identifier_at_offset(tokens: &[Token], offset: usize) -> Option<usize>
     None
 }
 
-/// Returns the number of tokens that end before the byte offset `offset`.
-fn count_tokens_before_offset(tokens: &[Token], offset: usize) -> usize
+/// Returns the number of tokens that end before the byte offset `offset`. The tokens must be in the
+/// order of their ends.
+pub fn count_tokens_before_offset(tokens: &[Token], offset: usize) -> usize
     ensures bound { result ≤ length tokens.now }
     ensures point { IsNonDecreasingBy (λ (t : token.Token). t.span.end) tokens.now
         → IsPartitionPoint (λ (t : token.Token). nat_lt t.span.end offset ≡ true)
@@ -163,7 +166,7 @@ fn count_tokens_before_offset(tokens: &[Token], offset: usize) -> usize
 }
 
 /// Returns whether the token is an identifier that contains the byte offset `offset` or ends there.
-fn is_identifier_at_offset(token: &Token, offset: usize) -> bool
+pub fn is_identifier_at_offset(token: &Token, offset: usize) -> bool
     ensures { result ≡ is_identifier_at_offset offset token.now }
 {
     is_identifier(token.kind)

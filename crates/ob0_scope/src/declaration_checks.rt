@@ -1,6 +1,6 @@
-//! Finds the duplicate declarations and wrong closing names of a module. A declaration is a
-//! duplicate if an earlier name in its block has the same spelling. A field is a duplicate if an
-//! earlier field of its record has the same spelling.
+//! Finds the duplicate declarations, duplicate fields and wrong closing names of a module. A
+//! declaration is a duplicate if an earlier name in its block has the same spelling. A field is a
+//! duplicate if an earlier field of its record has the same spelling.
 //!
 //! `DeclarationFaultCollector` has the faults found so far, and each check appends more faults. If
 //! a block or record has at most 16 names, each name is compared with all names before it. If there
@@ -20,15 +20,15 @@ ghost use Rattle.ob0_scope_table.specs.DuplicatesAndEndNames.{duplicate_faults, 
 use ob0_scan::{FaultCode, Tokens};
 use ob0_scope_table::{FaultAtTokens, fault_at_token, is_duplicate_or_end_name_fault};
 use ob0_tree::{
-    Block, ConstantDeclaration, Module, Names, OptionalFieldGroup, ParameterSection, Procedure,
-    RecordType, TypeDeclaration, VariableDeclaration, WrittenType, token_text_at,
+    Block, ConstantDeclaration, IdentifierList, Module, OptionalFieldGroup, ParameterSection,
+    Procedure, RecordType, TypeDeclaration, VariableDeclaration, WrittenType, token_text_at,
 };
 use std::alloc::{AllocError, Global};
 use std::collections::BTreeSet;
 use std::marker::Model;
 
-/// The greatest number of names in a block or record that are compared with one another. If there
-/// are more names, they are inserted into a set.
+/// The greatest number of names in a block or record for which each name is compared with all names
+/// before it. If there are more names, they are inserted into a set.
 const MAX_NAMES_COMPARED_PAIRWISE: usize = 16;
 
 /// The duplicate declarations, duplicate fields and wrong closing names found so far.
@@ -63,10 +63,10 @@ pub(crate) fn check_declarations<'t>(
     Ok(checks.into_faults())
 }
 
-/// Returns the duplicate declarations, duplicate fields and wrong closing names of a changed module,
-/// as `check_declarations` does. `known` has the faults from before the change. `known` must contain
-/// such a fault exactly if the changed module has one. If `known` contains no such fault, the module
-/// isn't walked, and the result is an empty list.
+/// Returns the duplicate declarations, duplicate fields and wrong closing names of a changed
+/// module, as `check_declarations` does. `known` has the faults from before the change. `known`
+/// must contain such a fault exactly if the changed module has one. If `known` contains no such
+/// fault, the module isn't walked, and the result is an empty list.
 pub(crate) fn recheck_declarations<'t>(
     alloc: Global,
     read: &'t Module<'t>,
@@ -114,7 +114,7 @@ fn contains_spelling(tokens: &Tokens, names: &[usize], text: &str) -> bool
 }
 
 /// Appends to `out` the tokens of the names in a list.
-fn append_names(out: &mut Vec<usize>, ns: &Names) -> Result<(), AllocError>
+fn append_names(out: &mut Vec<usize>, ns: &IdentifierList) -> Result<(), AllocError>
     ensures { OnOk result (out.new.items ≡ out.old.items ++ names_in_list (names_of ns.now)) }
 {
     out.push(ns.first)?;
@@ -136,7 +136,7 @@ fn append_field_names(out: &mut Vec<usize>, group: &OptionalFieldGroup) -> Resul
 }
 
 /// Appends to `out` the tokens of the names that a CONST section declares.
-fn append_constant_names(
+pub(crate) fn append_constant_names(
     out: &mut Vec<usize>,
     section: &Option<Vec<ConstantDeclaration>>,
 ) -> Result<(), AllocError>
@@ -152,7 +152,7 @@ fn append_constant_names(
 }
 
 /// Appends to `out` the tokens of the names that a TYPE section declares.
-fn append_type_names(
+pub(crate) fn append_type_names(
     out: &mut Vec<usize>,
     section: &Option<Vec<TypeDeclaration>>,
 ) -> Result<(), AllocError>
@@ -168,7 +168,7 @@ fn append_type_names(
 }
 
 /// Appends to `out` the tokens of the names that a VAR section declares.
-fn append_variable_names(
+pub(crate) fn append_variable_names(
     out: &mut Vec<usize>,
     section: &Option<Vec<VariableDeclaration>>,
 ) -> Result<(), AllocError>

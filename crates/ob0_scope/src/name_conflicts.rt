@@ -3,14 +3,14 @@
 //! If no token of the text has the new name, and the declaration isn't predeclared, the name is
 //! free and the module isn't walked. Otherwise the module is walked at most twice. The first walk
 //! searches the block of the declaration for another declaration with the new name, and examines
-//! each declared name once. If it finds none, the second walk finds the first occurrence that would
-//! be bound to another declaration. The second walk takes O(n log n) time for n names.
+//! each declared name once. If it finds none, the second walk finds the first occurrence whose
+//! binding would change. The second walk takes O(n log n) time for n names.
 
 ghost use Rattle.std.specs.Prelude.{◌≡◌, ◌↔◌, IfOk, None, not, option_map, true};
 ghost use Rattle.std.specs.List.{position_from};
 ghost use Rattle.ob0_tree.specs.ParsedModule.{named_tree_of};
 ghost use Rattle.ob0_tree.specs.View.{block_of, procedure_of};
-ghost use Rattle.ob0_language_names.specs.Occurrences.{IsFreeName, bindings, first_name_conflict, first_binding_difference};
+ghost use Rattle.ob0_language_names.specs.Occurrences.{IsFreeName, labels_of_occurrences, first_name_conflict, first_binding_difference};
 ghost use Rattle.ob0_scope.specs.declared.name_conflicts.FirstConflict.TheVariants.{Occurrence};
 ghost use Rattle.ob0_scope.specs.Renames.{OccursNowhere, have_same_binding, namesake_ordinal, other_declaration_in_conflict, conflict_of};
 ghost use Rattle.ob0_scope_table.specs.Resolution.{ordinal_in};
@@ -32,14 +32,14 @@ pub enum FirstConflict {
     /// Another declaration of the same block already has the new name. The number is that
     /// declaration's ordinal.
     Duplicate(usize),
-    /// An occurrence would be bound to another declaration. The number is the occurrence's index in
-    /// the list of all occurrences in text order, from 0.
+    /// The binding of an occurrence would change. The number is the occurrence's index in the list
+    /// of all occurrences in text order, from 0.
     Occurrence(usize),
 }
 
 /// Returns the first conflict that arises if the declaration with the ordinal `declaration` is
-/// renamed to `new`. Either another declaration of the same block has this name, or an occurrence
-/// would be bound to another declaration. Returns None if the name is free.
+/// renamed to `new`. Either another declaration of the same block has this name, or the binding of
+/// an occurrence would change. Returns None if the name is free.
 pub fn captures(
     alloc: Global,
     names: &Resolved,
@@ -78,8 +78,8 @@ fn occurs_nowhere(tokens: &Tokens, name: &str) -> bool
     true
 }
 
-/// Returns the conflict at the first occurrence that would be bound to another declaration after a
-/// declaration is renamed to `new`. Returns None if there is no such occurrence.
+/// Returns the conflict at the first occurrence whose binding would change if the declaration with
+/// the ordinal `declaration` were renamed to `new`. Returns None if there is no such occurrence.
 fn first_occurrence_conflict(
     alloc: Global,
     names: &Resolved,
@@ -88,8 +88,8 @@ fn first_occurrence_conflict(
 ) -> Result<Option<FirstConflict>, AllocError>
     ensures { IfOk result (λ found. found
         ≡ option_map Occurrence (first_binding_difference
-        (bindings (renamed (named_tree_of names.now.module_read) declaration new.now))
-        (bindings (named_tree_of names.now.module_read)))) }
+        (labels_of_occurrences (renamed (named_tree_of names.now.module_read) declaration new.now))
+        (labels_of_occurrences (named_tree_of names.now.module_read)))) }
 {
     let ordinals = ordinals_after_rename(alloc, names, declaration, new)?;
     match first_rebound_occurrence(names, &ordinals) {
@@ -98,8 +98,8 @@ fn first_occurrence_conflict(
     }
 }
 
-/// Returns the index of the first occurrence that has different ordinals in the table `ordinals`
-/// and in the module's own table. The index is the occurrence's position among all occurrences in
+/// Returns the index of the first occurrence whose entry in the table `ordinals` differs from its
+/// entry in the module's own table. The index is the occurrence's position among all occurrences in
 /// text order, from 0. Returns None if there is no such occurrence.
 fn first_rebound_occurrence(names: &Resolved, ordinals: &[OrdinalEntry]) -> Option<usize>
     ensures { result
@@ -208,8 +208,8 @@ impl<'t> NamesakeSearch<'t> {
 
     /// Searches a block and then the blocks inside it. In the block that declares
     /// `self.declaration`, finds another declaration with the sought name and returns its ordinal.
-    /// Returns None if there is no such declaration. `own` has the tokens of the parameters, which
-    /// count as declared in the block.
+    /// Returns None if there is no such declaration. `own` has the tokens of the parameters of the
+    /// block's procedure, which count as declared in the block.
     #[cycle(blocks)]
     fn find_namesake_in_block(
         &self,

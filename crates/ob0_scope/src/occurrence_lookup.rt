@@ -28,8 +28,8 @@ pub fn resolve_name_at_each_occurrence(
     ordinals_at_tokens(alloc, &ordinals, names.occurrences())
 }
 
-/// Returns the table of ordinals of a changed module, in which `name` replaces each occurrence. For
-/// each token, the table has the ordinal to which the token is bound, or None.
+/// Returns the table of ordinals of a changed module, in which `name` replaces each occurrence. At
+/// the token of each occurrence, the table has the ordinal to which `name` is bound there, or None.
 fn ordinals_with_replacement(
     alloc: Global,
     names: &Resolved,
@@ -50,8 +50,8 @@ fn ordinals_with_replacement(
     Ok(ordinals)
 }
 
-/// Returns a table that has ordinal 0 at each occurrence and None at every other token. So a
-/// renaming of the declaration 0 replaces each occurrence.
+/// Returns a table that has ordinal 0 at each occurrence and None at every other token. With this
+/// table, a renaming of the declaration with ordinal 0 renames exactly the occurrences.
 fn table_marking_occurrences(
     alloc: Global,
     names: &Resolved,

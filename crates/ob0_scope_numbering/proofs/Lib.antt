@@ -1,10 +1,5 @@
 pub mod Declaring
 pub mod Agreed
-pub mod Alongside
-pub mod Covered
-pub mod BodyMarks
-pub mod BodyTables
-pub mod Again
 pub mod Passing
 pub mod Tables
 pub mod Kept

@@ -96,10 +96,6 @@ pub record At (v : WalkState) (src : Spellings) (s : Scope Name) (k : ℕ) : Typ
   pub next : 7 + length v.declaration_tokens ≡ k
   pub before : AreBefore k s
 
--- The state has its own visible names and its own number of declarations.
-pub at_itself : {v : WalkState} {src : Spellings} {s : Scope Name} {k : ℕ} → At v src s k → At v src v.scope (7 + length v.declaration_tokens)
-at_itself {v = v} {k = k} at = record { spellings = at.spellings; scope = refl; next = refl; before = subst (λ n. AreBefore n v.scope) (sym at.next) (subst (AreBefore k) (sym at.scope) at.before) }
-
 pub at_start : (src : Spellings) → At (initial_walk_state src) src (predeclared_scope naming_by_spelling) 7
 at_start src = record { spellings = refl; scope = refl; next = refl; before = names_before 0 (map naming_by_spelling.predeclared (0 ∷ 1 ∷ 2 ∷ 3 ∷ 4 ∷ 5 ∷ 6 ∷ [])) [] 7 (omega arith) tt }
 
@@ -144,13 +140,13 @@ left_extends {s = s} e =
     ap (λ z. drop (length z - length s) z) e.is ∙ (ap (λ n. drop n (e.newer ++ s)) count ∙ drop-append-add e.newer s 0)
 
 -- states which state follows the identifiers of a part that declares nothing
-record FoundAll (table : ℕ → Option ℕ) (src : Spellings) (v w : WalkState) (xs : List (Role × ℕ)) : Type 0 where
-  spellings : w.spellings ≡ v.spellings
-  scope : w.scope ≡ v.scope
-  kept : w.declaration_tokens ≡ v.declaration_tokens
-  used : w.uses ≡ v.uses ++ looked_up_only xs
-  tokens : tokens_of w.marks ≡ tokens_of v.marks ++ names_without_roles xs
-  agree : v.spellings ≡ src → HasMarks table w.marks → HasMarks table v.marks × AllFit table src v.scope xs
+pub record FoundAll (table : ℕ → Option ℕ) (src : Spellings) (v w : WalkState) (xs : List (Role × ℕ)) : Type 0 where
+  pub spellings : w.spellings ≡ v.spellings
+  pub scope : w.scope ≡ v.scope
+  pub kept : w.declaration_tokens ≡ v.declaration_tokens
+  pub used : w.uses ≡ v.uses ++ looked_up_only xs
+  pub tokens : tokens_of w.marks ≡ tokens_of v.marks ++ names_without_roles xs
+  pub agree : v.spellings ≡ src → HasMarks table w.marks → HasMarks table v.marks × AllFit table src v.scope xs
 
 mark_added : (ms : List OrdinalMark) (m : OrdinalMark) → tokens_of (ms ++ (m ∷ [])) ≡ tokens_of ms ++ (m.token ∷ [])
 mark_added ms m = map-append (λ m. m.token) ms (m ∷ [])
@@ -176,7 +172,7 @@ found_one table src role.ClosingName i v = record { spellings = refl; scope = re
 found_one table src role.FieldName i v = record { spellings = refl; scope = refl; kept = refl; used = sym (append-nil v.uses); tokens = mark_added v.marks (record { token = i; ordinal = None }); agree = λ e h. let f = found_none table src i v h in (f.0, (f.1, tt)) }
 found_one table src role.ModuleName i v = record { spellings = refl; scope = refl; kept = refl; used = sym (append-nil v.uses); tokens = mark_added v.marks (record { token = i; ordinal = None }); agree = λ e h. let f = found_none table src i v h in (f.0, (f.1, tt)) }
 
-found_every : (table : ℕ → Option ℕ) (src : Spellings) (xs : List (Role × ℕ)) (v : WalkState) → FoundAll table src v (visit_identifiers xs v) xs
+pub found_every : (table : ℕ → Option ℕ) (src : Spellings) (xs : List (Role × ℕ)) (v : WalkState) → FoundAll table src v (visit_identifiers xs v) xs
 found_every table src [] v = record { spellings = refl; scope = refl; kept = refl; used = sym (append-nil v.uses); tokens = sym (append-nil (tokens_of v.marks)); agree = λ e h. (h, tt) }
 found_every table src (x ∷ xs) v =
     let a = found_one table src x.0 x.1 v in
@@ -208,7 +204,7 @@ module _ {M : Type 0} (table : ℕ → Option ℕ) (label : Labelling Name M) (s
   Passes = Passed table src
 
   -- returns a part with the spellings as its names, and any numbers
-  abbrev pub spelled : {s : Sort} → Tree ℕ s → Tree Name s
+  abbrev spelled : {s : Sort} → Tree ℕ s → Tree Name s
   spelled t = mapped_tree (spelling_at_token src) value t
 
   -- returns a part with the table's ordinals as labels
@@ -218,7 +214,7 @@ module _ {M : Type 0} (table : ℕ → Option ℕ) (label : Labelling Name M) (s
   pass_nothing : (v : WalkState) (s : Scope Name) (k : ℕ) → At v src s k → Passes v v [] s k (Unit {0})
   pass_nothing v s k at = record { at = at; declared = sym (append-nil v.declaration_tokens); used = sym (append-nil v.uses); tokens = sym (append-nil (tokens_of v.marks)); agree = λ h. (h, tt); in_order = λ h later. subst (λ n. AreInOrder table n later) (sym at.next) }
 
-  pub pass_then : {a b c : WalkState} {xs ys : List (Role × ℕ)} {s s' : Scope Name} {k k' : ℕ} {P Q : Type 0} → Passes a b xs s k P → Passes b c ys s' k' Q → Passes a c (xs ++ ys) s' k' (Two P Q)
+  pass_then : {a b c : WalkState} {xs ys : List (Role × ℕ)} {s s' : Scope Name} {k k' : ℕ} {P Q : Type 0} → Passes a b xs s k P → Passes b c ys s' k' Q → Passes a c (xs ++ ys) s' k' (Two P Q)
   pass_then {a = a} {xs = xs} {ys = ys} p q =
       record {
         at = q.at;
@@ -246,7 +242,7 @@ module _ {M : Type 0} (table : ℕ → Option ℕ) (label : Labelling Name M) (s
             subst (λ ids. AreInOrder table (7 + length a.declaration_tokens) (ids ++ later)) e (p.in_order h later (subst (λ n. AreInOrder table n later) (sym g) o));
       }
 
-  pub used_passed : {σ : Sort} (t : Tree ℕ σ) (v : WalkState) (s : Scope Name) (k : ℕ) → IsPlain σ → At v src s k
+  used_passed : {σ : Sort} (t : Tree ℕ σ) (v : WalkState) (s : Scope Name) (k : ℕ) → IsPlain σ → At v src s k
       → Passes v (visit_nondeclaring_tree t v) (identifiers role.DeclaringName t) s k (relabel_uses naming_by_spelling label s (spelled t) ≡ by_table t)
   used_passed t v s k is_plain at =
       let plain = (declares_nothing is_plain t).plain in
@@ -451,19 +447,19 @@ module _ {M : Type 0} (table : ℕ → Option ℕ) (label : Labelling Name M) (s
   formals_declaring (one no_formals) = refl
   formals_declaring (one (some_formals f fs)) = sections_declaring (more (semicolon_then_section f) fs)
 
-  pub constant_section_passed : (cs : Tree ℕ (maybe constants)) (v : WalkState) (s : Scope Name) (k : ℕ) → At v src s k
+  constant_section_passed : (cs : Tree ℕ (maybe constants)) (v : WalkState) (s : Scope Name) (k : ℕ) → At v src s k
       → Passes v (visit_constant_section cs v) (identifiers role.DeclaringName cs) (declare_names k (constant_names (section_constants (spelled cs))) s) (ordinal_after_names k (constant_names (section_constants (spelled cs))))
       (relabel_constant_section naming_by_spelling label s k (spelled cs) ≡ by_table cs)
   constant_section_passed none v s k at = pass_to (pass_nothing v s k at) (λ h. refl)
   constant_section_passed (one (declares_const_section cs)) v s k at = pass_to (constants_passed cs v s k at) (λ p i. one (declares_const_section (p i)))
 
-  pub type_section_passed : (ts : Tree ℕ (maybe type_definitions)) (v : WalkState) (s : Scope Name) (k : ℕ) → At v src s k
+  type_section_passed : (ts : Tree ℕ (maybe type_definitions)) (v : WalkState) (s : Scope Name) (k : ℕ) → At v src s k
       → Passes v (visit_type_section ts v) (identifiers role.DeclaringName ts) (declare_names k (declared_type_names (section_types (spelled ts))) s) (ordinal_after_names k (declared_type_names (section_types (spelled ts))))
       (relabel_type_section naming_by_spelling label s k (spelled ts) ≡ by_table ts)
   type_section_passed none v s k at = pass_to (pass_nothing v s k at) (λ h. refl)
   type_section_passed (one (declares_type_section ts)) v s k at = pass_to (types_passed ts v s k at) (λ p i. one (declares_type_section (p i)))
 
-  pub variable_section_passed : (vs : Tree ℕ (maybe variables)) (v : WalkState) (s : Scope Name) (k : ℕ) → At v src s k
+  variable_section_passed : (vs : Tree ℕ (maybe variables)) (v : WalkState) (s : Scope Name) (k : ℕ) → At v src s k
       → Passes v (visit_variable_section vs v) (identifiers role.DeclaringName vs) (declare_names k (variable_names (section_variables (spelled vs))) s) (ordinal_after_names k (variable_names (section_variables (spelled vs))))
       (relabel_variable_section naming_by_spelling label s k (spelled vs) ≡ by_table vs)
   variable_section_passed none v s k at = pass_to (pass_nothing v s k at) (λ h. refl)
@@ -481,7 +477,7 @@ module _ {M : Type 0} (table : ℕ → Option ℕ) (label : Labelling Name M) (s
       }
 
   -- The name and the parameters of a procedure are passed like any part.
-  pub heading_passed : (x : ℕ) (fs : Tree ℕ (maybe formals)) (v : WalkState) (s : Scope Name) (k : ℕ) → At v src s k
+  heading_passed : (x : ℕ) (fs : Tree ℕ (maybe formals)) (v : WalkState) (s : Scope Name) (k : ℕ) → At v src s k
       → Passes v (state_after_heading (length v.declaration_tokens) (length v.scope) (visit_formals fs (number_declaration x v))) ((role.DeclaringName, x) ∷ identifiers role.DeclaringName fs)
       (declare_names (suc k) (formal_parameter_names (formal_parameter_sections (spelled fs))) ((spelling_at_token src x, k) ∷ s)) (ordinal_after_names (suc k) (formal_parameter_names (formal_parameter_sections (spelled fs))))
       (Two (table x ≡ Some k) (relabel_formals naming_by_spelling label s (suc k) (spelled fs) ≡ by_table fs))
@@ -494,7 +490,7 @@ module _ {M : Type 0} (table : ℕ → Option ℕ) (label : Labelling Name M) (s
       show_passed (name ∷ formal) at (ap (λ xs. name ∷ xs) (formals_declaring fs)) heading
 
   mutual
-    pub block_passed : (b : Tree ℕ block) (v : WalkState) (s : Scope Name) (k : ℕ) → At v src s k
+    block_passed : (b : Tree ℕ block) (v : WalkState) (s : Scope Name) (k : ℕ) → At v src s k
         → Passes v (visit_block b v) (identifiers role.DeclaringName b) (body_scope k (spelled b) s) (ordinal_after_block k (spelled b))
         (relabel_block naming_by_spelling label s k (spelled b) ≡ by_table b)
     block_passed (forms_block (declares cs ts vs ps) statements) v s k at =
@@ -512,7 +508,7 @@ module _ {M : Type 0} (table : ℕ → Option ℕ) (label : Labelling Name M) (s
         pass_to (pass_then (pass_then a (pass_then b (pass_then c d))) e)
         (λ p i. forms_block (declares (p.first.first i) (p.first.second.first i) (p.first.second.second.first i) (p.first.second.second.second i)) (p.second i))
 
-    pub procedures_passed : (ps : Tree ℕ (items procedure)) (v : WalkState) (s : Scope Name) (k : ℕ) → At v src s k
+    procedures_passed : (ps : Tree ℕ (items procedure)) (v : WalkState) (s : Scope Name) (k : ℕ) → At v src s k
         → Passes v (visit_procedure_list ps v) (identifiers role.DeclaringName ps) (declare_procedure_names k (spelled ps) s) (ordinal_after_procedure_list k (spelled ps))
         (relabel_procedure_list naming_by_spelling label s k (spelled ps) ≡ by_table ps)
     procedures_passed end v s k at = pass_to (pass_nothing v s k at) (λ h. refl)
@@ -521,7 +517,7 @@ module _ {M : Type 0} (table : ℕ → Option ℕ) (label : Labelling Name M) (s
         pass_to (pass_then a (procedures_passed ps (visit_procedure p v) ((procedure_name (spelled p), k) ∷ s) (ordinal_after_procedure (suc k) (spelled p)) a.at))
         (λ q i. more (q.first i) (q.second i))
 
-    pub procedure_passed : (p : Tree ℕ (item procedure)) (v : WalkState) (s : Scope Name) (k : ℕ) → At v src s k
+    procedure_passed : (p : Tree ℕ (item procedure)) (v : WalkState) (s : Scope Name) (k : ℕ) → At v src s k
         → Passes v (visit_procedure p v) (identifiers role.DeclaringName p) ((procedure_name (spelled p), k) ∷ s) (ordinal_after_procedure (suc k) (spelled p))
         (relabel_procedure naming_by_spelling label s k (spelled p) ≡ by_table p)
     procedure_passed (declares_procedure x fs b closing) v s k at =

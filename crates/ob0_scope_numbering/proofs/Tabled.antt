@@ -1,19 +1,17 @@
 -- Proves that visiting a module with a table gives the same result as entering the listed marks in
 -- the table.
-use Rattle.std.proofs.Common.{◌≡◌, ℕ, ◌+◌, Bool, true, false, nat_lt, if◌then◌else◌, Option, Some, None, List, [], ◌∷◌, ◌++◌, length, replicate, set, refl, ap, ◌∙◌}
+use Rattle.std.proofs.Common.{◌≡◌, ℕ, ◌+◌, Option, Some, None, List, [], ◌∷◌, ◌++◌, length, replicate, set, refl, ap, ◌∙◌}
 use Rattle.ob0_scan.specs.TextWithTokens.{IsScan}
 use Rattle.ob0_tree.specs.declared.tree.Role.{Role}
 use Rattle.ob0_tree.specs.declared.tree.Role.TheVariants as role
-use Rattle.ob0_tree.specs.Tree.{Sort, Tree, block, body, constant, constants, declares, declares_constant, declares_const_section, declares_procedure, declares_type, declares_type_section, declares_variable, declares_var_section, end, formals, section_after_semicolon, forms_block, identifiers, forms_module, item, items, maybe, module_text, more, no_formals, none, one, procedure, section, some_formals, semicolon_then_section, type_definition, type_definitions, value_section, variable, variable_section, variables}
+use Rattle.ob0_tree.specs.Tree.{Sort, Tree, block, constant, constants, declares, declares_constant, declares_const_section, declares_procedure, declares_type, declares_type_section, declares_variable, declares_var_section, end, formals, section_after_semicolon, forms_block, identifiers, forms_module, item, items, maybe, module_text, more, no_formals, none, one, procedure, section, some_formals, semicolon_then_section, type_definition, type_definitions, value_section, variable, variable_section, variables}
 use Rattle.ob0_tree.specs.ParsedModule.{TreeMatchesText, ParsedModule, tree_of}
 use Rattle.ob0_scope_numbering.specs.MarkWalk as listing
 use Rattle.ob0_scope_numbering.specs.IdentifierWalk.{number_declaration, number_declarations, state_after_heading, state_after_procedure_block, visit_block, visit_constant, visit_constant_section, visit_constants, visit_formals, visit_identifier, visit_identifiers, visit_module, visit_nondeclaring_tree, visit_procedure, visit_procedure_list, visit_parameter_section, visit_parameter_sections, visit_type, visit_type_section, visit_types, visit_variable, visit_variable_section, visit_variables, with_mark, with_names_visible_from_index}
 use Rattle.ob0_scope_numbering.specs.OrdinalMarks.{OrdinalMark}
 use Rattle.ob0_scope_table.specs.OrdinalEntries.{stored_ordinal}
 use Rattle.ob0_language_names.specs.Names.{naming_by_spelling}
-use Rattle.ob0_language_names.specs.BlockParts.{names_in_list, procedure_name}
-use Rattle.ob0_scope_table.specs.SpellingChangesInOneBody.{closing_name}
-use Rattle.ob0_scope_numbering.specs.BodyWalk.{with_declarations_before_token, renumber_body_in_module, with_skipped_procedure_name, renumber_block, renumber_procedure, renumber_procedure_list, initial_walk_state_with_table}
+use Rattle.ob0_language_names.specs.BlockParts.{names_in_list}
 use Rattle.ob0_language_names.specs.Scopes.{ordinal_in_scope}
 use Rattle.ob0_scope_numbering.specs.TableWalk as tabling
 use Rattle.ob0_scope_numbering.specs.TableWalk.{number_module}
@@ -25,7 +23,7 @@ with_entries-added table [] i ordinal = refl
 with_entries-added table (m ∷ ms) i ordinal = with_entries-added (set table m.token (stored_ordinal m.ordinal)) ms i ordinal
 
 -- returns the state with a table that has the entries of the listed marks
-abbrev entered : List (Option ℕ) → listing.WalkState → tabling.WalkState
+abbrev pub entered : List (Option ℕ) → listing.WalkState → tabling.WalkState
 entered table v = record { spellings = v.spellings; scope = v.scope; declaration_tokens = v.declaration_tokens; uses = v.uses; marks = with_entries table v.marks }
 
 module _ (table : List (Option ℕ)) where
@@ -50,7 +48,8 @@ module _ (table : List (Option ℕ)) where
   visit_identifiers-entered [] v = refl
   visit_identifiers-entered (x ∷ xs) v = ap (visit_identifiers xs) (visit_identifier-entered x.0 x.1 v) ∙ visit_identifiers-entered xs (visit_identifier x.0 x.1 v)
 
-  used-entered : {s : Sort} (t : Tree ℕ s) (v : listing.WalkState) → visit_nondeclaring_tree t (entered table v) ≡ entered table (visit_nondeclaring_tree t v)
+  -- Visiting a part that declares nothing with a table enters its listed marks.
+  pub used-entered : {s : Sort} (t : Tree ℕ s) (v : listing.WalkState) → visit_nondeclaring_tree t (entered table v) ≡ entered table (visit_nondeclaring_tree t v)
   used-entered t v = visit_identifiers-entered (identifiers role.DeclaringName t) v
 
   -- Visiting names and the part after them with a table enters their listed marks.
@@ -143,37 +142,6 @@ module _ (table : List (Option ℕ)) where
   text-entered (forms_module x b closing) v =
       let w = with_mark x None v in
       ap (with_mark closing None) (ap (visit_block b) (with_mark-entered x None v) ∙ block-entered b w) ∙ with_mark-entered closing None (visit_block b w)
-
-  either : (b : Bool) (x y : tabling.WalkState) (v w : listing.WalkState) → x ≡ entered table v → y ≡ entered table w → (if b then x else y) ≡ entered table (if b then v else w)
-  either true x y v w e f = e
-  either false x y v w e f = f
-
-  mutual
-    renumber_block-entered : (all : List ℕ) (low : ℕ) (b : Tree ℕ block) (v : listing.WalkState) → renumber_block all low b (entered table v) ≡ entered table (renumber_block all low b v)
-    renumber_block-entered all low (forms_block (declares cs ts vs ps) statements) v =
-        let w = visit_variable_section vs (visit_type_section ts (visit_constant_section cs v)) in
-        ap (renumber_procedure_list all low ps statements) (declaration_tokens-entered cs ts vs v) ∙ procedures_again-entered all low ps statements w
-
-    procedures_again-entered : (all : List ℕ) (low : ℕ) (ps : Tree ℕ (items procedure)) (statements : Tree ℕ (maybe body)) (v : listing.WalkState)
-        → renumber_procedure_list all low ps statements (entered table v) ≡ entered table (renumber_procedure_list all low ps statements v)
-    procedures_again-entered all low end statements v = used-entered statements v
-    procedures_again-entered all low (more p ps) statements v =
-        let w = with_declarations_before_token all (procedure_name p) v in
-        either (nat_lt (closing_name p) low) (renumber_procedure_list all low ps statements (with_skipped_procedure_name (procedure_name p) (entered table w))) (renumber_procedure all low p (entered table w))
-        (renumber_procedure_list all low ps statements (with_skipped_procedure_name (procedure_name p) w)) (renumber_procedure all low p w)
-        (procedures_again-entered all low ps statements (with_skipped_procedure_name (procedure_name p) w)) (renumber_procedure-entered all low p w)
-
-    renumber_procedure-entered : (all : List ℕ) (low : ℕ) (p : Tree ℕ (item procedure)) (v : listing.WalkState) → renumber_procedure all low p (entered table v) ≡ entered table (renumber_procedure all low p v)
-    renumber_procedure-entered all low (declares_procedure x fs b closing) v =
-        let w = state_after_heading (length v.declaration_tokens) (length v.scope) (visit_formals fs (number_declaration x v)) in
-        ap (renumber_block all low b) (heading-entered x fs v) ∙ renumber_block-entered all low b w
-
--- returns the marks of the walk to one body
-abbrev pub marks_again : List ℕ → ℕ → Tree ℕ module_text → Spellings → List OrdinalMark
-marks_again all low (forms_module x b closing) w = (renumber_block all low b (listing.initial_walk_state w)).marks
-
-pub body_tabled : (all : List ℕ) (low : ℕ) (m : Tree ℕ module_text) (w : Spellings) (table : List (Option ℕ)) → (renumber_body_in_module all low m (initial_walk_state_with_table w table)).marks ≡ with_entries table (marks_again all low m w)
-body_tabled all low (forms_module x b closing) w table = ap (λ (v : tabling.WalkState). v.marks) (renumber_block-entered table all low b (listing.initial_walk_state w))
 
 pub module_tabled : (m : ParsedModule) (w : Spellings) → TreeMatchesText m → IsScan m.source → visit_module (tree_of m) (tabling.initial_walk_state w) ≡ number_module (tree_of m) w
 module_tabled m w parsed scan =

@@ -1,6 +1,6 @@
 -- Proves that a table into which marks at ascending tokens were entered has each mark's ordinal at
 -- its token.
-use Rattle.std.proofs.Common.{◌≡◌, ◌≢◌, ◌==◌, ◌||◌, ℕ, ◌+◌, ◌<◌, ◌≤◌, Bool, true, false, Option, None, List, [], ◌∷◌, length, replicate, set, refl, sym, ◌∙◌, subst, arith, get_or-set_other, get_or-set_same, ap, le_refl}
+use Rattle.std.proofs.Common.{◌≡◌, ◌≢◌, ◌==◌, ℕ, ◌+◌, ◌<◌, ◌≤◌, Bool, true, false, Option, None, List, [], ◌∷◌, length, replicate, set, refl, sym, ◌∙◌, subst, arith, get_or-set_other, get_or-set_same, ap, le_refl}
 use Rattle.std.proofs.Math.Dec.{ltb}
 use Rattle.std.proofs.lemmas.Bool.{eqb-false, ltb-false, ltb-true, or_parts}
 use Rattle.std.proofs.lemmas.List.{get_or-replicate, get_or_past, length-replicate}

@@ -30,7 +30,7 @@ abbrev pub spelling_at_token : Spellings → ℕ → Name
 spelling_at_token w i =
     if is_bound_to_renamed_declaration w.declaration (ordinal_in w.ordinals i) then w.new else token_text_at w.source i
 
--- returns the spellings of the identifiers as in the text, without a renaming
+-- returns the spellings that the identifiers have in the text, without a renaming
 abbrev pub original_spellings : TextWithTokens → Spellings
 original_spellings source = record { source = source; ordinals = []; declaration = None; new = [] }
 

@@ -43,7 +43,7 @@ module _ {M : Type 0} {put_ordinal : ℕ → Option ℕ → M → M} where
   abbrev pub with_visible_name : ℕ → ℕ → WalkState put_ordinal → WalkState put_ordinal
   with_visible_name i ordinal v = record v { scope = (spelling_at_token v.spellings i, ordinal) ∷ v.scope }
 
-  -- Makes the names of the declarations so far visible, in order, except for the first `first` of these
+  -- Makes the names of the declarations so far visible, in order, but skips the first `first`
   -- declarations. Predeclared names don't count as declarations here.
   abbrev pub with_names_visible_from_index : ℕ → WalkState put_ordinal → WalkState put_ordinal
   with_names_visible_from_index first v =
@@ -56,9 +56,10 @@ module _ {M : Type 0} {put_ordinal : ℕ → Option ℕ → M → M} where
   abbrev pub with_oldest_bindings : ℕ → WalkState put_ordinal → WalkState put_ordinal
   with_oldest_bindings len v = record v { scope = drop (length v.scope - len) v.scope }
 
-  -- Returns the state after the heading of a procedure. First, the bindings of the parameters are
-  -- removed. Then the procedure and its parameters are bound, in this order. `own` is the number of
-  -- declarations before the procedure, and `outside` the number of bindings before the procedure.
+  -- Returns the state after the heading of a procedure, given the state after its last parameter.
+  -- First, the bindings of the parameters are removed. Then the procedure and its parameters are
+  -- bound, in this order. `own` is the number of declarations before the procedure, and `outside`
+  -- the number of bindings before the procedure.
   abbrev pub state_after_heading : ℕ → ℕ → WalkState put_ordinal → WalkState put_ordinal
   state_after_heading own outside v = with_names_visible_from_index own (with_oldest_bindings outside v)
 

@@ -1,5 +1,5 @@
 pub mod IdentifierSpellings
-pub mod BodyWalk
+pub mod BodyScope
 pub mod IdentifierWalk
 pub mod OrdinalMarks
 pub mod MarkWalk

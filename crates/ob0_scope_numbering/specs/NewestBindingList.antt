@@ -1,5 +1,5 @@
--- Defines look-ups and changes in the list of names that a scope keeps. The list has each name once,
--- with the index of its newest binding.
+-- Defines look-ups and changes in the list of names that a scope keeps. The list has each name
+-- once, with the index of its newest binding.
 -- Rule: none; used in private contracts about this list.
 use Rattle.std.specs.Prelude.{◌≡◌, ◌<◌, ℕ, suc, List, [], ◌∷◌, Option, Some, None, if◌then◌else◌, length, option_map, slice_index_or}
 use Rattle.std.specs.BTreeMap.{BTreeMap, get_by}

@@ -36,8 +36,8 @@ state_with_marks_in_table table v =
       marks = table_with_marks table v.marks;
     }
 
--- Returns the state after the walk over a module whose identifiers have the spellings `spellings`. The
--- walk collects marks, which are then entered into a table that has None for each token.
+-- Returns the state after the walk over a module whose identifiers have the spellings `spellings`.
+-- The walk collects marks, which are then entered into a table that has None for each token.
 abbrev pub number_module : Tree ℕ module_text → Spellings → WalkState
 number_module m spellings =
     state_with_marks_in_table (replicate (length spellings.source.tokens) None)

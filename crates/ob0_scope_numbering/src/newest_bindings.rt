@@ -11,8 +11,8 @@
 //! so even names with the same last bytes are found in logarithmic time.
 //!
 //! A small table of recent names is searched before the map. A name's length and a few of its bytes
-//! give an index of this table. At this index, the table has the list position of the last name that
-//! was looked up with the same index. The position is only a hint: the name at the position is
+//! give an index of this table. At this index, the table has the list position of the last name
+//! that was looked up with the same index. The position is only a hint: the name at the position is
 //! compared with the sought name. So the proof needs no fact about the table.
 
 ghost use Rattle.std.specs.Prelude.{◌≡◌, [], IfOk, IfSome, OnErr, OnOk, None, Some};
@@ -82,9 +82,9 @@ fn name_fingerprint(name: &str) -> u64 {
     ends << 16 | u64::from(bytes[len - 2]) << 8 | u64::from(bytes[len - 3])
 }
 
-/// Returns the index of a name in the table of recent names. The index is the ten highest bits of
-/// the name's fingerprint (`name_fingerprint`) times a large constant. These bits depend on all
-/// bits of the fingerprint.
+/// Returns the index of a name in the table of recent names. The name's fingerprint
+/// (`name_fingerprint`) is multiplied by a large constant, modulo 2^64. The index is the ten
+/// highest bits of this product, which depend on all bits of the fingerprint.
 fn recent_name_table_index(name: &str) -> usize {
     (name_fingerprint(name).wrapping_mul(0x9E37_79B9_7F4A_7C15) >> 54) as usize
 }

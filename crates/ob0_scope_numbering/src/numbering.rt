@@ -3,9 +3,9 @@
 //! names.
 //!
 //! Expressions, types and statements declare nothing. The walk of `ob0_tree` visits them, with
-//! `NumberingWalk` as its `Visitor`. The contract of each function is an equation between whole
-//! states, for example `self.new ≡ visit_constant c self.old`. With such contracts, most functions
-//! that visit declarations need no proof file.
+//! `NumberingWalk` as its `Visitor`. The contract of each function that visits a declaration is an
+//! equation between whole states, for example `self.new ≡ visit_constant c self.old`. With such
+//! contracts, most of these functions need no proof file.
 //!
 //! `make_names_visible_from_index` makes declared names visible, in the order of their
 //! ordinals. It is called after each constant, each type, and each group of variables or
@@ -20,24 +20,28 @@
 //! of `number_identifiers` says that the table results from entering the marks into an empty table.
 //! So all other proofs are about the marks, which are in the order of their tokens.
 //!
+//! `renumber_body` visits the statements of one body only. It makes their scope from the table,
+//! which has the ordinals of the names that are declared around the body.
+//!
 //! An entry of the table has 32 bits (`OrdinalEntry`). An ordinal that is too large for an entry is
-//! stored as the greatest one. So no function of the walk requires that ordinals are small. A text
-//! has at most 2^20 bytes and no more tokens than bytes, and each declaration has a different
-//! token. So entries can hold the ordinals of all marks.
+//! stored as the greatest ordinal that fits. So no function of the walk requires that ordinals are
+//! small. A text has at most 2^20 bytes and no more tokens than bytes, and each declaration has a
+//! different token. So entries can hold the ordinals of all marks.
 
-ghost use Rattle.std.specs.Prelude.{◌≡◌, ◌+◌, ◌<◌, ◌^◌, [], OnOk, IfOk, length, Some, None};
+ghost use Rattle.std.specs.Prelude.{◌≡◌, ◌+◌, ◌<◌, ◌^◌, [], OnOk, IfOk, length, map, Some, None};
 ghost use Rattle.ob0_tree.specs.declared.tree.Role.TheVariants as roles;
 ghost use Rattle.ob0_tree.specs.ParsedModule.{tree_of};
-ghost use Rattle.ob0_tree.specs.View.{names_of, constant_of, constant_section_of, type_declaration_of, type_section_of, variable_of, variable_section_of, parameter_section_of, formals_of, procedure_of, block_of};
+ghost use Rattle.ob0_tree.specs.TokenIndexLeaves.{token_text_at};
+ghost use Rattle.ob0_tree.specs.View.{names_of, body_of, constant_declaration_of, constant_section_of, type_declaration_of, type_section_of, variable_declaration_of, variable_section_of, parameter_section_of, formals_of, procedure_of, block_of};
 ghost use Rattle.ob0_language_names.specs.Names.{naming_by_spelling};
 ghost use Rattle.ob0_language_names.specs.BlockParts.{names_in_list};
-ghost use Rattle.ob0_scope_table.specs.Resolution.{ordinal_in};
+ghost use Rattle.ob0_scope_table.specs.Resolution.{ordinal_and_spelling_at_token, ordinal_in};
 ghost use Rattle.ob0_language_names.specs.Scopes.{ordinal_in_scope, predeclared_count, predeclared_scope};
 ghost use Rattle.ob0_scope_numbering.specs.StoredScopes.{with_scope};
-ghost use Rattle.ob0_scope_numbering.specs.IdentifierSpellings.{original_spellings, is_bound_to_renamed_declaration, spelling_at_token};
+ghost use Rattle.ob0_scope_numbering.specs.IdentifierSpellings.{is_bound_to_renamed_declaration, spelling_at_token};
 ghost use Rattle.ob0_scope_numbering.specs.TableWalk.{initial_walk_state, number_module};
-ghost use Rattle.ob0_scope_numbering.specs.IdentifierWalk.{with_mark, number_declaration, number_declarations, with_visible_name, with_names_visible_from_index, with_oldest_bindings, visit_identifier, visit_constant, visit_constant_section, visit_type, visit_type_section, visit_variable, visit_variable_section, visit_parameter_section, visit_formals, visit_procedure, visit_block, visit_module};
-ghost use Rattle.ob0_scope_numbering.specs.BodyWalk.{with_declarations_before_token, with_declaration, renumber_body_in_module, with_skipped_procedure_name, renumber_block, renumber_procedure, initial_walk_state_with_table};
+ghost use Rattle.ob0_scope_numbering.specs.IdentifierWalk.{with_mark, number_declaration, number_declarations, with_visible_name, with_names_visible_from_index, with_oldest_bindings, visit_identifier, visit_nondeclaring_tree, visit_constant, visit_constant_section, visit_type, visit_type_section, visit_variable, visit_variable_section, visit_parameter_section, visit_formals, visit_procedure, visit_block, visit_module};
+ghost use Rattle.ob0_scope_numbering.specs.BodyScope.{declare_name_if_bound, declare_names_with_ordinals, scope_from_table, state_before_body};
 
 use crate::scope_bindings::ScopeBindings;
 use crate::spellings::{Spellings, is_bound_to_renamed_declaration};
@@ -45,8 +49,8 @@ use ob0_scan::Tokens;
 use ob0_scope_table::{OrdinalEntry, PREDECLARED_COUNT, ordinal_at};
 use ob0_tree::identifier_walk::{Visitor, walk_body, walk_expression, walk_type};
 use ob0_tree::{
-    Block, ConstantDeclaration, Module, Names, ParameterSection, Procedure, Role, TypeDeclaration,
-    VariableDeclaration, token_text_at,
+    Block, ConstantDeclaration, IdentifierList, Module, ParameterSection, Procedure, Role,
+    Statement, TypeDeclaration, VariableDeclaration, token_text_at,
 };
 use std::alloc::{AllocError, Global};
 use std::marker::Model;
@@ -106,8 +110,8 @@ impl<'t> Visitor for NumberingWalk<'t> {
     }
 }
 
-/// Returns the ordinal of the declaration with this index among the declarations of the text,
-/// counted from 0.
+/// Returns the ordinal of the declaration with the index `index` among the declarations of the
+/// text, counted from 0.
 fn ordinal_at_index(index: usize) -> usize
     requires { index < 2 ^ 63 }
     ensures { result ≡ predeclared_count + index }
@@ -145,8 +149,8 @@ fn declare_predeclared_names(visible: &mut ScopeBindings<'_>) -> Result<(), Allo
     Ok(())
 }
 
-/// Visits a module whose identifiers have the spellings `spellings`, and returns the state after the
-/// visit.
+/// Visits a module whose identifiers have the spellings `spellings`, and returns the state after
+/// the visit.
 fn visit_module<'t>(
     alloc: Global,
     read: &'t Module<'t>,
@@ -171,37 +175,70 @@ fn visit_module<'t>(
     Ok(numbering)
 }
 
-/// Looks up the names in one body again, and returns the table of ordinals with the results. A body
-/// is the statements of a block; this one contains the token `low`. `table` has the ordinals of all
-/// other identifiers. `all` has the declaring tokens of the whole module, in text order.
-pub fn renumber_body(
-    alloc: Global,
-    read: &Module<'_>,
-    table: Vec<OrdinalEntry>,
-    all: &[usize],
-    low: usize,
-) -> Result<Vec<OrdinalEntry>, AllocError>
-    ensures { IfOk result (λ ordinals. ordinals.items
-        ≡ (renumber_body_in_module all.now low (tree_of read.now)
-        (initial_walk_state_with_table (original_spellings read.now.source) table.items)).marks) }
+/// Binds the name at a token to the ordinal that the table `ordinals` has for this token. Does
+/// nothing if the table has none.
+fn declare_name_from_table<'t>(
+    visible: &mut ScopeBindings<'t>,
+    tokens: &'t Tokens,
+    ordinals: &[OrdinalEntry],
+    token: usize,
+) -> Result<(), AllocError>
+    ensures { OnOk result (visible.new ≡ with_scope visible.old (declare_name_if_bound
+        (ordinal_in ordinals.now token) (token_text_at tokens.now token) visible.old.scope)) }
 {
+    match ordinal_at(ordinals, token) {
+        Some(ordinal) => visible.declare(token_text_at(tokens, token), ordinal),
+        None => Ok(()),
+    }
+}
+
+/// Binds the names at the tokens `names`, in order. The table `ordinals` has their ordinals.
+fn declare_names_from_table<'t>(
+    visible: &mut ScopeBindings<'t>,
+    tokens: &'t Tokens,
+    ordinals: &[OrdinalEntry],
+    names: &[usize],
+) -> Result<(), AllocError>
+    ensures { OnOk result (visible.new ≡ with_scope visible.old (declare_names_with_ordinals
+        (map (ordinal_and_spelling_at_token tokens.now ordinals.now) names.now) visible.old.scope)) }
+{
+    for name in names {
+        declare_name_from_table(visible, tokens, ordinals, *name)?;
+    }
+    Ok(())
+}
+
+/// Looks up the names in the statements of one block, and returns the state after the visit.
+/// `table` has the ordinals of the identifiers outside these statements. `names` has the tokens of
+/// the declared names that are visible in the statements, in the order of their declarations.
+pub fn renumber_body<'t>(
+    alloc: Global,
+    tokens: &'t Tokens,
+    table: Vec<OrdinalEntry>,
+    names: &[usize],
+    statements: &Option<Vec<Statement>>,
+) -> Result<NumberingWalk<'t>, AllocError>
+    ensures { IfOk result (λ n. n ≡ visit_nondeclaring_tree (body_of statements.now)
+        (state_before_body tokens.now (scope_from_table tokens.now table.items names.now) table.items)) }
+{
+    let mut visible = scope_with_predeclared_names(alloc, "")?;
+    declare_names_from_table(&mut visible, tokens, &table, names)?;
     let mut numbering = NumberingWalk {
-        tokens: read.tokens(),
+        tokens,
         ordinals: &[],
         declaration: None,
-        visible: scope_with_predeclared_names(alloc, "")?,
+        visible,
         declaration_tokens: Vec::new(alloc),
         occurrences: Vec::new(alloc),
         table,
     };
-    numbering.renumber_block(read.block(), all, low)?;
-    let (_declarations, _occurrences, ordinals) = numbering.into_tokens_and_ordinals();
-    Ok(ordinals)
+    walk_body(&mut numbering, statements)?;
+    Ok(numbering)
 }
 
-/// Assigns to each identifier of a module, spelled as in `spellings`, the ordinal of its declaration,
-/// and returns the state after the visit. An entry of the table can hold every ordinal, because a
-/// text has at most 2^20 bytes and no more declarations than bytes.
+/// Assigns to each identifier of a module, spelled as in `spellings`, the ordinal of its
+/// declaration, and returns the state after the visit. An entry of the table can hold every
+/// ordinal, because a text has at most 2^20 bytes and no more declarations than bytes.
 pub fn number_identifiers<'t>(
     alloc: Global,
     read: &'t Module<'t>,
@@ -282,8 +319,8 @@ impl<'t> NumberingWalk<'t> {
         }
     }
 
-    /// Makes the names of the declarations so far visible, in order, except for the first `first`
-    /// of these declarations.
+    /// Makes the names of the declarations so far visible, in order, but skips the first `first`
+    /// declarations.
     fn make_names_visible_from_index(&mut self, first: usize) -> Result<(), AllocError>
         ensures { OnOk result (self.new ≡ with_names_visible_from_index first self.old) }
     {
@@ -347,7 +384,7 @@ impl<'t> NumberingWalk<'t> {
 
     /// Assigns the next ordinals to the names in a declaration's name list, in order. Does not make
     /// the names visible.
-    fn number_declarations(&mut self, ns: &Names) -> Result<(), AllocError>
+    fn number_declarations(&mut self, ns: &IdentifierList) -> Result<(), AllocError>
         ensures { OnOk result (self.new ≡ number_declarations (names_in_list (names_of ns.now))
             self.old) }
     {
@@ -359,7 +396,7 @@ impl<'t> NumberingWalk<'t> {
     }
 
     fn walk_constant(&mut self, c: &ConstantDeclaration) -> Result<(), AllocError>
-        ensures { OnOk result (self.new ≡ visit_constant (constant_of c.now) self.old) }
+        ensures { OnOk result (self.new ≡ visit_constant (constant_declaration_of c.now) self.old) }
     {
         let first = self.declaration_count();
         self.number_declaration(c.name)?;
@@ -377,7 +414,7 @@ impl<'t> NumberingWalk<'t> {
     }
 
     fn walk_variable_declaration(&mut self, v: &VariableDeclaration) -> Result<(), AllocError>
-        ensures { OnOk result (self.new ≡ visit_variable (variable_of v.now) self.old) }
+        ensures { OnOk result (self.new ≡ visit_variable (variable_declaration_of v.now) self.old) }
     {
         let first = self.declaration_count();
         self.number_declarations(&v.names)?;
@@ -484,88 +521,5 @@ impl<'t> NumberingWalk<'t> {
             self.walk_procedure(p)?;
         }
         walk_body(self, &b.body)
-    }
-
-    /// Appends the declarations before the token `token` that aren't in the list of declarations
-    /// yet, without visiting them. `all` has the declaring tokens of the whole module, in text
-    /// order.
-    fn append_declarations_before_token(
-        &mut self,
-        all: &[usize],
-        token: usize,
-    ) -> Result<(), AllocError>
-        ensures { OnOk result (self.new ≡ with_declarations_before_token all.now token self.old) }
-    {
-        for index in self.declaration_count()..all.len() {
-            let declared = all[index];
-            if declared >= token {
-                return Ok(());
-            }
-            self.append_declaration(declared)?;
-        }
-        Ok(())
-    }
-
-    /// Appends the declaring token `token` to the list of declarations, without visiting the
-    /// declaration.
-    fn append_declaration(&mut self, token: usize) -> Result<(), AllocError>
-        ensures { OnOk result (self.new ≡ with_declaration token self.old) }
-    {
-        self.declaration_tokens.push(token)?;
-        Ok(())
-    }
-
-    /// Makes a procedure's name visible with the next ordinal, without visiting the procedure. The
-    /// name is declared at the token `token`.
-    fn skip_procedure(&mut self, token: usize) -> Result<(), AllocError>
-        ensures { OnOk result (self.new ≡ with_skipped_procedure_name token self.old) }
-    {
-        let next = self.declaration_tokens.len();
-        self.make_name_visible(token, ordinal_at_index(next))
-    }
-
-    /// Visits a procedure again, on the way to the body that contains the token `low`. Visits the
-    /// procedure's name, its parameters, and the parts of its block that `renumber_block` visits.
-    /// `all` has the declaring tokens of the whole module, in text order.
-    #[cycle(blocks_again)]
-    fn renumber_procedure(
-        &mut self,
-        p: &Procedure,
-        all: &[usize],
-        low: usize,
-    ) -> Result<(), AllocError>
-        ensures { OnOk result (self.new
-            ≡ renumber_procedure all.now low (procedure_of p.now) self.old) }
-    {
-        let first = self.declaration_count();
-        let outside = self.binding_count();
-        self.number_declaration(p.name)?;
-        self.walk_parameters(&p.formals)?;
-        self.truncate_bindings(outside);
-        self.make_names_visible_from_index(first)?;
-        self.renumber_block(&p.block, all, low)
-    }
-
-    /// Visits a block again, on the way to the body that contains the token `low`. Visits the
-    /// block's constants, types and variables. Then visits only the first procedure whose closing
-    /// name is at or after `low`. The names of the earlier procedures only become visible. If there
-    /// is no such procedure, visits the block's own statements. `all` has the declaring tokens of
-    /// the whole module, in text order.
-    #[cycle(blocks_again)]
-    fn renumber_block(&mut self, inner: &Block, all: &[usize], low: usize) -> Result<(), AllocError>
-        ensures { OnOk result
-            (self.new ≡ renumber_block all.now low (block_of inner.now) self.old) }
-    {
-        self.walk_constant_section(&inner.constants)?;
-        self.walk_type_section(&inner.types)?;
-        self.walk_variable_section(&inner.variables)?;
-        for p in &inner.procedures {
-            self.append_declarations_before_token(all, p.name)?;
-            if p.closing >= low {
-                return self.renumber_procedure(p, all, low);
-            }
-            self.skip_procedure(p.name)?;
-        }
-        walk_body(self, &inner.body)
     }
 }

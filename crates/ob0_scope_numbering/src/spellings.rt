@@ -54,7 +54,7 @@ pub(crate) fn is_bound_to_renamed_declaration(
 }
 
 impl<'t> Spellings<'t> {
-    /// Returns the spellings of the identifiers as in the text, without a renaming.
+    /// Returns the spellings that the identifiers have in the text, without a renaming.
     pub fn original_spellings(tokens: &'t Tokens) -> Spellings<'t>
         ensures { result ≡ original_spellings tokens.now }
     {

@@ -6,12 +6,12 @@ use Rattle.ob0_tree.specs.Tree.{occurrences}
 use Rattle.ob0_tree.specs.ParsedModule.{ParsedModule, tree_of, named_tree_of}
 use Rattle.ob0_tree.specs.TokenIndexLeaves.{token_text_at, token_value_at}
 use Rattle.ob0_language_names.specs.Names.{Name, naming_by_spelling}
-use Rattle.ob0_language_names.specs.Occurrences.{bindings, ordinal_bound_at_occurrence, label_ordinal}
+use Rattle.ob0_language_names.specs.Occurrences.{labels_of_occurrences, ordinal_bound_at_occurrence, label_ordinal}
 use Rattle.ob0_scope_table.specs.Resolution.{IsNumberingTable, IsResolution, Resolution, label_from_table, ordinal_in}
 use Rattle.ob0_language_names.specs.Scopes.{label_from_ordinal}
 use Rattle.ob0_language_names.proofs.OccurrencesMapped.{occurrences-mapped}
 
-pub bindings_by_table : (m : ParsedModule) (ordinals : List (Option ℕ)) → IsNumberingTable m ordinals → bindings (named_tree_of m) ≡ map (label_from_table m.source ordinals) (occurrences (tree_of m))
+pub bindings_by_table : (m : ParsedModule) (ordinals : List (Option ℕ)) → IsNumberingTable m ordinals → labels_of_occurrences (named_tree_of m) ≡ map (label_from_table m.source ordinals) (occurrences (tree_of m))
 bindings_by_table m ordinals numbering = ap occurrences numbering ∙ occurrences-mapped (label_from_table m.source ordinals) (label_from_table m.source ordinals) (token_value_at m.source) (tree_of m)
 
 pub label_back : (ordinal : Option ℕ) (x : Name) → label_ordinal (label_from_ordinal naming_by_spelling ordinal x) ≡ ordinal

@@ -36,7 +36,7 @@ pub scan_apart : (s : TextWithTokens) → IsScan s → TokensAreDisjoint 0 s.tok
 scan_apart s scan = subst (TokensAreDisjoint 0) (sym scan.tokens) (apart_from 0 scan.lexemes (full scan.lexemes [] scan.lexed.each))
 
 -- A token begins at or after `from`, and has at least one byte.
-token_bounds : (from : ℕ) (ts : List Token) (j : ℕ) (d : Token) → TokensAreDisjoint from ts → j < length ts → (from ≤ (get_or ts j d).span.start) × ((get_or ts j d).span.start < (get_or ts j d).span.end)
+pub token_bounds : (from : ℕ) (ts : List Token) (j : ℕ) (d : Token) → TokensAreDisjoint from ts → j < length ts → (from ≤ (get_or ts j d).span.start) × ((get_or ts j d).span.start < (get_or ts j d).span.end)
 token_bounds from [] j d h less = absurd (omega (arith, less))
 token_bounds from (t ∷ ts) zero d h less = (h.0, h.1.0)
 token_bounds from (t ∷ ts) (suc j) d h less =
@@ -44,7 +44,7 @@ token_bounds from (t ∷ ts) (suc j) d h less =
     (omega (arith, h.0, h.1.0, later.0), later.1)
 
 -- A later token begins at or after the end of an earlier one.
-tokens_follow : (from : ℕ) (ts : List Token) (i j : ℕ) (d : Token) → TokensAreDisjoint from ts → i < j → j < length ts → (get_or ts i d).span.end ≤ (get_or ts j d).span.start
+pub tokens_follow : (from : ℕ) (ts : List Token) (i j : ℕ) (d : Token) → TokensAreDisjoint from ts → i < j → j < length ts → (get_or ts i d).span.end ≤ (get_or ts j d).span.start
 tokens_follow from [] i j d h low less = absurd (omega (arith, less))
 tokens_follow from (t ∷ ts) i zero d h low less = absurd (omega (arith, low))
 tokens_follow from (t ∷ ts) zero (suc j) d h low less = (token_bounds t.span.end ts j d h.1.1 (omega (arith, less))).0
@@ -62,14 +62,14 @@ same_order f last rises i j i_inside j_inside = ⊎_elim
     (cases_lt j i))
     (cases_lt i j)
 
-abbrev no_token : Token
+abbrev pub no_token : Token
 no_token = record { kind = kind.Identifier; span = record { start = 0; end = 0 } }
 
 module _ (source : TextWithTokens) (scan : IsScan source) where
   abbrev count : ℕ
   count = length source.tokens
 
-  span_there : (i : ℕ) → i < count → token_span source i ≡ (get_or source.tokens i no_token).span
+  pub span_there : (i : ℕ) → i < count → token_span source i ≡ (get_or source.tokens i no_token).span
   span_there i less = ap span_or_empty (slice_get-get_or source.tokens i no_token less)
 
   start_rises : (i j : ℕ) → i < j → j ≤ count - 1 → (token_span source i).start < (token_span source j).start

@@ -1,4 +1,4 @@
--- Defines how a parsed module and the bindings of its names are joined to a resolved module.
+-- Defines how a parsed module and the bindings of its names are joined into a resolved module.
 -- Rule: docs/LANGUAGE.md, Scopes 2 to 4.
 use Rattle.ob0_tree.specs.ParsedModule.{ParsedModule}
 use Rattle.ob0_scope_table.specs.Resolution.{Resolution}

@@ -24,7 +24,8 @@ abbrev pub path_after_inserting_first_procedure : PathToBody → PathToBody
 path_after_inserting_first_procedure [] = []
 path_after_inserting_first_procedure (k ∷ path) = suc k ∷ path
 
--- Returns the path to the body that contains the token `low`, if a body contains it.
+-- Returns the path to the body that contains the token `low`. If no body contains `low`, the path
+-- may lead to any body.
 abbrev mutual
   -- returns the path from a block to the body that contains the token `low`, if a body contains it
   pub path_to_body_in_block : ℕ → Tree ℕ block → PathToBody

@@ -14,8 +14,8 @@ use Rattle.ob0_scope_table.specs.declared.one_body.BodyBounds.{BodyBounds}
 abbrev pub module_tree_of : ModuleTree → Tree ℕ module_text
 module_tree_of t = forms_module t.name (block_of t.block) t.closing
 
--- Returns the bounds of a body with these statements, in a block with the closing name at the token
--- `closing`. Returns None if `condition` is false, or if the statements have no identifier.
+-- Returns the bounds of the body with these statements. `closing` is the token of its block's
+-- closing name. Returns None if `condition` is false, or if the statements have no identifier.
 abbrev pub body_bounds_of_statements_if : Bool → Tree ℕ (maybe body) → ℕ → Option BodyBounds
 body_bounds_of_statements_if condition statements closing =
     if condition

@@ -74,10 +74,10 @@ duplicate_field_faults_in_formals spelling (more (semicolon_then_section s) fs) 
 -- Returns the faults of duplicate declarations and wrong closing names in a block, in procedures,
 -- or in one procedure.
 abbrev mutual
-  -- Returns the faults of a block: first of duplicate names in the block, then of duplicate fields
-  -- in its types and variables, then of its procedures. In a procedure's block, `own` has the
-  -- tokens of the names of the procedure's parameters, which count as declared in the block. In a
-  -- module's block, `own` is empty.
+  -- Returns the faults of a block. The faults for duplicate names in the block come first, then the
+  -- faults for duplicate fields in its TYPE and VAR sections. The faults of its procedures come
+  -- last. In a procedure's block, `own` has the tokens of the names of the procedure's parameters,
+  -- which count as declared in the block. In a module's block, `own` is empty.
   pub block_declaration_faults : (ℕ → Name) → List ℕ → Tree ℕ block → List FaultAtTokens
   block_declaration_faults spelling own (forms_block (declares cs ts vs ps) statements) =
       duplicate_faults spelling [] (own ++ names_declared_in_block (forms_block (declares cs ts vs ps) statements))
@@ -89,8 +89,8 @@ abbrev mutual
   procedure_list_declaration_faults spelling end = []
   procedure_list_declaration_faults spelling (more p rest) = procedure_declaration_faults spelling p ++ procedure_list_declaration_faults spelling rest
 
-  -- returns the faults of a procedure: first of its closing name, then of duplicate fields in its
-  -- parameters' types, then of its block
+  -- returns the faults of a procedure: first for its closing name, then for duplicate fields in its
+  -- parameters' types, then the faults of its block
   pub procedure_declaration_faults : (ℕ → Name) → Tree ℕ (item procedure) → List FaultAtTokens
   procedure_declaration_faults spelling (declares_procedure x fs b closing) =
       closing_name_faults spelling x closing

@@ -15,7 +15,7 @@ use Rattle.ob0_tree.specs.ParsedModule.{ParsedModule, TreeMatchesText, tree_of, 
 use Rattle.ob0_tree.specs.TokenIndexLeaves.{token_text_at, token_value_at}
 use Rattle.ob0_language_names.specs.Names.{Label, Name, naming_by_spelling, as_written, declared}
 use Rattle.ob0_language_names.specs.Scopes.{Labelling, label_from_ordinal, numbered, predeclared_count, relabel_module}
-use Rattle.ob0_language_names.specs.Occurrences.{bindings}
+use Rattle.ob0_language_names.specs.Occurrences.{labels_of_occurrences}
 use Rattle.ob0_language_names.specs.ConsistentNames.{has_consistent_names}
 use Rattle.ob0_scope_table.specs.DuplicatesAndEndNames.{declaration_faults}
 use Rattle.ob0_scope_table.specs.FaultsAtTokens.{fault_at_token}
@@ -56,7 +56,7 @@ abbrev pub is_unbound : Label → Bool
 is_unbound (declared k) = false
 is_unbound (as_written x) = true
 
--- returns whether this is the fault of a duplicate declaration or of a wrong closing name
+-- returns whether this is the fault of a duplicate declaration or field, or of a wrong closing name
 abbrev pub is_duplicate_or_end_name_fault : FaultAtTokens → Bool
 is_duplicate_or_end_name_fault fault =
     elim (fault.code) [ code.Duplicate ↦ true | code.EndName ↦ true | _ ↦ false ]
@@ -127,7 +127,7 @@ undeclared_faults_from_labels (token ∷ tokens) (label ∷ labels) =
 
 -- returns a fault for each undeclared name of a module, in text order
 abbrev pub undeclared_faults : ParsedModule → List FaultAtTokens
-undeclared_faults m = undeclared_faults_from_labels (occurrences (tree_of m)) (bindings (named_tree_of m))
+undeclared_faults m = undeclared_faults_from_labels (occurrences (tree_of m)) (labels_of_occurrences (named_tree_of m))
 
 -- States that these are the faults of a module's names. Duplicate declarations and wrong closing
 -- names come first (`declaration_faults`). A fault for each undeclared name follows, in text order.

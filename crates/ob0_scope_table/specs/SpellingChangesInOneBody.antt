@@ -57,9 +57,9 @@ abbrev pub is_range_in_one_body : ℕ → ℕ → Tree ℕ module_text → Bool
 is_range_in_one_body low high (forms_module x b closing) = nat_le high closing && is_range_in_body_of_block low high b
 
 -- States that the text of the module `m` differs from the text `old` only in the spellings of
--- tokens in one body. The tokens of both texts have the same kinds, one by one. The tokens from
--- `low` up to, but not including, `high` are inside one body of `m`. All other tokens also have the
--- same spellings in both texts.
+-- tokens in one body. The tokens of both texts have the same kinds, in order. The tokens from `low`
+-- up to, but not including, `high` are inside one body of `m`. All other tokens also have the same
+-- spellings in both texts.
 pub record ChangesSpellingsInOneBody (old : TextWithTokens) (m : ParsedModule) (low high : ℕ) : Type 0 where
   pub old_scan : IsScan old
   pub new_scan : IsScan m.source

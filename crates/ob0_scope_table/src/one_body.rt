@@ -1,7 +1,6 @@
 //! Finds the body (the statements of one block) that contains a range of tokens, if there is one. A
 //! range has the tokens from `low` up to, but not including, `high`. A body contains the range if
-//! two conditions hold. `low` is at or after the body's first identifier, and `high` is at or
-//! before the closing name of the body's block.
+//! `low` is at or after its first identifier, and `high` is at or before its block's closing name.
 
 ghost use Rattle.std.specs.Prelude.{◌≡◌};
 ghost use Rattle.ob0_tree.specs.ParsedModule.{tree_of};
@@ -81,9 +80,9 @@ fn body_bounds_in_procedure(p: &Procedure, low: usize, high: usize) -> Option<Bo
     body_bounds_in_block(&p.block, p.closing, low, high)
 }
 
-/// Returns the bounds of a body with these statements, in a block with the closing name at the
-/// token `closing`. Returns None if the statements have no identifier, or if their first identifier
-/// is after the token `low`.
+/// Returns the bounds of the body with these statements. `closing` is the token of its block's
+/// closing name. Returns None if the statements have no identifier, or if their first identifier is
+/// after the token `low`.
 fn body_bounds_of_statements(
     statements: &Option<Vec<Statement>>,
     closing: usize,

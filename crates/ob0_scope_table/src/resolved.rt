@@ -18,8 +18,8 @@ use std::marker::Model;
 /// `ordinals` has an entry for each token: the ordinal of the identifier's declaration, or None.
 /// `declaration_tokens` has the tokens of the declaring names, and `occurrences` has the tokens of
 /// the looked-up names, both in text order. `faults` has the faults of names: duplicate
-/// declarations, wrong closing names and undeclared names. All places are token indexes, so the
-/// bindings stay right if only white space or comments change. Bindings borrow nothing.
+/// declarations and fields, wrong closing names and undeclared names. All places are token indexes,
+/// so the bindings stay right if only white space or comments change. Bindings borrow nothing.
 #[derive(Drop)]
 pub struct Bindings {
     pub ordinals: Vec<OrdinalEntry>,

@@ -1,4 +1,5 @@
--- Proves which part of two byte strings was written.
+-- Proves that if a write fails while several byte strings are written, a prefix of their
+-- concatenation has been written.
 use Rattle.std.proofs.Common.{◌≡◌, ◌∙◌, ◌<◌, ◌+◌, ℕ, suc, length, get_or, add-one, append-nil, List, [], ◌∷◌, ◌++◌, Bool, true, ◌||◌, Option, Result, Ok, Err, OnErr, is_err, take, drop, map, ap, sym, append_assoc}
 use Rattle.std.proofs.Math.Bool.{or-true}
 use Rattle.std.proofs.Math.ListN.{get_or-map as get_or_map}

@@ -1,27 +1,28 @@
--- Defines which bytes the server has written when `serve` returns. `Serves` relates the bytes
--- written to the bytes read, for each result of `serve`. The bytes are frames: each frame is one
--- message, a head followed by its content.
+-- Defines which bytes the server has written when `serve` returns. For each result of `serve`,
+-- `Serves` relates the written bytes to the bytes that were read. The bytes are frames: each frame
+-- is one message, a head followed by its content.
 use Rattle.std.specs.Prelude.{◌≡◌, ◌≢◌, ◌≤◌, ◌+◌, ◌-◌, ◌^◌, ◌*◌, ◌⊎◌, ℕ, min, max, List, [], ◌++◌, Bool, true, false, Result, Ok, Err, length}
 use Rattle.std.specs.List.{flat_map}
 use Rattle.ob0_frame.specs.Frames.{frame}
-use Rattle.ob0_frame.specs.FramerState.{StreamRest, Open, Broken, FeedsStream}
-use Rattle.ob0_session_server.specs.Answers.{ServerState, start, IsConversation}
+use Rattle.ob0_frame.specs.FramerState.{StreamRest, Open, Broken, PieceAdvancesStream}
+use Rattle.ob0_session_server.specs.Answers.{ServerState, initial_server_state, IsConversation}
 use Rattle.ob0_session_server.specs.Steps.{HasNotEnded}
 use Rattle.ob0_session_server.specs.declared.session.Phase.TheVariants.{Ended}
 use Rattle.ob0_session.specs.Devices.{ReadStatistics}
 use Rattle.ob0_session.specs.declared.serve_loop.ServeFault.{ServeFault}
 use Rattle.ob0_session.specs.declared.serve_loop.ServeFault.TheVariants.{BadHead, Truncated, Read, Write, Memory, TooManyReads}
 
--- States which message contents the server has answered. The bytes `taken` are the frames of the
--- contents `answered`, then of the contents `waiting`, then the `rest`: unfinished bytes (`Open`)
--- or a bad head (`Broken`). The bytes `put` are the frames of valid answers to the contents
--- `answered`. After these answers, the session is in the state `after`.
+-- States that the server has answered the message contents in the bytes `taken`, except the
+-- contents `waiting`. The bytes `taken` are the frames of the contents `answered`, the frames of
+-- the contents `waiting`, and the `rest`: unfinished bytes (`Open`) or a bad head (`Broken`). The
+-- bytes `put` are the frames of valid answers to the contents `answered`. After these answers, the
+-- session is in the state `after`.
 pub record AnswersAllButWaiting (taken : List ℕ) (waiting : List (List ℕ)) (rest : StreamRest)
     (after : ServerState) (put : List ℕ) : Type 0 where
   pub answered : List (List ℕ)
   pub sent : List (List ℕ)
-  pub feeds : FeedsStream (Open []) taken (answered ++ waiting) rest
-  pub conversation : IsConversation start answered sent after
+  pub feeds : PieceAdvancesStream (Open []) taken (answered ++ waiting) rest
+  pub conversation : IsConversation initial_server_state answered sent after
   pub frames : put ≡ flat_map frame sent
 
 -- States that the server has answered all message contents in the bytes `taken`, and that the
@@ -32,9 +33,9 @@ pub record AnswersAllContents (taken : List ℕ) (rest : StreamRest) (put : List
   pub served : AnswersAllButWaiting taken [] rest after put
   pub not_ended : HasNotEnded after.phase
 
--- States that the server has answered a prefix of the message contents in the bytes `taken`: no
--- contents, some or all. The bytes `put` are the frames of these answers. The other contents
--- (`waiting`) aren't answered yet.
+-- States that the server has answered a prefix of the message contents in the bytes `taken`. The
+-- prefix may have no contents, some contents or all contents. The bytes `put` are the frames of
+-- these answers. The other contents (`waiting`) aren't answered yet.
 pub record AnswersSomeContents (taken put : List ℕ) : Type 0 where
   pub after : ServerState
   pub waiting : List (List ℕ)
@@ -55,18 +56,18 @@ pub record AnswersPrefixOfContents (taken put : List ℕ) : Type 0 where
   pub after : ServerState
   pub answered : List (List ℕ)
   pub sent : List (List ℕ)
-  pub front : (contents : List (List ℕ)) (rest : StreamRest) → FeedsStream (Open []) taken contents rest
+  pub front : (contents : List (List ℕ)) (rest : StreamRest) → PieceAdvancesStream (Open []) taken contents rest
       → (others : List (List ℕ)) × (contents ≡ answered ++ others)
-  pub conversation : IsConversation start answered sent after
+  pub conversation : IsConversation initial_server_state answered sent after
   pub frames : put ≡ flat_map frame sent
 
 -- States that neither the reader (`r`) nor the writer (`w`) has failed, and that the condition
 -- `flushed` holds.
-abbrev pub NoDeviceFailedAndFlushed : (reader_failed writer_failed : Bool) (flushed : Type 0) → Type 0
-NoDeviceFailedAndFlushed r w flushed = (r ≡ false) × (w ≡ false) × flushed
+abbrev pub NoFailureAndOutputFlushed : (reader_failed writer_failed : Bool) (flushed : Type 0) → Type 0
+NoFailureAndOutputFlushed r w flushed = (r ≡ false) × (w ≡ false) × flushed
 
--- States that the writer is flushed if it was flushed before, or if something was written. `put`
--- are the bytes written.
+-- States that the writer is flushed if it was flushed before, or if something was written. The list
+-- `put` has the written bytes.
 abbrev pub LeavesWriterFlushed : (was_flushed is_flushed : Bool) (put : List ℕ) → Type 0
 LeavesWriterFlushed was_flushed is_flushed put =
     (was_flushed ≡ true) ⊎ (put ≢ []) → is_flushed ≡ true
@@ -104,20 +105,20 @@ abbrev pub Serves : Result ℕ ServeFault
     → Type 0
 Serves (Ok status) taken put at_end all_read r w flushed =
     (EndsByExit status taken put ⊎ (AnswersAllContents taken (Open []) put × at_end × (status ≡ 1)))
-    × NoDeviceFailedAndFlushed r w flushed
+    × NoFailureAndOutputFlushed r w flushed
 -- BadHead: all complete messages are answered, and no message can begin with the bytes after them.
 Serves (Err BadHead) taken put at_end all_read r w flushed =
-    AnswersAllContents taken Broken put × NoDeviceFailedAndFlushed r w flushed
+    AnswersAllContents taken Broken put × NoFailureAndOutputFlushed r w flushed
 Serves (Err Truncated) taken put at_end all_read r w flushed =
     ((left : List ℕ) × AnswersAllContents taken (Open left) put × (left ≢ []) × at_end)
-    × NoDeviceFailedAndFlushed r w flushed
+    × NoFailureAndOutputFlushed r w flushed
 Serves (Err Read) taken put at_end all_read r w flushed =
     ((left : List ℕ) × AnswersAllContents taken (Open left) put) × (r ≡ true) × (w ≡ false) × flushed
 Serves (Err TooManyReads) taken put at_end all_read r w flushed =
     ((left : List ℕ) × AnswersAllContents taken (Open left) put × (max_reads ≤ length taken) × all_read)
-    × NoDeviceFailedAndFlushed r w flushed
+    × NoFailureAndOutputFlushed r w flushed
 -- Write: the bytes `put` are a prefix of the frames of valid answers.
 Serves (Err Write) taken put at_end all_read r w flushed =
     ((unwritten : List ℕ) × AnswersSomeContents taken (put ++ unwritten)) × (r ≡ false) × (w ≡ true)
 Serves (Err Memory) taken put at_end all_read r w flushed =
-    AnswersPrefixOfContents taken put × NoDeviceFailedAndFlushed r w flushed
+    AnswersPrefixOfContents taken put × NoFailureAndOutputFlushed r w flushed

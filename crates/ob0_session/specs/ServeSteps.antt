@@ -20,10 +20,10 @@ abbrev pub AppendsPrefix : Option (List ℕ) → Option (List ℕ) → List ℕ 
 AppendsPrefix old new bytes =
     (front : List ℕ) × (back : List ℕ) × (bytes ≡ front ++ back) × Appends old new front
 
--- States that sending these messages may have this result. With Ok, the frames of all messages were
--- written. With `Memory`, nothing was written. With `Write`, a prefix of the frames was written,
--- and the writer has failed (`failed` is true). With Ok and `Memory`, `failed` is false. Other
--- faults never occur.
+-- States that sending these messages may have this result. If it is Ok, the frames of all messages
+-- were written. If it is `Memory`, nothing was written. If it is `Write`, a prefix of the frames
+-- was written, and the writer has failed (`failed` is true). For Ok and `Memory`, `failed` is
+-- false. Other faults never occur.
 abbrev pub SendsFrames : Option (List ℕ)
     → Option (List ℕ)
     → List (List ℕ)
@@ -87,10 +87,10 @@ pub record AnswersUntilWriteFailure (waiting : List (List ℕ)) (before : Server
   pub answered : AnswersAllButRemaining waiting before after later (put ++ unwritten)
   pub fails : failed ≡ true
 
--- States that answering the message contents `waiting` may have this result. With `Continue`, all
--- contents are answered. With `End`, the contents up to an `exit` are answered. With `Memory` or
--- `Write`, the contents before the failed allocation or write are answered. Other faults never
--- occur.
+-- States that answering the message contents `waiting` may have this result. If it is `Continue`,
+-- all contents are answered. If it is `End`, the contents up to an `exit` are answered. If it is
+-- `Memory` or `Write`, the contents before the failed allocation or write are answered. Other
+-- faults never occur.
 abbrev pub AnswersWaitingMessages : List (List ℕ)
     → ServerState
     → List (List ℕ)

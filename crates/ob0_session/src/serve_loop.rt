@@ -1,5 +1,6 @@
-//! Serves a conversation over a stream: reads pieces, answers each complete content, writes frames
-//! (messages with their heads) and flushes them (docs/PROTOCOL.md, Framing and The program).
+//! Serves a conversation over a stream (docs/PROTOCOL.md, Framing and The program). `serve` reads
+//! pieces of the stream, answers the content of each complete message, writes frames (messages with
+//! their heads), and flushes them.
 //!
 //! `Serves` states for each result of `serve` which device has failed. For `Read` only the reader
 //! has failed, for `Write` only the writer, and for any other result neither. Everything written is
@@ -14,7 +15,7 @@ ghost use Rattle.std.specs.Prelude.{◌≡◌, ◌≢◌, ◌++◌, List, ℕ, [
 ghost use Rattle.std.specs.Io.KnownBytes.{Appends, Consumes, IsAtEnd, Keeps};
 ghost use Rattle.std.specs.List.{flat_map};
 ghost use Rattle.ob0_frame.specs.Frames.{frame, written_head};
-ghost use Rattle.ob0_frame.specs.FramerState.{Open, Broken, FeedsFramer};
+ghost use Rattle.ob0_frame.specs.FramerState.{Open, Broken, PieceAdvancesFramer};
 ghost use Rattle.ob0_session_server.specs.Steps.{HasNotEnded};
 ghost use Rattle.ob0_session.specs.ServeResults.{UsesAllReads, LeavesWriterFlushed, IsReadInPieces, Serves};
 ghost use Rattle.ob0_session.specs.Statuses.{status_of};
@@ -131,11 +132,11 @@ fn flush_after_fault<W: OutputDevice>(fault: ServeFault, writer: &mut W) -> Serv
     }
 }
 
-// Passes a piece to the framer, which splits the stream into messages. Returns true if more
-// messages can follow, and false if the framer has found a bad head. If an allocation fails,
-// returns `Memory`.
+// Passes a piece to the framer, which splits the stream into messages. Returns true if the stream
+// can continue, and false if the framer has found a bad head. If an allocation fails, returns
+// `Memory`.
 fn feed_piece(framer: &mut Framer, piece: &[u8]) -> Result<bool, ServeFault>
-    ensures taken { OnOk result (FeedsFramer framer.old piece.now framer.new) }
+    ensures taken { OnOk result (PieceAdvancesFramer framer.old piece.now framer.new) }
     ensures can_continue { IfOk result (λ can_continue. can_continue ≡ true
         → framer.new.rest ≢ Broken) }
     ensures broken { IfOk result (λ can_continue. can_continue ≡ false → framer.new.rest ≡ Broken) }
@@ -162,8 +163,8 @@ fn result_at_end_of_input(framer: &Framer) -> Result<u8, ServeFault>
 
 // Answers the message contents that wait in the framer, one after another. Returns `Continue` once
 // no content waits. If the conversation ends first, returns `End` with the exit status, and the
-// remaining contents aren't answered. If an allocation or a write fails, returns `Memory` or
-// `Write`.
+// remaining contents aren't answered. Returns `Memory` if an allocation fails, and `Write` if a
+// write fails.
 fn answer_waiting_messages<W: OutputDevice>(
     alloc: Global,
     framer: &mut Framer,

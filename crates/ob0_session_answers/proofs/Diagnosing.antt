@@ -1,4 +1,4 @@
--- Proves that the diagnostics of a text are the diagnostics of its bytes.
+-- Proves that the diagnostics of a text are the same for its characters and for its bytes in UTF-8.
 use Rattle.std.proofs.Common.{◌≡◌, ℕ, List, map, refl, subst}
 use Rattle.std.specs.Str.{chars, IsUtf8}
 use Rattle.ob0_text.specs.declared.position_types.Unit.{Unit}

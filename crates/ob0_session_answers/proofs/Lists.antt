@@ -1,4 +1,4 @@
--- Proves that a list of diagnostics agrees with the list of diagnoses, item by item.
+-- Proves that the list of the code's diagnostics agrees with the list of diagnoses, item by item.
 use Rattle.std.proofs.Common.{◌≡◌, ◌∙◌, List, [], ◌∷◌, ◌++◌, map, refl}
 use Rattle.std.proofs.lemmas.List.{map-append}
 use mathlib.Core.List.{map-map}

@@ -1,4 +1,5 @@
--- Proves that the answer about the name at a position is right, and that it can be sent.
+-- Proves that the answer about the name at a position meets its definition, and that its JSON value
+-- is shallow enough for a message (`FitsInMessage`).
 use Rattle.std.proofs.Common.{◌≡◌, ◌≤◌, ℕ, List, [], ◌∷◌, Option, Some, None, map, subst, arith}
 use Rattle.std.specs.Str.{chars, IsUtf8}
 use Rattle.serde_json.specs.Data.{null, array, items_depth}

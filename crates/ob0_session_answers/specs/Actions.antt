@@ -61,13 +61,13 @@ abbrev pub requested_kinds_include_inlining : Option (List (List ℕ)) → Bool
 requested_kinds_include_inlining (Some kinds) = list_any kind_includes_inlining kinds
 requested_kinds_include_inlining None = true
 
--- Returns whether two conditions hold: the client accepts code actions that aren't commands, and
--- the requested kinds include inlining. If `only` is None, all kinds are requested.
+-- Returns whether the client accepts literal code actions (which contain their edits) and the
+-- requested kinds include inlining. If `only` is None, all kinds are requested.
 abbrev pub client_wants_inlining : ClientFeatures → Option (List (List ℕ)) → Bool
 client_wants_inlining client only = client.accepts_literal_actions && requested_kinds_include_inlining only
 
--- Returns whether two conditions hold: the client of this request accepts code actions that aren't
--- commands, and the requested kinds include inlining.
+-- Returns whether the client of this request accepts literal code actions and the requested kinds
+-- include inlining (`client_wants_inlining`).
 abbrev pub wants_inlining : VersionedActionsRequest → Bool
 wants_inlining requested = client_wants_inlining requested.client requested.only
 
@@ -122,8 +122,9 @@ pub record ListsInlinings (unit : Unit) (requested : VersionedActionsRequest) (t
       everywhere
   pub listed : value ≡ actions_array requested here everywhere
 
--- States that the JSON value is the list of the offered actions. The list is empty if the request
--- doesn't ask for inlining (`wants_inlining` is false), or if the text isn't a well-typed module.
+-- States that the JSON value is the list of the offered actions (`ListsInlinings`). The list is
+-- empty if the request doesn't ask for inlining (`wants_inlining` is false), or if the text isn't a
+-- well-typed module.
 abbrev pub ListsActions : Unit → VersionedActionsRequest → List ℕ → Data → Type 0
 ListsActions unit requested text value =
     ListsInlinings unit requested text value

@@ -16,7 +16,7 @@ use Rattle.ob0_session_json.specs.JsonShapes.{Diagnostic, publication}
 abbrev pub diagnostic_of : Unit → List ℕ → ReportedDiagnosis → Diagnostic
 diagnostic_of unit text c = record {
   code = c.code;
-  said = c.message;
+  message = c.message;
   start = position_of (width_of unit) text c.span.start;
   end = position_of (width_of unit) text c.span.end;
 }

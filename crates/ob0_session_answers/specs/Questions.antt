@@ -28,7 +28,7 @@ pub data NameQuestion : Type 0 where
   references_question : Bool → NameQuestion
   prepare_rename_question : NameQuestion
 
--- ---- JSON values (arguments: the unit of positions, the uri, and the text's characters)
+-- ---- JSON values. `unit` is the unit of positions, and `text` has the text's characters.
 
 -- Returns the JSON value of the range that a span covers in the text.
 abbrev pub range_value_of_span : Unit → List ℕ → Span → Data
@@ -44,17 +44,18 @@ location_value_of_span unit uri text span = location_value_of_range uri (range_o
 abbrev pub hover_value_with_range : Unit → List ℕ → HoverTextWithSpan → Data
 hover_value_with_range unit text shown = hover_value shown.text (range_value_of_span unit text shown.span)
 
--- Returns the JSON value if there is one, otherwise null.
+-- Returns this JSON value, or the JSON value null for None.
 abbrev pub value_or_null : Option Data → Data
 value_or_null (Some value) = value
 value_or_null None = null
 
--- Returns the byte offset in the text of the position `at.position`, which is counted in `unit`.
+-- Returns the byte offset of the position `at.position` in the text. The position is counted in
+-- `unit`.
 abbrev pub offset_of_place : Unit → List ℕ → DocumentPlace → ℕ
 offset_of_place unit text at = offset_of (width_of unit) text at.position
 
 -- States that the JSON value is the list of the locations of all references to the name or field at
--- the position, in text order. The list contains the declaration if `include` is true.
+-- the position, in text order. The list contains the declaration only if `include` is true.
 abbrev pub AnswersReferencesQuestion : Unit → List ℕ → DocumentPlace → Bool → Resolution → Data → Type 0
 AnswersReferencesQuestion unit text at include names value =
     (spans : List Span)

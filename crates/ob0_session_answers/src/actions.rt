@@ -73,8 +73,8 @@ impl<'a, T: TextStore> DocumentRequest<T> for ActionsRequest<'a> {
 }
 
 impl<'a> ActionsRequest<'a> {
-    /// Returns whether two conditions hold: the client accepts code actions that aren't commands,
-    /// and the requested kinds include inlining. If `only` is None, all kinds are requested.
+    /// Returns whether the client accepts literal code actions (which contain their edits) and the
+    /// requested kinds include inlining. If `only` is None, all kinds are requested.
     fn wants_inlining(&self) -> bool
         ensures { result ≡ wants self.now.client (action_kinds_view self.now.only.now) }
     {

@@ -20,8 +20,8 @@ use ob0_session_json::publication::{Diagnostic, publication};
 use ob0_text::{Position, Range, TextStore};
 use std::alloc::{AllocError, Global};
 
-/// A request to publish a document's diagnostics. The server makes such a request itself, after a
-/// document is opened or changed.
+/// A request to publish a document's diagnostics. The server makes this request itself, after a
+/// document was opened or changed.
 #[derive(Drop)]
 pub struct PublishDiagnosticsRequest<'a> {
     pub uri: &'a str,
@@ -116,8 +116,9 @@ fn convert_diagnoses_with_positions<T: TextStore>(
     Ok(list)
 }
 
-/// Returns the position of a byte offset. If `offsets` contains the offset, the position is read
-/// from `positions`. Otherwise the store computes it.
+/// Returns the position of a byte offset. The n-th of the `positions` is the position of the n-th
+/// of the `offsets`. If a binary search finds the offset in `offsets`, its position is read from
+/// `positions`. Otherwise the store computes the position.
 fn position_at<T: TextStore>(
     store: &T,
     offsets: &[usize],
@@ -138,7 +139,7 @@ fn position_at<T: TextStore>(
 fn diagnostic_with_range(diagnosis: Diagnosis, start: Position, end: Position) -> Diagnostic
     ensures { diagnostic_view result ≡ record {
       code = (reported_diagnosis_of diagnosis).code;
-      said = (reported_diagnosis_of diagnosis).message;
+      message = (reported_diagnosis_of diagnosis).message;
       start = start;
       end = end;
     } }

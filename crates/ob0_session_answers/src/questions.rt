@@ -1,9 +1,9 @@
 //! Answers requests about the name or field at a position: hover, definition, references and
 //! prepareRename.
 //!
-//! Each request is a type that computes its answer from a document (`DocumentRequest`). For that,
-//! it asks the document's analysis a question (`Question`), which is answered if the text is a
-//! well-typed module. Each question is also a type.
+//! Each request is a type that computes its answer from a document (`DocumentRequest`). To do this,
+//! it asks the document's analysis a question. Each question is a type that implements `Question`,
+//! and is answered only if the text is a well-typed module.
 
 ghost use Rattle.std.specs.Prelude.{◌≡◌, IfOk, option_map, map};
 ghost use Rattle.serde_json.specs.Data.{array};
@@ -26,7 +26,7 @@ use ob0_text::TextStore;
 use std::alloc::{AllocError, Global};
 
 /// The question for the hover text of the name or field at a byte offset. The answer is None if
-/// there is no such text.
+/// there is no hover text.
 #[derive(Drop)]
 struct HoverQuestion {
     offset: usize,
@@ -47,7 +47,7 @@ impl Question for HoverQuestion {
 }
 
 /// The question for the declaration of the name or field at a byte offset. The answer is the
-/// declaration's span, or None if there is no such declaration.
+/// declaration's span, or None if there is no declaration.
 #[derive(Drop)]
 struct DefinitionQuestion {
     offset: usize,
@@ -63,8 +63,9 @@ impl Question for DefinitionQuestion {
     }
 }
 
-/// The question for all references to the declaration of the name or field at a byte offset. The
-/// answer is an empty list if there is no name or field.
+/// The question for the spans of all references to the name or field at a byte offset. The answer
+/// is an empty list if there is no name or field at the offset. The declaration is included if
+/// `include_declaration` is true.
 #[derive(Drop)]
 struct ReferencesQuestion {
     offset: usize,

@@ -8,9 +8,9 @@ use Rattle.ob0_session_documents.specs.declared.document_requests.RequestOutcome
 use Rattle.ob0_session_documents.specs.declared.document_requests.RequestOutcome.TheVariants.{Answered, OutOfStep, Unopened}
 
 -- States that a request about the document with this uri may have this outcome. If the document is
--- open and in step (its text is known), the outcome is a message. The message answers the request
--- for the document's version and text (`answers`). If the document is out of step, the outcome is
--- `OutOfStep`. If it isn't open, the outcome is `Unopened`.
+-- open and in step (its text is known), the outcome is a message. The parameter `answers` states
+-- which messages answer the request for the document's version and text. If the document is out of
+-- step, the outcome is `OutOfStep`. If it isn't open, the outcome is `Unopened`.
 abbrev pub IsOutcomeOfRequest : (ℤ → Unit → List ℕ → List ℕ → Type 0)
     → OpenDocuments
     → List ℕ

@@ -1,5 +1,5 @@
--- Defines which analyses the cache contains, and how a call may change them. Also defines when each
--- analysis in the cache belongs to the current text of its document.
+-- Defines which analyses the cache contains, and which analyses it may contain after a call. Also
+-- defines when each analysis in the cache belongs to the current text of its document.
 use Rattle.std.specs.Prelude.{◌≡◌, ◌⊎◌, ℕ, ℤ, List, Contains, Option, Some, None, String, string_bytes}
 use Rattle.std.specs.Str.{chars}
 use Rattle.std.specs.declared.alloc.Global.{Global}

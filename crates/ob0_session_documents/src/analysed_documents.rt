@@ -1,12 +1,13 @@
 //! Keeps the open documents, and analyses of the documents that were opened, changed or asked about
 //! most recently.
 //!
-//! Contracts see only the documents. So everything that they state, including `ServerState` (the
-//! session's state), is the same as without analyses. The invariant states that each kept analysis
-//! is the analysis of its document's current text (`AnalysesMatchTexts` of `specs/KeptAnalyses`).
-//! Before a document changes, its analysis is removed (`still_theirs` of `proofs/OtherDocuments`).
-//! After the change, the analysis of the resulting text is added. No texts are compared. One
-//! notification causes one analysis, however many changes the notification has.
+//! Contracts mention only the documents. So everything that they state, including `ServerState`
+//! (the session's state), is the same as without analyses. The invariant states that each kept
+//! analysis is the analysis of its document's current text (`AnalysesMatchTexts` of
+//! `specs/KeptAnalyses`). Before a document changes, its analysis is removed (`still_theirs` of
+//! `proofs/OtherDocuments`). After the change, the analysis of the resulting text is added. No
+//! texts are compared. One notification causes one analysis, however many changes the notification
+//! has.
 
 ghost use Rattle.std.specs.Prelude.{◌≡◌, ◌⊎◌, IfSome, IfOk, OnOk, OnErr, is_some, map, string_bytes};
 ghost use Rattle.std.specs.Str.{chars};
@@ -20,9 +21,9 @@ use ob0_text::{Change, Documents, Held, TextStore};
 use std::alloc::{AllocError, Global};
 use std::marker::Model;
 
-/// The open documents, and analyses of their texts. Contracts see only the documents. Each kept
-/// analysis is the analysis of its document's current text, because a change first removes the
-/// analysis of the previous text.
+/// The open documents, and analyses of their texts. In contracts, the value consists only of the
+/// documents. Each kept analysis is the analysis of its document's current text, because a change
+/// first removes the analysis of the previous text.
 #[derive(Drop)]
 pub struct AnalysedDocuments<T: TextStore> {
     alloc: Global,
@@ -144,9 +145,9 @@ impl<T: TextStore> AnalysedDocuments<T> {
         }
     }
 
-    /// Makes the analysis of a document's text and keeps it. `before` is the analysis of the
-    /// document's previous text, or None if no such analysis is kept. Parts of `before` are reused.
-    /// If the document isn't open or is out of step, does nothing.
+    /// Makes the analysis of a document's text and adds it to the cache. `before` is the analysis
+    /// of the document's previous text, or None if that analysis wasn't kept. Parts of `before` are
+    /// reused. If the document isn't open or is out of step, does nothing.
     fn analyse_and_keep(&mut self, uri: &str, before: Option<Analysis>) -> Result<(), AllocError>
         ensures { self.new ≡ self.old }
     {

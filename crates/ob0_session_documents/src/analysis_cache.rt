@@ -15,9 +15,9 @@ use lru::LruCache;
 use ob0_analysis::Analysis;
 use std::alloc::{AllocError, Global};
 
-/// The greatest sum of the sizes of the kept analyses (`size_in_cache`). A size counts bytes of text
-/// and not all memory. About four analyses of the longest texts fit. A larger analysis is also kept,
-/// but then it is the only one.
+/// The greatest sum of the sizes of the kept analyses (`size_in_cache`), in bytes. A size counts
+/// bytes of text and not all memory. About four analyses of the longest texts fit. An analysis
+/// whose own size is greater is also kept, but then no other analysis is kept.
 const MAX_TOTAL_ANALYSIS_BYTES: usize = 4_198_400;
 
 /// The number of bytes that are counted for each analysis in addition to its uri and its
@@ -30,7 +30,8 @@ const OVERHEAD_BYTES_PER_ANALYSIS: usize = 1_024;
 #[derive(Drop)]
 pub struct AnalysisCache {
     alloc: Global,
-    /// The cache, or None until the first analysis is kept, because making a cache allocates.
+    /// The cache, or None until the first analysis is added. The cache is made only then, because
+    /// making it allocates memory.
     by_uri: Option<LruCache<String, Analysis>>,
     /// The sum of `size_in_cache` over all analyses in the cache. After a failed allocation, this
     /// field may be larger than the sum.
@@ -83,9 +84,9 @@ impl AnalysisCache {
         }
     }
 
-    /// Keeps the analysis of a document. If the total size is too large, the least recently used
-    /// analyses are dropped. If `analysis` by itself is larger than [`MAX_TOTAL_ANALYSIS_BYTES`],
-    /// it is kept, and all others are dropped.
+    /// Adds the analysis of a document to the cache. If the total size is too large, the least
+    /// recently used analyses are dropped. If `analysis` by itself is larger than
+    /// [`MAX_TOTAL_ANALYSIS_BYTES`], all other analyses are dropped.
     pub fn put(&mut self, uri: &str, analysis: Analysis) -> Result<(), AllocError>
         ensures { AddsOnlyThisAnalysis self.old uri.now analysis self.new }
     {

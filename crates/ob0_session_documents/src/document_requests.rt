@@ -29,8 +29,8 @@ pub trait DocumentRequest<T: TextStore> {
             (T.content text.now) message.items) };
 }
 
-/// The outcome of a request about a document: the message that answers it, or the reason why there
-/// is none.
+/// The outcome of a request about a document: the message that answers it, or the reason why no
+/// message answers it.
 #[derive(Drop)]
 pub enum RequestOutcome {
     Answered(Vec<u8>),

@@ -1,4 +1,5 @@
--- Proves that building a location's text backwards from its end gives the right text.
+-- Proves that building a location's text backwards from its end gives the JSON text of the
+-- location.
 use Rattle.std.proofs.Common.{◌≡◌, ◌∙◌, ◌≤◌, ◌+◌, ◌-◌, ℕ, List, [], ◌∷◌, ◌++◌, Bool, true, false, length, drop, codes, ap, arith, refl, sym, append-nil, length-append, if◌then◌else◌}
 use Rattle.std.proofs.lemmas.List.{drop-drop, drop_at, length-drop}
 use Rattle.serde_json.specs.Data.{string}

@@ -33,17 +33,17 @@ code_action_options =
     object (member (codes "codeActionKinds")
     (array (item (text_value (codes "refactor.inline")) no_items)) no_members)
 
--- Returns the last three members of the capabilities:
--- "referencesProvider":true,"renameProvider":R,"textDocumentSync":{..}.
+-- Returns the last three members of the capabilities: `referencesProvider` (true), `renameProvider`
+-- and `textDocumentSync`.
 abbrev pub members_after_position_encoding : ClientFeatures → Members
 members_after_position_encoding client =
     member (codes "referencesProvider") (boolean true) (member (codes "renameProvider")
     (rename_provider client.prepares_renames)
     (member (codes "textDocumentSync") document_sync_options no_members))
 
--- Returns the members of the capabilities after "definitionProvider":
--- "documentFormattingProvider":true and "hoverProvider":true. If the client offers UTF-8,
--- "positionEncoding":"utf-8" follows. The last members are `members_after_position_encoding`.
+-- Returns the members of the capabilities after `definitionProvider`. The first two are
+-- `documentFormattingProvider` and `hoverProvider`, both true. If the client offers UTF-8, the next
+-- member is `positionEncoding` ("utf-8"). The last members are `members_after_position_encoding`.
 abbrev pub members_after_definition_provider : ClientFeatures → Members
 members_after_definition_provider client =
     member (codes "documentFormattingProvider") (boolean true)
@@ -52,8 +52,8 @@ members_after_definition_provider client =
     then member (codes "positionEncoding") (text_value (codes "utf-8")) (members_after_position_encoding client)
     else members_after_position_encoding client))
 
--- Returns the server's capabilities. If the client accepts code actions that aren't commands, they
--- begin with "codeActionProvider":{..}. Then come "definitionProvider":true and the members
+-- Returns the server's capabilities. If the client accepts literal code actions, the first member
+-- is `codeActionProvider`. The next members are `definitionProvider` (true) and
 -- `members_after_definition_provider`.
 abbrev pub server_capabilities : ClientFeatures → Data
 server_capabilities client =
@@ -64,8 +64,8 @@ server_capabilities client =
     else members)
 
 -- Returns the result of `initialize`, {"capabilities":{..}}.
-abbrev pub capabilities : ClientFeatures → Data
-capabilities client =
+abbrev pub initialize_result : ClientFeatures → Data
+initialize_result client =
     object (member (codes "capabilities") (server_capabilities client) no_members)
 
 -- ---- diagnostics, locations, edits and refusals
@@ -73,7 +73,7 @@ capabilities client =
 -- A diagnostic: its code, its message, and its start and end.
 pub record Diagnostic : Type 0 where
   pub code : List ℕ
-  pub said : List ℕ
+  pub message : List ℕ
   pub start : Position
   pub end : Position
 
@@ -117,9 +117,9 @@ document_edit_value uri version es =
     object (member (codes "edits") (edit_list_value es)
     (member (codes "textDocument") (versioned_document_value uri version) no_members))
 
--- Returns the JSON value of the edits of one document. If the client accepts edits with document
--- versions, the value is {"documentChanges":[..]}. Otherwise it is {"changes":{u:[E,..]}}, which
--- has no version.
+-- Returns the JSON value of the edits of one document. If the client accepts edits that mention
+-- their documents' versions, the value is {"documentChanges":[..]}. Otherwise it is
+-- {"changes":{u:[E,..]}}, which has no version.
 abbrev pub workspace_edit_value : ClientFeatures → List ℕ → ℤ → List Edit → Data
 workspace_edit_value client uri version es =
     if client.accepts_document_changes
@@ -144,7 +144,7 @@ edit_refusal_message id said = error_response_message id (negative_of 32803) sai
 abbrev pub diagnostic_value : Diagnostic → Data
 diagnostic_value d =
     object (member (codes "code") (text_value d.code)
-    (member (codes "message") (text_value d.said)
+    (member (codes "message") (text_value d.message)
     (member (codes "range") (range_value d.start d.end)
     (member (codes "severity") (number (unsigned 1)) no_members))))
 

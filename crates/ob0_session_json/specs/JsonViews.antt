@@ -19,12 +19,11 @@ code_action_view a = shapes.code_action_value (workspace_edit_view a.edit) a.tit
 abbrev pub diagnostic_view : Diagnostic → shapes.Diagnostic
 diagnostic_view d = record {
   code = d.code.now;
-  said = string_bytes d.message;
+  message = string_bytes d.message;
   start = d.range.start;
   end = d.range.end;
 }
 
--- States that the code's diagnostics (`list`) are the diagnostics `ds` of the specs, in the same
--- order.
+-- States that the code's diagnostics (`list`), as diagnostics of the specs, are the list `ds`.
 abbrev pub AreSameDiagnostics : List shapes.Diagnostic → List Diagnostic → Type 0
 AreSameDiagnostics ds list = ds ≡ map diagnostic_view list

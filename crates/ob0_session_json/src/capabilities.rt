@@ -4,7 +4,7 @@ ghost use Rattle.ob0_rpc.specs.AppendedJson.{AppendsMembersAndBrace};
 ghost use Rattle.ob0_rpc.specs.MessageViews.{json_of_id};
 ghost use Rattle.ob0_rpc.specs.JsonShapes.{result_message};
 ghost use Rattle.ob0_rpc.specs.WrittenMessages.{Writes};
-ghost use Rattle.ob0_session_json.specs.JsonShapes.{code_action_options, capabilities, members_after_definition_provider, members_after_position_encoding, rename_provider, server_capabilities, document_sync_options};
+ghost use Rattle.ob0_session_json.specs.JsonShapes.{code_action_options, initialize_result, members_after_definition_provider, members_after_position_encoding, rename_provider, server_capabilities, document_sync_options};
 
 use ob0_rpc::{
     ClientFeatures, Id, WriteJson, end_object, success_response_text, write_first_member,
@@ -20,7 +20,7 @@ pub fn initialize_answer(
     client: ClientFeatures,
 ) -> Result<Vec<u8>, AllocError>
     ensures { IfOk result
-        (λ bytes. Writes (result_message (json_of_id id.now) (capabilities client)) bytes.items) }
+        (λ bytes. Writes (result_message (json_of_id id.now) (initialize_result client)) bytes.items) }
 {
     let capabilities = ServerCapabilities { client };
     success_response_text(alloc, id, &InitializeResult { capabilities })
@@ -33,7 +33,7 @@ pub struct InitializeResult {
 }
 
 impl WriteJson for InitializeResult {
-    ghost value = { λ r. capabilities r.capabilities.client };
+    ghost value = { λ r. initialize_result r.capabilities.client };
 
     fn write(&self, out: &mut Vec<u8>) -> Result<(), AllocError> {
         write_first_member(out, "capabilities", &self.capabilities)?;

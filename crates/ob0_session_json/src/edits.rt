@@ -8,9 +8,9 @@ use ob0_rpc::{
 use ob0_text::Edit;
 use std::alloc::AllocError;
 
-/// The edits of one document, written in the form that the client accepts. The form
-/// `documentChanges` contains the document's uri and version. The form `changes` contains only the
-/// uri.
+/// The edits of one document, which are written in the form that the client accepts. The form
+/// `documentChanges` contains the document's uri and version, and the form `changes` contains only
+/// the uri.
 #[derive(Drop)]
 pub struct WorkspaceEdit<'a> {
     pub client: ClientFeatures,

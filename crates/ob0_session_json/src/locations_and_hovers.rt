@@ -17,11 +17,11 @@ use std::alloc::{AllocError, Global};
 
 /// The size in bytes of the free space at the start of the buffer in which a location is built. A
 /// comma and the location's text up to and including its member `range` fit into this space.
-const LOCATION_START_CAPACITY: usize = 192;
+const MAX_LOCATION_START_BYTES: usize = 192;
 
 /// An estimate of the length in bytes of a location's text before its member `uri`. The estimate is
 /// used to reserve capacity for a list of locations.
-const TYPICAL_LOCATION_START_LENGTH: usize = 96;
+const TYPICAL_LOCATION_START_BYTES: usize = 96;
 
 /// A location: a range in the document with this uri.
 #[derive(Drop)]
@@ -65,7 +65,7 @@ fn write_locations(out: &mut Vec<u8>, uri: &str, ranges: &[Range]) -> Result<(),
 {
     let alloc = *out.allocator();
     let mut text = location_buffer_with_uri(alloc, uri)?;
-    let each = text.len() - LOCATION_START_CAPACITY + TYPICAL_LOCATION_START_LENGTH;
+    let each = text.len() - MAX_LOCATION_START_BYTES + TYPICAL_LOCATION_START_BYTES;
     out.reserve(ranges.len().saturating_mul(each))?;
     let buffer = text.as_mut_slice();
     let mut needs_comma = false;
@@ -78,13 +78,13 @@ fn write_locations(out: &mut Vec<u8>, uri: &str, ranges: &[Range]) -> Result<(),
     Ok(())
 }
 
-/// Returns a buffer in which the texts of locations are built, one after another. The buffer begins
-/// with 192 bytes of free space. Then come the bytes with which the text of each location ends: a
+/// Returns a buffer in which the texts of locations are built, one after another. The first 192
+/// bytes of the buffer are free space. The other bytes are the last part of each location's text: a
 /// comma, the member `uri` and the closing brace.
 fn location_buffer_with_uri(alloc: Global, uri: &str) -> Result<Vec<u8>, AllocError>
     ensures { IfOk result (λ buffer. EndsWithUriMember uri.now buffer.items) }
 {
-    let mut buffer = vec![in alloc; 0u8; LOCATION_START_CAPACITY]?;
+    let mut buffer = vec![in alloc; 0u8; MAX_LOCATION_START_BYTES]?;
     write_next_member(&mut buffer, "uri", &uri)?;
     end_object(&mut buffer)?;
     Ok(buffer)
@@ -101,7 +101,7 @@ fn write_location_start(buffer: &mut [u8], range: Range) -> usize
     ensures kept { drop 192 buffer.new ≡ drop 192 buffer.old }
     ensures reads { ReadsBack (range_value range.start range.end) }
 {
-    let at = write_range_ending_at(buffer, LOCATION_START_CAPACITY, range.start, range.end);
+    let at = write_range_ending_at(buffer, MAX_LOCATION_START_BYTES, range.start, range.end);
     write_verbatim_ending_at(buffer, at, b",{\"range\":")
 }
 

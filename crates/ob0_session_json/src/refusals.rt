@@ -17,8 +17,8 @@ pub fn refusal_message(alloc: Global, id: &Id, said: &str) -> Result<Vec<u8>, Al
     error(alloc, Some(id), -32803, said)
 }
 
-/// Returns the error response that refuses a request for edits for the reason `refusal`. The text
-/// of the error is the text of `refusal`.
+/// Returns the error response that refuses a request for edits because of `refusal`. The text of
+/// the error is the text of `refusal`.
 pub fn refusal_message_for_reason(
     alloc: Global,
     id: &Id,

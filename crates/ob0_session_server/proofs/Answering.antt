@@ -1,8 +1,8 @@
--- Proves that the server's reaction to a content meets the definition of its answers.
+-- Proves that the server's reaction to a content meets the definition of its replies (`Answers`).
 use Rattle.std.proofs.Common.{◌≡◌, ◌≢◌, ◌∙◌, ℕ, ℤ, List, [], ◌∷◌, Option, Some, None, Result, Err, Vec, Global, option_map, map, sym, subst, ap, refl}
 use Rattle.std.specs.Option.{option_to_list}
 use Rattle.serde_json.specs.Data.{Data, null}
-use Rattle.ob0_session_server.specs.Answers.{ServerState, Reply, no_reply, diagnostics_reply, AreContentsOfReply, react_to_document_request, react_to_parsed_request, react_with_fault, react_to_message, publication_reply, react_with_publication, Answers, AnswersBeforeSessionEnd, AnswersInPhase}
+use Rattle.ob0_session_server.specs.Answers.{ServerState, Reply, no_reply, diagnostics_reply, AreContentsOfReply, react_to_document_request, react_to_parsed_request, react_with_fault, react_to_message, publication_reply, react_with_publication, Answers, AnswersInActivePhase, AnswersInPhase}
 use Rattle.ob0_text.specs.OpenDocuments.{Document, OpenDocuments, document_at}
 use Rattle.ob0_text.specs.declared.position_types.Unit.{Unit}
 use Rattle.ob0_rpc.specs.declared.client_capabilities.ClientFeatures.{ClientFeatures}
@@ -24,7 +24,7 @@ use Rattle.ob0_session_server.specs.declared.session.Next.TheVariants.{End}
 
 pub answered : (before : ServerState) (content : List ℕ) (json : Option Data) (m : MessageMeaning) (sent : Option (Vec ℕ Global)) (after : ServerState)
     → IsJsonOfContent content json → meaning_of_content json ≡ m → MatchesReaction (react_to_message before m) sent after
-    → AnswersBeforeSessionEnd before content (option_to_list (option_map (λ v. v.items) sent)) after
+    → AnswersInActivePhase before content (option_to_list (option_map (λ v. v.items) sent)) after
 answered before content json m sent after reads means h =
     let P : MessageMeaning → Type 0 = λ x. MatchesReaction (react_to_message before x) sent after in
     (json, reads, subst P (sym means) h)
@@ -32,7 +32,7 @@ answered before content json m sent after reads means h =
 -- If a content can't be read, the server's refusal is the right answer.
 pub refused : (before : ServerState) (content : List ℕ) (fault : RpcFault) (sent : Option (Vec ℕ Global))
     → ReadsMessage content (Err fault) → fault ≢ Memory → MatchesReaction (react_with_fault before null fault) sent before
-    → AnswersBeforeSessionEnd before content (option_to_list (option_map (λ v. v.items) sent)) before
+    → AnswersInActivePhase before content (option_to_list (option_map (λ v. v.items) sent)) before
 refused before content NotJson sent reads apart h = answered before content None not_json sent before reads refl h
 refused before content NotAMessage sent reads apart h = answered before content (Some reads.0) not_a_message sent before reads.1 reads.2 h
 refused before content Memory sent reads apart h = absurd (apart refl)
@@ -51,7 +51,7 @@ request_refused s id requested NotJson sent is apart h = absurd is
 request_refused s id requested NotAMessage sent is apart h = absurd is
 
 pub going_on : (phase : Phase) (before : ServerState) (content : List ℕ) (sent : List (List ℕ)) (after : ServerState)
-    → HasNotEnded phase → phase ≢ Failed → AnswersBeforeSessionEnd before content sent after → AnswersInPhase phase before content sent after
+    → HasNotEnded phase → phase ≢ Failed → AnswersInActivePhase before content sent after → AnswersInPhase phase before content sent after
 going_on Starting before content sent after h works answers = answers
 going_on Running before content sent after h works answers = answers
 going_on ShutDown before content sent after h works answers = answers

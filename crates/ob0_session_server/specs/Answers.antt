@@ -23,7 +23,7 @@ use Rattle.ob0_session_answers.specs.Diagnostics.{AreDiagnosticsOf}
 use Rattle.ob0_session_answers.specs.FormattingAnswers.{AnswersFormattingRequest}
 use Rattle.ob0_session_answers.specs.Questions.{AnswersQuestion, NameQuestion, hover_question, definition_question, references_question, prepare_rename_question}
 use Rattle.ob0_session_answers.specs.RenamingAnswers.{VersionedRenameRequest, AnswersRenameRequest}
-use Rattle.ob0_session_json.specs.JsonShapes.{Diagnostic, capabilities, edit_refusal_message, publication}
+use Rattle.ob0_session_json.specs.JsonShapes.{Diagnostic, initialize_result, edit_refusal_message, publication}
 use Rattle.ob0_session_server.specs.declared.session.Phase.{Phase}
 use Rattle.ob0_session_server.specs.declared.session.Phase.TheVariants.{Starting, Running, ShutDown, Ended, Failed}
 
@@ -50,14 +50,14 @@ no_client_features =
 
 -- The state of a session before `initialize`: no document is open, and positions are counted in
 -- UTF-16 units.
-abbrev pub start : ServerState
-start = record { phase = Starting; client = no_client_features; held = no_open_documents Utf16 }
+abbrev pub initial_server_state : ServerState
+initial_server_state = record { phase = Starting; client = no_client_features; held = no_open_documents Utf16 }
 
 -- ---- the reply to one message
 
--- The reply to one message: nothing, a given message (`fixed_reply`), or a message that is computed
--- from a document's text. A computed message contains the text's diagnostics, or answers a request
--- about the text.
+-- The reply to one message: nothing, a given message (`fixed_reply`), or a message that depends on
+-- a document's text. Such a message publishes the text's diagnostics, or answers a request about
+-- the text.
 pub data Reply : Type 0 where
   no_reply : Reply
   -- Exactly this message.
@@ -83,8 +83,8 @@ abbrev pub SendsMessage : Data → List (List ℕ) → Type 0
 SendsMessage message sent = (bytes : List ℕ) × (sent ≡ bytes ∷ []) × Writes message bytes
 
 -- States that the session gives this reply by sending the contents `sent`. A content is the bytes
--- of one message without the header. For the reply `no_reply`, `sent` is empty. For any other
--- reply, `sent` is exactly one content: the text of a message that this reply allows.
+-- of one message after its head. For the reply `no_reply`, `sent` is empty. For any other reply,
+-- `sent` is exactly one content: the text of a message that this reply allows.
 abbrev pub AreContentsOfReply : Reply → List (List ℕ) → Type 0
 AreContentsOfReply no_reply sent = sent ≡ []
 AreContentsOfReply (fixed_reply message) sent = SendsMessage message sent
@@ -133,9 +133,9 @@ react_with_fault s id fault = react_with_error s id (error_code fault) (error_te
 abbrev pub state_after_initialize : ClientFeatures → ServerState
 state_after_initialize client = record { phase = Running; client = client; held = no_open_documents (unit_for_client client) }
 
--- Returns the reaction to a request about a document. The document is None if it isn't open. If it
--- is open and in step (its text is known), the function `say` makes the reply from its version and
--- text. Otherwise the reply is a refusal.
+-- Returns the reaction to a request about a document. If the document is in step (its text is
+-- known), the function `say` makes the reply from the document's version and text. If the document
+-- is out of step or isn't open (None), the reply is a refusal.
 abbrev pub react_to_document_request : ServerState → Data → Option Document → (ℤ → List ℕ → Reply) → Reaction
 react_to_document_request s id (Some (InStep version text)) say = reaction_without_change s (say version text)
 react_to_document_request s id (Some OutOfStep) say = reaction_without_change s (fixed_reply (edit_refusal_message id (codes "out of step")))
@@ -176,7 +176,7 @@ react_to_formatting s id uri indent =
 -- or the fault that prevented reading it (`Err`).
 abbrev pub react_to_parsed_request : ServerState → Data → Result ClientRequest RpcFault → Reaction
 react_to_parsed_request s id (Ok (initialize client)) =
-    record { after = state_after_initialize client; reply = fixed_reply (result_message id (capabilities client)) }
+    record { after = state_after_initialize client; reply = fixed_reply (result_message id (initialize_result client)) }
 react_to_parsed_request s id (Ok shutdown) = reaction_with_phase ShutDown s (fixed_reply (result_message id null))
 react_to_parsed_request s id (Ok (hover at)) = react_to_question s id at hover_question
 react_to_parsed_request s id (Ok (definition at)) = react_to_question s id at definition_question
@@ -266,8 +266,8 @@ react_to_message s (notice method params) = react_to_notification s.phase s meth
 -- States that a server in the state `before` may reply to this content (the bytes of one message)
 -- with the messages `sent`. `after` is the server's state after the reply. `AnswersInPhase` uses
 -- this definition if the session has neither ended nor failed.
-abbrev pub AnswersBeforeSessionEnd : ServerState → List ℕ → List (List ℕ) → ServerState → Type 0
-AnswersBeforeSessionEnd before content sent after =
+abbrev pub AnswersInActivePhase : ServerState → List ℕ → List (List ℕ) → ServerState → Type 0
+AnswersInActivePhase before content sent after =
     (json : Option Data) × IsJsonOfContent content json
     × (let r = react_to_message before (meaning_of_content json) in (after ≡ r.after) × AreContentsOfReply r.reply sent)
 
@@ -278,16 +278,16 @@ AnswersBeforeSessionEnd before content sent after =
 abbrev pub AnswersInPhase : Phase → ServerState → List ℕ → List (List ℕ) → ServerState → Type 0
 AnswersInPhase (Ended status) before content sent after = (sent ≡ []) × (after ≡ before)
 AnswersInPhase Failed before content sent after = ⊥
-AnswersInPhase phase before content sent after = AnswersBeforeSessionEnd before content sent after
+AnswersInPhase phase before content sent after = AnswersInActivePhase before content sent after
 
 -- States that a server in the state `before` may reply to this content (the bytes of one message)
 -- with the messages `sent`. `after` is the server's state after the reply.
 abbrev pub Answers : ServerState → List ℕ → List (List ℕ) → ServerState → Type 0
 Answers before content sent after = AnswersInPhase before.phase before content sent after
 
--- States that the messages `sent` are the messages `first`, followed by the messages `later`. The
--- server replies to this content with `first`, and `between` is its state after that. The parameter
--- `Follows` states a condition, which holds for `between` and `later`.
+-- States that the server replies to this content with the messages `first`, which begin the list
+-- `sent`. `between` is the server's state after this reply, and `later` has the other messages of
+-- `sent`. The condition `Follows` holds for `between` and `later`.
 pub record AnswersFirstContent (before : ServerState) (content : List ℕ) (sent : List (List ℕ))
     (Follows : ServerState → List (List ℕ) → Type 0) : Type 0 where
   pub between : ServerState

@@ -21,8 +21,8 @@ SendsReply reply sent = AreContentsOfReply reply (option_to_list (option_map (λ
 abbrev pub MatchesReaction : Reaction → Option (Vec ℕ Global) → ServerState → Type 0
 MatchesReaction r sent new = (new ≡ r.after) × SendsReply r.reply sent
 
--- States that `sent` is the reply to a request with this id and this outcome. The reply is the
--- outcome's message, or a refusal if the document is out of step or isn't open.
+-- States that `sent` is the reply to a request with this id and this outcome: the outcome's
+-- message, or a refusal if the document is out of step or isn't open.
 abbrev pub RepliesForOutcome : Data → RequestOutcome → Option (Vec ℕ Global) → Type 0
 RepliesForOutcome id (Answered message) sent = sent ≡ Some message
 RepliesForOutcome id OutOfStep sent = SendsReply (fixed_reply (edit_refusal_message id (codes "out of step"))) sent

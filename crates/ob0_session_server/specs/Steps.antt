@@ -1,4 +1,5 @@
--- States what one step of a session does with the content of one message, and when a step may fail.
+-- Defines the result of one step of a session, which takes the content of one message. Also defines
+-- when a step may fail.
 -- Rule: docs/PROTOCOL.md, The program 8 (out of memory).
 use Rattle.std.specs.Prelude.{◌≡◌, ◌≢◌, ℕ, List, map}
 use Rattle.ob0_session_server.specs.Answers.{ServerState, Answers}
@@ -27,8 +28,8 @@ pub record SessionSteps (before : ServerState) (content : List ℕ) (step : Step
   pub answers : Answers before content (map (λ v. v.items) step.send.items) after
   pub next : step.next ≡ next_in_phase after.phase
 
--- States that a step may fail with this fault. With the fault `Memory`, the session had neither
--- ended nor failed before the step, and has failed after it. With the fault `Failed`, the session
+-- States that a step may fail with this fault. If the fault is `Memory`, the session had neither
+-- ended nor failed before the step, and has failed after it. If the fault is `Failed`, the session
 -- had already failed before the step, and nothing changes.
 abbrev pub SessionFails : ServerState → SessionFault → ServerState → Type 0
 SessionFails before Memory after =

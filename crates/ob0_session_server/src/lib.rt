@@ -1,6 +1,6 @@
-//! The server without its streams (docs/PROTOCOL.md): takes the contents of the messages that an
-//! editor sends, and returns the contents of the answers. A content is the bytes of one message
-//! without the header.
+//! Implements the server without its streams (docs/PROTOCOL.md). It takes the contents of the
+//! messages that an editor sends, and returns the contents of its replies. A content is the bytes
+//! of one message after its head.
 #![tactic(auto)]
 
 mod session;

@@ -1,4 +1,4 @@
-//! Keeps the state of a session, and answers each message according to the session's phase
+//! Keeps the state of a session, and reacts to each message according to the session's phase
 //! (docs/PROTOCOL.md, Lifecycle).
 ghost use Rattle.std.specs.Prelude.{◌≡◌, ◌≢◌, Ok, IfOk, IfErr, map, option_map, string_bytes};
 ghost use Rattle.ob0_rpc.specs.MessageViews.{json_of_id};
@@ -44,7 +44,7 @@ pub enum Next {
     End(u8),
 }
 
-/// The result of a step: the contents of the messages to send (their bytes without headers), and
+/// The result of a step: the contents of the messages to send (their bytes without the heads), and
 /// whether the session continues.
 #[derive(Drop)]
 pub struct Step {
@@ -53,7 +53,7 @@ pub struct Step {
 }
 
 /// The reason why a step has no result: an allocation failed in this step (`Memory`) or in an
-/// earlier one (`Failed`).
+/// earlier step (`Failed`).
 #[derive(Clone, Copy, Debug, Drop, PartialEq, Eq, Error)]
 pub enum SessionFault {
     #[error("Memory")]
@@ -86,7 +86,7 @@ impl<T: TextStore> Model for Session<T> {
 impl<T: TextStore> Session<T> {
     ghost use Rattle.serde_json.specs.View.{view};
     ghost use Rattle.std.specs.Option.{option_to_list};
-    ghost use Rattle.ob0_session_server.specs.Answers.{start, state_after_initialize, AnswersBeforeSessionEnd, AreContentsOfReply, react_to_request, react_to_actions, react_to_question, react_to_rename, react_to_allowed_request, react_to_parsed_request, react_to_exit, react_to_notification, publication_reply, react_with_error, react_with_fault, apply_notification};
+    ghost use Rattle.ob0_session_server.specs.Answers.{initial_server_state, state_after_initialize, AnswersInActivePhase, AreContentsOfReply, react_to_request, react_to_actions, react_to_question, react_to_rename, react_to_allowed_request, react_to_parsed_request, react_to_exit, react_to_notification, publication_reply, react_with_error, react_with_fault, apply_notification};
     ghost use Rattle.ob0_rpc.specs.Notifications.{opens, changes, closes, notification_by_method};
     ghost use Rattle.ob0_rpc.specs.MessageViews.{document_place_view, id_or_null, action_kinds_view, request_view, notification_view};
     ghost use Rattle.ob0_session_answers.specs.Questions.{references_question};
@@ -98,7 +98,7 @@ impl<T: TextStore> Session<T> {
     /// Returns a session that hasn't received `initialize` yet. No document is open, and positions
     /// are counted in UTF-16 units.
     pub fn new(alloc: Global) -> Session<T>
-        ensures { result ≡ start }
+        ensures { result ≡ initial_server_state }
     {
         Session {
             alloc,
@@ -121,10 +121,10 @@ impl<T: TextStore> Session<T> {
         self.documents.documents()
     }
 
-    /// Performs one step: reads the content of one message (its bytes without the header), and
-    /// returns the contents of the messages to send in reply. If the session ended before this
-    /// step, nothing is sent, and the step's `next` is `End` with the exit status. If an allocation
-    /// fails, returns `Memory`, and every later step returns `Failed`.
+    /// Performs one step: reads the content of one message (its bytes after the head), and returns
+    /// the contents of the messages to send in reply. If the session ended before this step,
+    /// nothing is sent, and the step's `next` is `End` with the exit status. If an allocation
+    /// fails, the step returns `Memory`, and every later step returns `Failed`.
     pub fn step(&mut self, content: &[u8]) -> Result<Step, SessionFault>
         ensures ok { IfOk result (λ step. SessionSteps self.old content.now step self.new) }
         ensures err { IfErr result (λ fault. SessionFails self.old fault self.new) }
@@ -168,7 +168,7 @@ impl<T: TextStore> Session<T> {
     /// one.
     fn reply_to_content_as_list(&mut self, content: &[u8]) -> Result<Vec<Vec<u8>>, AllocError>
         ensures { IfOk result
-            (λ sent. AnswersBeforeSessionEnd self.old content.now (map (λ v. v.items) sent.items) self.new) }
+            (λ sent. AnswersInActivePhase self.old content.now (map (λ v. v.items) sent.items) self.new) }
     {
         let mut sent = Vec::new(self.alloc);
         if let Some(message) = self.reply_to_content(content)? {
@@ -180,7 +180,7 @@ impl<T: TextStore> Session<T> {
     /// Processes the content of one message, and returns the message to send in reply, or None if
     /// there is no reply.
     fn reply_to_content(&mut self, content: &[u8]) -> Result<Option<Vec<u8>>, AllocError>
-        ensures { IfOk result (λ sent. AnswersBeforeSessionEnd self.old content.now
+        ensures { IfOk result (λ sent. AnswersInActivePhase self.old content.now
             (option_to_list (option_map (λ v. v.items) sent)) self.new) }
     {
         match read(self.alloc, content) {
@@ -192,7 +192,7 @@ impl<T: TextStore> Session<T> {
                 params,
             ),
             Ok(Incoming::Ignored) => Ok(None),
-            Err(fault) => self.fault_message(None, fault),
+            Err(fault) => self.fault_response(None, fault),
         }
     }
 
@@ -215,7 +215,11 @@ impl<T: TextStore> Session<T> {
     /// Returns the error response that reports this fault. `id` is the id of the request, or None
     /// if the received bytes aren't a message. If the fault is `Memory`, returns the error
     /// `AllocError` instead. The result is never None.
-    fn fault_message(&self, id: Option<&Id>, fault: RpcFault) -> Result<Option<Vec<u8>>, AllocError>
+    fn fault_response(
+        &self,
+        id: Option<&Id>,
+        fault: RpcFault,
+    ) -> Result<Option<Vec<u8>>, AllocError>
         ensures { IfOk result (λ sent. (fault ≢ RpcFault.Memory) × MatchesReaction
             (react_with_fault self.now (id_or_null (option_map (λ i. i.now) id.entry)) fault) sent
             self.now) }
@@ -227,7 +231,7 @@ impl<T: TextStore> Session<T> {
     }
 
     /// Answers a request. If the phase of the lifecycle doesn't allow the request, the answer is an
-    /// error. Returns None if the session has ended or has failed before.
+    /// error. Returns None if the session has already ended or failed.
     fn reply_to_request(
         &mut self,
         id: &Id,
@@ -270,7 +274,7 @@ impl<T: TextStore> Session<T> {
     {
         match request(self.alloc, method, params) {
             Ok(call) => self.reply_to_parsed_request(id, call),
-            Err(fault) => self.fault_message(Some(id), fault),
+            Err(fault) => self.fault_response(Some(id), fault),
         }
     }
 
@@ -326,7 +330,7 @@ impl<T: TextStore> Session<T> {
     }
 
     /// Answers a request for the references to the name or field at this position in a document
-    /// (`place`).
+    /// (`place`). The declaration is included if `include_declaration` is true.
     fn reply_to_references(
         &mut self,
         id: &Id,
@@ -389,7 +393,7 @@ impl<T: TextStore> Session<T> {
     }
 
     /// Returns the answer to a request about the document with this uri. If the document isn't
-    /// open, or its text isn't known (out of step), returns a refusal.
+    /// open, or is out of step (its text isn't known), returns a refusal.
     fn reply_to_document_request<Q: DocumentRequest<T>>(
         &mut self,
         id: &Id,
@@ -417,7 +421,7 @@ impl<T: TextStore> Session<T> {
 
     /// Applies a notification if the session is running. In any other phase, `exit` ends the
     /// session, and every other notification is ignored. Returns the message to send, or None if
-    /// there is none.
+    /// there is no message.
     fn react_to_notification(
         &mut self,
         method: &str,
@@ -436,8 +440,8 @@ impl<T: TextStore> Session<T> {
         Ok(None)
     }
 
-    /// Reads a notification from its method and params, and applies it while the session runs.
-    /// Returns the message to send, or None if there is none.
+    /// Reads a notification to a running session from its method and params, and applies it.
+    /// Returns the message to send, or None if there is no message.
     fn parse_and_apply_notification(
         &mut self,
         method: &str,
@@ -462,8 +466,8 @@ impl<T: TextStore> Session<T> {
         };
     }
 
-    /// Applies a notification that has been read, while the session runs. Returns the message to
-    /// send, or None if there is none.
+    /// Applies a notification to a running session. Returns the message to send, or None if there
+    /// is no message.
     fn apply_notification(
         &mut self,
         note: ClientNotification,
@@ -513,8 +517,8 @@ impl<T: TextStore> Session<T> {
         self.diagnostics_message(uri)
     }
 
-    /// Applies changes to a document, and returns the message that publishes its diagnostics.
-    /// Returns None if the document isn't open or is out of step after the changes.
+    /// Applies changes to a document, and returns the message that publishes the document's
+    /// diagnostics. Returns None if the document isn't open or is out of step after the changes.
     fn change_and_publish_diagnostics(
         &mut self,
         uri: String,
@@ -556,8 +560,8 @@ impl<T: TextStore> Session<T> {
     }
 }
 
-/// Returns the reply to a request that has this outcome. The reply is the outcome's message, or a
-/// refusal if the document is out of step or isn't open. The result is never None.
+/// Returns the reply to a request with this outcome: the outcome's message, or a refusal if the
+/// document is out of step or isn't open. The result is never None.
 fn reply_for_outcome(
     alloc: Global,
     id: &Id,

@@ -62,8 +62,8 @@ fn push_record(out: &mut String, record: &RecordShape) -> Result<(), AllocError>
     write!(out, "RECORD {ordinal} with {fields}")
 }
 
-/// Appends the byte range of the first name conflict if the declaration with this ordinal is
-/// renamed to `new`. Appends `free` if there is no conflict.
+/// Appends the byte range of the first name conflict that renaming the declaration with this
+/// ordinal to `new` would cause. Appends `free` if there is no conflict.
 pub fn push_first_conflict(
     alloc: Global,
     out: &mut String,

@@ -1,6 +1,6 @@
 //! Tests how the parser represents expressions. An expression that is a single factor is an
-//! `Expression::Factor`, and any other one is a `CompoundExpression`. No contract distinguishes the
-//! two. Also tests the sizes of nodes, and of an entry in a table of ordinals.
+//! `Expression::Factor`, and any other expression is a `CompoundExpression`. No contract
+//! distinguishes the two. Also tests the sizes of nodes, and of an entry in a table of ordinals.
 
 use ob0_parse::parse;
 use ob0_scan::{Tokens, scan};

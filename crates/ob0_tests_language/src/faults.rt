@@ -103,30 +103,30 @@ const RECORD_PARAMETERS: &str =
 /// Texts of one line, each with a change: the index of the first replaced character, the index
 /// after the last one, and the new text.
 static TEXTS_WITH_CHANGES: &[(&str, u64, u64, &str)] = changes![
-    // A number on which types depend.
+    // A change of a number on which types depend.
     "MODULE M; CONST n = 2; VAR a: ARRAY n OF INTEGER; BEGIN a[n - 1] := 1; a[2] := n END M.", 20, 21, "20";
-    // A number before an undeclared name, and before a name that is declared twice.
+    // A change of a number before an undeclared name and before a name that is declared twice.
     "MODULE M; CONST n = 2; VAR x, x: INTEGER; BEGIN y := n END M.", 20, 21, "234";
-    // White space next to a name.
+    // White space that is inserted next to a name.
     "MODULE M; VAR x: INTEGER; BEGIN x := TRUE END M.", 15, 15, " ";
-    // A name that is replaced by another one, and by one that is already declared.
+    // A declared name that is replaced by a new name, and by a name that is already declared.
     TWO_VARIABLES, 17, 18, "z";
     TWO_VARIABLES, 17, 18, "x";
-    // One more statement in the first of two procedures, and a statement of the second procedure
-    // that loses its value.
+    // A statement that is added to the first of two procedures, and a value that is removed from a
+    // statement of the second procedure.
     "MODULE M; VAR x: INTEGER; PROCEDURE P; BEGIN x := 1 END P; PROCEDURE Q; BEGIN P; y := 1 END Q; BEGIN Q END M.",
         51, 51, "; x := TRUE";
     "MODULE M; VAR x: INTEGER; PROCEDURE P; BEGIN x := z END P; PROCEDURE Q; BEGIN P; y := 1 END Q; BEGIN Q END M.", 86, 88, "";
-    // One more statement in a body of a valid module: a well-typed one, one with a type error, one
-    // with an undeclared name, and one that selects fields.
+    // A statement that is added to a body of a valid module: without an error, with a type error,
+    // with an undeclared name, and with selected fields.
     TWO_VARIABLES, 41, 41, "; y := x + 1";
     TWO_VARIABLES, 41, 41, "; y := TRUE";
     TWO_VARIABLES, 41, 41, "; z := 1";
     "MODULE M; TYPE T = RECORD f, g: INTEGER END; VAR t: T; PROCEDURE P(a, b: T); BEGIN a := b; a.f := t.g END P; \
         BEGIN P(t, t); t := t END M.", 101, 101, "; a.g := b.f";
-    // A name in the body of a nested procedure: a local one, a parameter, one of an enclosing
-    // block, a later one, the procedure's name, and an undeclared one. There are undeclared names
-    // before the procedure, in it and after it.
+    // A name in a body that is replaced by the name of a later procedure, the name of an earlier
+    // procedure, a variable of an enclosing block, and an undeclared name. The first three texts
+    // have undeclared names outside that body.
     "MODULE M; VAR x, u: INTEGER; PROCEDURE P(a: INTEGER); VAR y: BOOLEAN; PROCEDURE Q(x: BOOLEAN); BEGIN x := y \
         END Q; PROCEDURE R; BEGIN q := 1 END R; BEGIN x := a END P; BEGIN P(x); v := u END M.", 106, 107, "R";
     "MODULE M; VAR x, u: INTEGER; PROCEDURE P(a: INTEGER); VAR y: BOOLEAN; PROCEDURE Q(x: BOOLEAN); BEGIN x := y \
@@ -134,13 +134,14 @@ static TEXTS_WITH_CHANGES: &[(&str, u64, u64, &str)] = changes![
     "MODULE M; VAR x, u: INTEGER; PROCEDURE P(a: INTEGER); VAR y: BOOLEAN; PROCEDURE Q; BEGIN u := x; u := y END Q; \
         BEGIN x := a; w := w END P; PROCEDURE S; BEGIN w := 1 END S; BEGIN P(x); v := u END M.", 130, 131, "u";
     "MODULE M; VAR x: INTEGER; PROCEDURE P; VAR x: BOOLEAN; BEGIN x := TRUE END P; BEGIN x := 1; Write(x) END M.", 98, 99, "y";
-    // The first name of a body with a number before it, and the first and the last name of a body.
+    // A change of a body's first name and the number before it, and a change of both names of a
+    // body.
     "MODULE M; VAR x, y: INTEGER; PROCEDURE P; BEGIN IF 1 < x THEN y := x END END P; BEGIN P; z := x END M.", 51, 56, "2 < q";
     ONE_PROCEDURE, 48, 54, "q := r";
-    // A closing name, and a closing name together with the last name of its body.
+    // A change of a closing name, and of a closing name together with the last name of its body.
     ONE_PROCEDURE, 59, 60, "Q";
     ONE_PROCEDURE, 53, 60, "q END Q";
-    // A parameter, a field in its declaration, and a field in a selection.
+    // A change of a parameter, of a field in its declaration, and of a field in a selection.
     RECORD_PARAMETERS, 70, 71, "a";
     RECORD_PARAMETERS, 29, 30, "f";
     RECORD_PARAMETERS, 100, 101, "h";

@@ -11,9 +11,9 @@ use std::alloc::{AllocError, Global};
 use std::process::Abort;
 
 /// Appends the names of nodes in the lowered body of a module, each preceded by a blank. These are
-/// the nodes of the statements. After a `StoreNumber`, `StoreNumberInVariable` or `StoreTruth` comes
-/// the outermost node of the stored value. After an `If` or a `While` come the outermost node of its
-/// condition, and the nodes of the statements directly in it.
+/// the nodes of the body's statements. After a `StoreNumber`, `StoreNumberInVariable` or
+/// `StoreTruth` comes the outermost node of the stored value. After an `If` or a `While` come the
+/// outermost node of its condition, and the nodes of the statements directly in it.
 pub fn push_names_of_nodes(
     alloc: Global,
     out: &mut String,

@@ -31,8 +31,8 @@ pub fn push_name_description(
     push_hover_at(alloc, out, module, offset, span)
 }
 
-/// Appends what a name refers to: a declaration's ordinal, `predeclared`, or a field's record
-/// (the record type's ordinal) and index.
+/// Appends the referent of a name: a declaration's ordinal, `predeclared`, or a field's record (the
+/// record type's ordinal) and index.
 fn push_referent(out: &mut String, of: Of) -> Result<(), AllocError> {
     match of {
         Of::Declared(ordinal) => push_number(out, "", ordinal),
@@ -126,8 +126,8 @@ pub fn push_all_hovers(
     Ok(())
 }
 
-/// Appends the hover text at the start of `span` and a bar. Returns whether there is such a text;
-/// if not, appends nothing.
+/// Appends the hover text at the start of `span`, and then a bar. Returns true if there is a hover
+/// text. Otherwise appends nothing and returns false.
 fn push_hover_if_any(
     alloc: Global,
     out: &mut String,
@@ -182,9 +182,26 @@ const HOVERS_OF_NESTED_RECORDS: &str =
     FIELD x: INTEGER | VAR v: RECORD with 1 fields | FIELD x: INTEGER | \
     PROCEDURE P(VAR p: RECORD with 3 fields; VAR q: RECORD with 3 fields) | ";
 
+// A module whose fields are declared and selected at three levels, and a procedure without fields.
+const FIELDS_AT_THREE_LEVELS: &str =
+    "MODULE M; VAR r: RECORD a: INTEGER END; PROCEDURE P; VAR s: RECORD b: INTEGER END; \
+    PROCEDURE Q; VAR t: RECORD c: INTEGER END; BEGIN t.c := s.b; r.a := t.c END Q; \
+    PROCEDURE E; BEGIN END E; BEGIN s.b := r.a END P; BEGIN r.a := 1 END M.";
+
+const HOVERS_AT_THREE_LEVELS: &str =
+    "VAR r: RECORD with 1 fields | FIELD a: INTEGER | predeclared INTEGER | PROCEDURE P() | \
+    VAR s: RECORD with 1 fields | FIELD b: INTEGER | predeclared INTEGER | PROCEDURE Q() | \
+    VAR t: RECORD with 1 fields | FIELD c: INTEGER | predeclared INTEGER | \
+    VAR t: RECORD with 1 fields | FIELD c: INTEGER | VAR s: RECORD with 1 fields | FIELD b: INTEGER | \
+    VAR r: RECORD with 1 fields | FIELD a: INTEGER | VAR t: RECORD with 1 fields | FIELD c: INTEGER | \
+    PROCEDURE Q() | PROCEDURE E() | PROCEDURE E() | VAR s: RECORD with 1 fields | FIELD b: INTEGER | \
+    VAR r: RECORD with 1 fields | FIELD a: INTEGER | PROCEDURE P() | VAR r: RECORD with 1 fields | \
+    FIELD a: INTEGER | ";
+
 static HOVER_CASES: &[QuestionCase] = rows![
     NAMES_OF_EACH_KIND, AllHovers => HOVERS_OF_EACH_KIND;
     NESTED_RECORDS, AllHovers => HOVERS_OF_NESTED_RECORDS;
+    FIELDS_AT_THREE_LEVELS, AllHovers => HOVERS_AT_THREE_LEVELS;
 ];
 
 fn all_hover_cases() -> &'static [QuestionCase] {

@@ -21,8 +21,8 @@ pub enum TestQuestion {
     Faults,
     /// The type of the declaration with this ordinal.
     TypeOfDeclaration(usize),
-    /// The byte range of the first name conflict if the declaration with this ordinal is renamed to
-    /// this new name. The answer is `free` if there is no conflict.
+    /// The byte range of the first name conflict that renaming the declaration with this ordinal to
+    /// this new name would cause. The answer is `free` if there is no conflict.
     ConflictAfterRename(usize, &'static str),
     /// The ordinal of the declaration to which each occurrence would be bound if the declaration
     /// with this ordinal were renamed to this new name.
@@ -62,8 +62,8 @@ pub(crate) use rows;
 #[derive(Clone, Copy, PartialEq, Eq)]
 pub enum CheckMode {
     AskingQuestions,
-    /// Each question is asked, and an allocation may fail. A row whose answer isn't found because
-    /// of such a failure is accepted.
+    /// Each question is asked, and an allocation may fail. If the answer to a row isn't found
+    /// because an allocation failed, the row is accepted.
     AllowingFailedAllocation,
     /// Each question is a renaming. `renaming_edits` makes the edits: it takes the analysis instead
     /// of the well-typed module.

@@ -2,7 +2,7 @@
 
 use std::alloc::{AllocError, Global};
 
-/// A test case that checks itself. Each is a row of a table.
+/// A test case that checks itself: a row of a table.
 pub trait TestCase {
     /// Returns whether the outcome is as the row expects.
     fn has_expected_outcome(&self, alloc: Global) -> Result<bool, AllocError>;

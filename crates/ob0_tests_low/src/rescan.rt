@@ -9,7 +9,7 @@ use crate::rescan::RescanCase::{ChangeInLongText, ChangeInShortText};
 use crate::rescan::RescanOutcome::{Different, Refused, SameTokens, Unscanned};
 use ob0_scan::laws::new_middle_replaces_range;
 use ob0_scan::{
-    Rescan, RescanRefusal, RescanWithComparison, ScanRefusal, Tokens, rescan, rescan_in_place, scan,
+    Rescan, RescanFailure, RescanWithComparison, ScanRefusal, Tokens, rescan, rescan_in_place, scan,
 };
 use std::alloc::{AllocError, Global};
 use std::process::Abort;
@@ -34,7 +34,7 @@ type ChangeInContext = (&'static str, &'static str, &'static str, &'static str);
 
 enum RescanCase {
     ChangeInShortText(ChangeInContext, RescanOutcome),
-    /// A change with 5,000 more statements before it and 5,000 more after it.
+    /// A change that has 5,000 more statements before it and 5,000 more after it.
     ChangeInLongText(ChangeInContext, RescanOutcome),
 }
 
@@ -61,8 +61,8 @@ fn are_same_scans(a: &Tokens, b: &Tokens) -> bool {
 /// Returns the outcome of `rescan_in_place`, given its result (`placed`) and the result of a scan
 /// from scratch (`scanned`). If the new text has faults, `rescan_in_place` must return tokens of
 /// the old text (`old_text`).
-fn outcome_of_scan_in_place(
-    placed: &Result<RescanWithComparison, RescanRefusal>,
+fn outcome_of_rescan_in_place(
+    placed: &Result<RescanWithComparison, RescanFailure>,
     scanned: &Result<Tokens, ScanRefusal>,
     old_text: &str,
 ) -> RescanOutcome {
@@ -70,7 +70,7 @@ fn outcome_of_scan_in_place(
         (Ok(found), Ok(tokens)) if are_same_scans(&found.rescan.tokens, tokens) => {
             SameTokens(found.rescan.read, found.same_kinds)
         }
-        (Err(RescanRefusal::Faults(faults, old)), Err(ScanRefusal::Faults(others)))
+        (Err(RescanFailure::Faults(faults, old)), Err(ScanRefusal::Faults(others)))
             if old.text() == old_text && faults.as_slice() == others.as_slice() => { Refused }
         _ => Different,
     }
@@ -126,11 +126,11 @@ fn rescan_both_ways(
 /// `scanned` is the result of a scan from scratch.
 fn common_outcome_of_rescans(
     beside: &Result<Rescan, ScanRefusal>,
-    placed: &Result<RescanWithComparison, RescanRefusal>,
+    placed: &Result<RescanWithComparison, RescanFailure>,
     scanned: &Result<Tokens, ScanRefusal>,
     old_text: &str,
 ) -> RescanOutcome {
-    let outcome = outcome_of_scan_in_place(placed, scanned, old_text);
+    let outcome = outcome_of_rescan_in_place(placed, scanned, old_text);
     if rescan_has_outcome(beside, scanned, outcome) {
         outcome
     } else {
@@ -171,7 +171,7 @@ fn push_5000_statements(text: &mut String) -> Result<(), AllocError> {
 
 /// Returns the outcome of a change in a module that has these statements before the change and
 /// again after it.
-fn outcome_between_statements(
+fn change_outcome_between_statements(
     alloc: Global,
     statements: &str,
     parts: &ChangeInContext,
@@ -184,13 +184,13 @@ fn outcome_between_statements(
 
 /// Returns the outcome of a change in a module that has 5,000 statements before the change and
 /// 5,000 after it.
-fn outcome_in_long_text(
+fn change_outcome_in_long_text(
     alloc: Global,
     parts: &ChangeInContext,
 ) -> Result<RescanOutcome, AllocError> {
     let mut statements = String::new(alloc);
     push_5000_statements(&mut statements)?;
-    outcome_between_statements(alloc, statements.as_str(), parts)
+    change_outcome_between_statements(alloc, statements.as_str(), parts)
 }
 
 /// Changes of long texts. After each, few tokens are read again.
@@ -217,7 +217,9 @@ static CHANGES_OF_SHORT_TEXTS: &[RescanCase] = rows![
 impl TestCase for RescanCase {
     fn has_expected_outcome(&self, alloc: Global) -> Result<bool, AllocError> {
         match self {
-            ChangeInLongText(parts, outcome) => Ok(outcome_in_long_text(alloc, parts)? == *outcome),
+            ChangeInLongText(parts, outcome) => Ok(
+                change_outcome_in_long_text(alloc, parts)? == *outcome,
+            ),
             ChangeInShortText((front, middle, other, following), outcome) => {
                 Ok(outcome_of_change(alloc, front, middle, other, following)? == *outcome)
             }

@@ -15,8 +15,8 @@ use std::alloc::{AllocError, Global};
 use std::process::Abort;
 
 /// The message that a row tests: a content, a request or a notification (its method and params), or
-/// a message that is sent. The row also has the expected meaning in words. For a message that is
-/// sent, it has the expected content instead.
+/// a message that is sent. The row also has the expected meaning in words. If the message is sent,
+/// the row has the expected content instead.
 #[derive(Clone, Copy)]
 enum TestedMessage {
     Content(&'static str),
@@ -214,7 +214,8 @@ fn call_in_words(call: &Call) -> &'static str {
     }
 }
 
-/// Returns the meaning of a request with this method and these params, or its fault, in words.
+/// Returns in words the meaning of a request with this method and these params, or the fault of
+/// reading it.
 fn parsed_request_in_words(alloc: Global, method: &str, params: &Value) -> &'static str {
     match request(alloc, method, params) {
         Ok(call) => call_in_words(&call),
@@ -235,7 +236,8 @@ fn note_in_words(note: &Note) -> &'static str {
     }
 }
 
-/// Returns the meaning of a notification with this method and these params, or its fault, in words.
+/// Returns in words the meaning of a notification with this method and these params, or the fault
+/// of reading it.
 fn parsed_notification_in_words(alloc: Global, method: &str, params: Value) -> &'static str {
     match notice(alloc, method, params) {
         Ok(note) => note_in_words(&note),

@@ -3,7 +3,9 @@
 use crate::cases::{TestCase, first_failing_row};
 use crate::values::Computation::{Add, ApplyRelation, ApplySign, Multiply, Negate};
 use ob0_language_values::Scalar::{Number, Truth};
-use ob0_language_values::scalar::{add, apply_relation, apply_sign, multiply, negate};
+use ob0_language_values::scalar::{
+    apply_add_operator, apply_multiply_operator, apply_not, apply_relation, apply_sign,
+};
 use ob0_language_values::{OperatorFault, Scalar};
 use ob0_tree::AddOperator::{self, Or, Subtract};
 use ob0_tree::MultiplyOperator::{self, Divide, Modulo};
@@ -42,11 +44,15 @@ static COMPUTATION_CASES: &[ComputationCase] = rows![
 /// Applies an operator to its operands, and returns the result or the operator's fault.
 fn compute(computation: Computation) -> Result<Scalar, OperatorFault> {
     match computation {
-        Multiply(operator, left, right) => multiply(operator, Number(left), Number(right)),
-        Add(operator, left, right) => add(operator, left, right),
+        Multiply(operator, left, right) => apply_multiply_operator(
+            operator,
+            Number(left),
+            Number(right),
+        ),
+        Add(operator, left, right) => apply_add_operator(operator, left, right),
         ApplyRelation(relation, left, right) => apply_relation(relation, left, right),
         ApplySign(sign, number) => apply_sign(Some(sign), Number(number)),
-        Negate(truth) => negate(truth),
+        Negate(truth) => apply_not(truth),
     }
 }
 

@@ -44,7 +44,11 @@ type CommandWithInput = (CommandLine<'static>, &'static [u8], &'static [u8]);
 /// Performs a command with an output writer whose first `flushes` flushes succeed and whose later
 /// flushes fail. Returns the command's status, and the number of output bytes that were flushed. If
 /// the command line has no file, performs nothing and returns the status 2 and 0 bytes.
-fn status_and_passed_on_bytes(alloc: Global, call: CommandWithInput, flushes: u32) -> (u8, usize) {
+fn status_and_flushed_byte_count(
+    alloc: Global,
+    call: CommandWithInput,
+    flushes: u32,
+) -> (u8, usize) {
     let (line, file, bytes) = call;
     let Some(_path) = line.file_path() else {
         return (2, 0);
@@ -58,11 +62,11 @@ fn status_and_passed_on_bytes(alloc: Global, call: CommandWithInput, flushes: u3
     });
     let mut input = TrackedReader::new(FailingReader {
         bytes,
-        most: 1,
+        max_bytes_per_read: 1,
         calls_left: 16,
     });
     let status = perform_command(alloc, line, file, &mut input, &mut out, &mut err);
-    (status, printed.passed_on)
+    (status, printed.flushed_bytes)
 }
 
 /// Commands, each with the number of flushes that succeed, the expected status, and the expected
@@ -96,7 +100,7 @@ fn first_failing_command(
     calls: &[(CommandWithInput, u32, (u8, usize))],
 ) -> Option<usize> {
     for i in 0..calls.len() {
-        if status_and_passed_on_bytes(alloc, calls[i].0, calls[i].1) != calls[i].2 {
+        if status_and_flushed_byte_count(alloc, calls[i].0, calls[i].1) != calls[i].2 {
             return Some(i);
         }
     }

@@ -72,7 +72,7 @@ fn serve_with_failing_devices(
 ) -> ConversationEnd {
     let mut reader = Noted::new(FailingReader {
         bytes: &end.bytes[..end.len.min(end.bytes.len())],
-        most: end.max_read_length,
+        max_bytes_per_read: end.max_read_length,
         calls_left: end.reads,
     });
     let mut writer = Noted::new(CountingWriter { count });
@@ -103,7 +103,9 @@ fn ends_as_expected_with_flushes(alloc: Global, end: &ConversationCase, flushes:
     if flushes < end.flushes {
         return found.result == Err(ServeFault::Write);
     }
-    found.result == end.result && result_matches_failures(found) && count.passed_on == count.written
+    found.result == end.result
+        && result_matches_failures(found)
+        && count.flushed_bytes == count.written
 }
 
 /// Returns whether a conversation needs exactly `end.flushes` flushes. With fewer flushes it must
@@ -139,7 +141,7 @@ fn output_is_flushed_after_each_piece(rt: HostRuntime) {
 fn reader_failure_is_recorded() -> bool {
     let mut reader = Noted::new(FailingReader {
         bytes: b"ab",
-        most: 1,
+        max_bytes_per_read: 1,
         calls_left: 1,
     });
     let mut piece = [0; 4];

@@ -3,12 +3,12 @@
 
 use std::io::{self, Read, Write};
 
-/// A reader of `bytes`, which returns at most `most` bytes in each call. The next `calls_left`
+/// A reader of `bytes`, which returns at most `max_bytes_per_read` bytes in each call. The next `calls_left`
 /// calls succeed, and later calls fail.
 #[derive(Drop)]
 pub struct FailingReader<'a> {
     pub bytes: &'a [u8],
-    pub most: usize,
+    pub max_bytes_per_read: usize,
     pub calls_left: u32,
 }
 
@@ -18,18 +18,18 @@ impl<'a> Read for FailingReader<'a> {
             return Err(io::ErrorKind::Other.into());
         }
         self.calls_left -= 1;
-        let count = self.most.min(buf.len());
+        let count = self.max_bytes_per_read.min(buf.len());
         self.bytes.read(&mut buf[..count])
     }
 }
 
 /// The counts of a `CountingWriter`: the number of written bytes, and how many of these were
-/// flushed (`passed_on`). The other two numbers say how many more bytes it accepts, and how many
+/// flushed (`flushed_bytes`). The other two numbers say how many more bytes it accepts, and how many
 /// more flushes succeed.
 #[derive(Clone, Copy)]
 pub struct WriterCounts {
     pub written: usize,
-    pub passed_on: usize,
+    pub flushed_bytes: usize,
     pub capacity: usize,
     pub flushes_left: u32,
 }
@@ -39,7 +39,7 @@ impl WriterCounts {
     pub fn new(capacity: usize, flushes_left: u32) -> WriterCounts {
         WriterCounts {
             written: 0,
-            passed_on: 0,
+            flushed_bytes: 0,
             capacity,
             flushes_left,
         }
@@ -48,7 +48,7 @@ impl WriterCounts {
 
 /// A writer that stores nothing: it only counts the written bytes, in `count`. A write fails if no
 /// more bytes are accepted. Once a flush succeeds, all bytes written so far count as flushed
-/// (`passed_on`).
+/// (`flushed_bytes`).
 #[derive(Drop)]
 pub struct CountingWriter<'a> {
     pub count: &'a mut WriterCounts,
@@ -70,7 +70,7 @@ impl<'a> Write for CountingWriter<'a> {
             return Err(io::ErrorKind::Other.into());
         }
         self.count.flushes_left -= 1;
-        self.count.passed_on = self.count.written;
+        self.count.flushed_bytes = self.count.written;
         Ok(())
     }
 }

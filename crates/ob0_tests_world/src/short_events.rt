@@ -12,7 +12,7 @@ use std::alloc::{AllocError, Global};
 /// `AboutOtherDocument`.
 #[derive(Clone, Copy)]
 pub enum ShortEvent {
-    /// This event, but about another document, `v`.
+    /// The given event, about the document `v` instead of `u`.
     AboutOtherDocument(&'static ShortEvent),
     Open(&'static str),
     /// A change notification without changes.
@@ -208,7 +208,7 @@ fn short_report_of(seen: &Seen) -> ShortReport {
 /// Performs an event in a world. Returns whether the report is the expected one (`wanted`), or why
 /// the event failed. After more than 1,000,000 steps, no event is performed and the result is
 /// `Unexpected`.
-pub fn make_event_happen<T: TextStore>(
+pub fn perform_expected_event<T: TextStore>(
     world: &mut World<T>,
     event: &Event,
     wanted: ShortReport,

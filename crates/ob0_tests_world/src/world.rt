@@ -2,7 +2,7 @@
 //! positions in UTF-16 units and in bytes.
 
 use crate::short_events::{
-    StepsResult, Story, build_events_with_retry, join_results, make_event_happen,
+    StepsResult, Story, build_events_with_retry, join_results, perform_expected_event,
 };
 use crate::stories::all_stories;
 use ob0_text::{Lines, TextStore, Unit, Whole};
@@ -29,7 +29,7 @@ const UNEXPECTED_OUTCOME: StoryOutcome = StoryOutcome(StepsResult::Unexpected, 0
 
 /// Returns whether the list `found` is a prefix of `wanted`, the list of the expected edits. Edits
 /// are compared by their texts before and after the edit.
-fn are_first_edits(found: &[Applied], wanted: &[(&str, &str)]) -> bool {
+fn is_prefix_of_expected_edits(found: &[Applied], wanted: &[(&str, &str)]) -> bool {
     if found.len() > wanted.len() {
         return false;
     }
@@ -43,7 +43,7 @@ fn are_first_edits(found: &[Applied], wanted: &[(&str, &str)]) -> bool {
 }
 
 /// Returns whether the list `found` is a prefix of `wanted`, the list of the expected publications.
-fn are_first_publications(found: &[Made], wanted: &[(i64, &str, bool)]) -> bool {
+fn is_prefix_of_expected_publications(found: &[Made], wanted: &[(i64, &str, bool)]) -> bool {
     if found.len() > wanted.len() {
         return false;
     }
@@ -59,16 +59,16 @@ fn are_first_publications(found: &[Made], wanted: &[(i64, &str, bool)]) -> bool 
     true
 }
 
-/// Returns the outcome of a story's first events, `steps` in number. If their edits and
-/// publications aren't the first ones that the story expects, returns `UNEXPECTED_OUTCOME`.
+/// Returns the outcome of a story's first `steps` events. Returns `UNEXPECTED_OUTCOME` if their
+/// edits or their publications aren't a prefix of the list that the story expects.
 fn outcome_of_first_events(
     story: &Story,
     steps_result: StepsResult,
     steps: u64,
     played: &Played,
 ) -> StoryOutcome {
-    let are_edits = are_first_edits(played.applied.as_slice(), story.applied);
-    if !are_edits || !are_first_publications(played.made.as_slice(), story.made) {
+    let are_edits = is_prefix_of_expected_edits(played.applied.as_slice(), story.applied);
+    if !are_edits || !is_prefix_of_expected_publications(played.made.as_slice(), story.made) {
         return UNEXPECTED_OUTCOME;
     }
     StoryOutcome(steps_result, steps, played.applied.len(), played.made.len())
@@ -84,7 +84,7 @@ fn new_world<T: TextStore>(alloc: Global, unit: Unit) -> Result<World<T>, WorldF
 
 /// Performs the events of a story in a world, and returns the common result of all steps
 /// (`join_results`).
-fn make_story_events_happen<T: TextStore>(
+fn perform_story_events<T: TextStore>(
     world: &mut World<T>,
     story: &Story,
     events: &[Event],
@@ -93,7 +93,7 @@ fn make_story_events_happen<T: TextStore>(
     for i in 0..events.len().min(story.events_with_reports.len()) {
         result = join_results(
             result,
-            make_event_happen(world, &events[i], story.events_with_reports[i].1),
+            perform_expected_event(world, &events[i], story.events_with_reports[i].1),
         );
     }
     result
@@ -108,7 +108,7 @@ fn step_through_story<T: TextStore>(
     let Ok(mut world) = new_world::<T>(alloc, story.unit) else {
         return StoryOutcome(StepsResult::OutOfMemory, 0, 0, 0);
     };
-    let result = make_story_events_happen(&mut world, story, events);
+    let result = perform_story_events(&mut world, story, events);
     let steps = world.steps();
     outcome_of_first_events(story, result, steps, &world.into_played())
 }
@@ -140,7 +140,7 @@ fn play_story(alloc: Global, story: &Story, events: &[Event]) -> StoryOutcome {
 }
 
 /// Runs a story, and returns the outcome. If an allocation fails at an event, the outcome's numbers
-/// count only what happened before that event.
+/// count only the events, edits and publications before it.
 fn run_story(alloc: Global, story: &Story, manner: StoryMode) -> StoryOutcome {
     match build_events_with_retry(alloc, story) {
         Ok(events) => match manner {

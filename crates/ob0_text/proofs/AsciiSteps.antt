@@ -1,4 +1,5 @@
--- Proves the step of a pass over an ASCII byte, which is a character by itself.
+-- Proves that a pass preserves `PositionsCanBeCountedInRest` at a step over an ASCII byte, which is
+-- a character by itself.
 use Rattle.std.proofs.Common.{◌≡◌, ℕ, suc, ◌+◌, ◌<◌, ◌||◌, false, List, ◌∷◌, ◌++◌, length, drop, get_or, sym, ap, ◌∙◌, subst, eq-eqb, arith}
 use Rattle.std.specs.Prelude.{◌==◌, encode_utf8}
 use Rattle.std.specs.Char.{len_utf8}

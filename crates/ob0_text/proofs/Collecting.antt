@@ -1,4 +1,5 @@
--- Proves one iteration of a loop that collects the results of a function for each element.
+-- Proves one iteration of a loop that collects the results of a function for the elements of a
+-- list. The iteration adds the result for the next element.
 use Rattle.std.proofs.Common.{◌≡◌, ℕ, ◌+◌, ◌<◌, List, [], ◌∷◌, ◌++◌, map, length, take, get_or, sym, ◌∙◌}
 use Rattle.std.proofs.lemmas.List.{map_more}
 

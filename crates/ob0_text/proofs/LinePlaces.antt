@@ -1,4 +1,5 @@
--- Proves that a pass may begin at the start of any line.
+-- Proves that a pass to an offset or a position may begin at the start of any line that isn't after
+-- it.
 use Rattle.std.proofs.Common.{◌≡◌, ℕ, zero, suc, ◌+◌, ◌-◌, ◌<◌, ◌≤◌, min, length-append, Bool, true, false, List, [], ◌∷◌, ◌++◌, length, get_or, take, drop, map, refl, sym, ap, ◌∙◌, subst, arith}
 use Rattle.std.specs.Prelude.{encode_utf8_all, ◌==◌}
 use Rattle.std.proofs.lemmas.Bool.{eqb-true}

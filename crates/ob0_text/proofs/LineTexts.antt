@@ -1,4 +1,4 @@
--- Proves that the table gives the text of one line.
+-- Proves that the bytes from one line start of the table to the next are one line with its ending.
 use Rattle.std.proofs.Common.{◌≡◌, ℕ, zero, suc, ◌+◌, ◌<◌, ◌≤◌, Bool, true, false, List, [], ◌∷◌, ◌++◌, length, get_or, refl, sym, ap, ◌∙◌, subst, append_assoc, length-append, arith, Some, None}
 use Rattle.std.specs.Prelude.{encode_utf8_all, nat_lt, slice_get}
 use Rattle.std.proofs.lemmas.Bool.{ltb-true, ltb-false}

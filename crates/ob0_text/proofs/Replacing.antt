@@ -1,4 +1,5 @@
--- Proves that replacing bytes is replacing a range of the text.
+-- Proves that replacing the bytes between the offsets of a range's two ends replaces the characters
+-- in the range.
 use Rattle.std.proofs.Common.{◌≡◌, ℕ, List, ◌++◌, take, drop, min, max, sym, ap, ◌∙◌, subst, Some}
 use Rattle.std.specs.Str.{IsUtf8, IsCharBoundary, chars}
 use Rattle.ob0_text.specs.Texts.{text_before, byte_len, offset_of}

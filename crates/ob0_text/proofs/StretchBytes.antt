@@ -1,4 +1,5 @@
--- Proves facts about the line endings and units of characters from their bytes.
+-- Proves that the UTF-8 bytes of characters determine how many units the characters have, and
+-- whether one of the characters is LF or CR.
 use Rattle.std.proofs.Common.{◌≡◌, ℕ, ◌+◌, ◌<◌, Bool, true, false, ◌||◌, List, [], ◌∷◌, ◌++◌, length, refl, sym, ap, ◌∙◌, subst, arith, length-append}
 use Rattle.std.specs.Prelude.{◌==◌, encode_utf8_all, sum_by}
 use Rattle.std.specs.List.{All}

@@ -1,4 +1,4 @@
--- Proves the steps of passes over the characters of a stretch.
+-- Proves that a step over all characters of a stretch preserves the invariants of passes.
 use Rattle.std.proofs.Common.{◌≡◌, ℕ, ◌+◌, ◌-◌, ◌≤◌, List, [], ◌∷◌, ◌++◌, length, take, drop, sym, ap, ◌∙◌, subst, append_assoc, arith, length-drop}
 use Rattle.std.specs.Prelude.{encode_utf8, encode_utf8_all, sum_by}
 use Rattle.std.specs.List.{All}

@@ -1,4 +1,4 @@
--- Proves bounds on the number of units of a character.
+-- Proves that a character has at least one unit, and at most as many units as bytes in UTF-8.
 use Rattle.std.proofs.Common.{ℕ, ◌<◌, ◌≤◌, arith}
 use Rattle.std.specs.Char.{len_utf8}
 use Rattle.std.proofs.lemmas.Bool.Decides.{nat_tests}

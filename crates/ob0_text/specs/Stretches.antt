@@ -1,5 +1,6 @@
 -- Defines pieces of a line and stretches. A piece is a run of characters other than LF and CR. A
--- stretch is a piece with at least one character.
+-- stretch is a piece with at least one character. These definitions don't bound a stretch's length.
+-- The stretches that the code makes have at most 64 bytes.
 -- Rule: none; used in private contracts about passes over a text.
 use Rattle.std.specs.Prelude.{◌≡◌, ℕ, ◌+◌, ◌-◌, ◌<◌, ◌≤◌, false, ◌||◌, ◌==◌, if◌then◌else◌, nat_lt, nat_le, List, length, take, drop, sum_by}
 use Rattle.std.specs.List.{All}

@@ -13,12 +13,12 @@ width_of Utf16 = utf16_width
 width_of Utf8 = len_utf8
 
 -- Returns whether the unit is bytes of UTF-8.
-abbrev pub is_utf8 : unit.Unit → Bool
-is_utf8 Utf16 = false
-is_utf8 Utf8 = true
+abbrev pub is_utf8_unit : unit.Unit → Bool
+is_utf8_unit Utf16 = false
+is_utf8_unit Utf8 = true
 
 -- Returns the unit UTF-8 if the argument is true, otherwise UTF-16. This is the inverse of
--- `is_utf8`.
+-- `is_utf8_unit`.
 abbrev pub unit_from_utf8_flag : Bool → unit.Unit
 unit_from_utf8_flag false = Utf16
 unit_from_utf8_flag true = Utf8
@@ -26,4 +26,4 @@ unit_from_utf8_flag true = Utf8
 -- The encoding of a unit as a boolean, which can be decoded again (`Coded`). The encodings of texts
 -- and documents use it.
 abbrev pub coded_position_unit : Coded unit.Unit
-coded_position_unit = code_by Bool coded_bool is_utf8 unit_from_utf8_flag (elim [ Utf16 ↦ refl | Utf8 ↦ refl ])
+coded_position_unit = code_by Bool coded_bool is_utf8_unit unit_from_utf8_flag (elim [ Utf16 ↦ refl | Utf8 ↦ refl ])

@@ -5,7 +5,7 @@ ghost use Rattle.std.specs.Str.{chars};
 ghost use Rattle.ob0_text.specs.Texts.{offset_of};
 ghost use Rattle.ob0_text.specs.Units.{width_of};
 ghost use Rattle.ob0_text.specs.Patches.{cuts_of_edits, cuts_in_text_order, patched_text};
-ghost use Rattle.ob0_text.specs.StoredCuts.{cut_of_byte_edit, cut_in_bytes};
+ghost use Rattle.ob0_text.specs.StoredCuts.{cut_of_byte_edit, cut_with_byte_offsets};
 ghost use Rattle.ob0_text.specs.declared.byte_edits.PatchFault.TheVariants.{Memory};
 
 use crate::edits::Edit;
@@ -32,8 +32,8 @@ impl From<AllocError> for PatchFault {
     }
 }
 
-/// An edit with byte offsets: the start and the end of the removed text, and the text that replaces
-/// it.
+/// An edit with byte offsets. `text` replaces the bytes from `start` (included) to `end`
+/// (excluded).
 #[derive(Drop)]
 struct ByteEdit<'e> {
     start: usize,
@@ -76,7 +76,7 @@ fn sorted_byte_edits<'e, T: TextStore>(
 ) -> Result<Vec<ByteEdit<'e>>, AllocError>
     ensures { let text = T.content store.now in
         IfOk result (λ cuts. map cut_of_byte_edit cuts.items
-        ≡ map (cut_in_bytes text) (cuts_in_text_order
+        ≡ map (cut_with_byte_offsets text) (cuts_in_text_order
         (cuts_of_edits (width_of (T.unit_of store.now)) text edits.now))) }
 {
     let mut cuts = unsorted_byte_edits(alloc, store, edits)?;
@@ -92,7 +92,7 @@ fn unsorted_byte_edits<'e, T: TextStore>(
 ) -> Result<Vec<ByteEdit<'e>>, AllocError>
     ensures { let text = T.content store.now in
         IfOk result (λ cuts. map cut_of_byte_edit cuts.items
-        ≡ map (cut_in_bytes text) (cuts_of_edits (width_of (T.unit_of store.now)) text edits.now)) }
+        ≡ map (cut_with_byte_offsets text) (cuts_of_edits (width_of (T.unit_of store.now)) text edits.now)) }
 {
     let starts = edit_starts(alloc, edits)?;
     let from = offsets_of_positions(alloc, store, starts)?;

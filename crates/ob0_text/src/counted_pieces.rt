@@ -1,5 +1,5 @@
 //! Keeps the part of a line whose units (`Unit`) were counted last. The next position is usually
-//! near the end of this part, so counting continues there.
+//! near the end of this part, so the next count continues from that end.
 //!
 //! `Lines` keeps the counted part of the line of the last change: from the line's start to a place
 //! shortly before the change. The search for the start of the next change begins at the end of this

@@ -52,8 +52,9 @@ pub fn offset_from_line_table(
     place_of_position(text, table, unit, position).offset
 }
 
-/// The byte offsets at which a range starts and ends, and a counted piece of the line in which it
-/// starts. The search for the next change's range can begin at the end of this piece.
+/// The byte offsets at which a range starts and ends, and a counted piece (`CountedPiece`) of the
+/// line in which the range starts. The search for the next change's range can begin at the end of
+/// this piece.
 #[derive(Clone, Copy, Drop)]
 pub struct RangeOffsets {
     pub start: usize,
@@ -61,9 +62,11 @@ pub struct RangeOffsets {
     pub counted_piece: CountedPiece,
 }
 
-/// Returns the byte offsets of a range's start and end. The search for the start begins with
-/// `last`, the piece of a line that was counted last. If the range's end is in the same line as its
-/// start and not before the start, the search for the end begins at the range's start.
+/// Returns the byte offsets of a range's start and end, and a counted piece (`CountedPiece`) of the
+/// line in which the range starts. If `last`, the piece that was counted last, begins at the start
+/// of this line, only the difference between the two pieces is counted. If the range's end is in
+/// the same line as its start and not before the start, the search for the end begins at the
+/// range's start.
 pub fn range_offsets(
     text: &str,
     table: &LineTable,
@@ -92,9 +95,10 @@ pub fn range_offsets(
     }
 }
 
-/// Returns a counted piece (`CountedPiece`) of the position's line, or of the last line if the text
-/// has no such line. The piece ends at or before the position. Counting begins with `last`, the
-/// piece that was counted last.
+/// Returns a counted piece (`CountedPiece`) that begins at the start of the position's line and
+/// ends at or before the position. If the text has no such line, the piece is in the last line. If
+/// `last`, the piece that was counted last, begins at the same offset, only the difference between
+/// the two pieces is counted.
 fn counted_piece_before_position(
     text: &str,
     table: &LineTable,
@@ -220,7 +224,8 @@ pub fn offsets_from_line_table(
 }
 
 /// Returns the place of `position`. If the previous position `last` is in the same line and not
-/// after `position`, the search begins at `place`, the place of `last`.
+/// after `position`, the search begins at `place`, the place of `last`. Otherwise the search begins
+/// at the start of the position's line.
 fn place_from_previous_position(
     text: &str,
     table: &LineTable,
@@ -288,8 +293,9 @@ pub fn line_from_line_table<'a>(text: &'a str, table: &LineTable, k: usize) -> O
     Some(&text[table.line_start(k)..end])
 }
 
-/// Returns the byte offset of the end of line `k`, counted from 0, its ending included. The result
-/// is the start of the next line, or the text's length `len` if line `k` is the last one.
+/// Returns the byte offset at which line `k`, counted from 0, ends together with its line ending.
+/// The result is the start of the next line, or the text's length `len` if line `k` is the last
+/// one.
 fn line_end_offset(table: &LineTable, len: usize, k: usize) -> usize
     requires { k < length table.now.starts }
     ensures next { k + 1 < length table.now.starts → result ≡ slice_index table.now.starts (k + 1) }

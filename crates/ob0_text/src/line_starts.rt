@@ -57,9 +57,10 @@ fn byte_before_or_lf(bytes: &[u8], offset: usize) -> u8
     }
 }
 
-/// Appends to `starts` the byte offsets at which a line starts, from the start of `bytes` to its
-/// end, both included. In the text, `bytes` begins at the offset `from`, between the byte `before`
-/// and the bytes `following`.
+/// Appends to `starts` the byte offsets at which a line starts, from the start of `bytes` to the
+/// end of `bytes`, both included. `bytes` is the part of the text that begins at the offset `from`.
+/// In the text, the byte `before` comes directly before `bytes`, and the bytes `following` directly
+/// after.
 fn add_line_starts(
     starts: &mut Vec<usize>,
     from: usize,

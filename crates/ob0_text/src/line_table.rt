@@ -11,9 +11,9 @@
 //!
 //! `replace_keeping_spare_memory` allocates all memory first: for the new starts, for both parts of
 //! the table, then for the text. After that no allocation can fail, as the contracts of `reserve`
-//! and `extend_from_slice` say. If an allocation fails while starts are moved, the two parts divide
-//! the table at another line, but the table still matches the text. At the end `replace` releases
-//! spare memory (`spare_memory.rt`).
+//! and `extend_from_slice` say. If an allocation fails while starts are moved, the two parts may
+//! divide the table at another line, but the table still matches the text. At the end `replace`
+//! releases spare memory (`spare_memory.rt`).
 
 ghost use Rattle.std.specs.Prelude.{◌≡◌, ◌+◌, ◌<◌, ◌≤◌, ◌++◌, IfOk, OnOk, OnErr, drop, length, min, slice_index, string_bytes, take};
 ghost use Rattle.std.specs.Str.{IsCharBoundary};
@@ -123,7 +123,8 @@ impl LineTable {
         Ok(())
     }
 
-    /// Releases most of the memory that the table doesn't need. The line starts don't change.
+    /// Shrinks the capacity of each list of which little is used (`is_mostly_unused`). The line
+    /// starts don't change.
     fn release_spare_memory(&mut self)
         ensures { self.new ≡ self.old }
     {

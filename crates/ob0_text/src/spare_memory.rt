@@ -10,8 +10,8 @@
 
 ghost use Rattle.std.specs.Prelude.{◌≡◌, string_bytes};
 
-/// The amount of spare capacity that isn't worth releasing, in entries of a list or bytes of a
-/// text.
+/// A number of list entries or of text bytes. A list or text is shrunk only if a quarter of its
+/// capacity is more than its length plus this number.
 const NEGLIGIBLE_SPARE_CAPACITY: usize = 512;
 
 /// Shrinks a list's capacity to twice the list's length if little of the capacity is used

@@ -1,4 +1,5 @@
--- Proves facts about a loop over a list that keeps the greatest nesting.
+-- Proves that a loop over a list of items, which keeps the greatest nesting depth so far, computes
+-- the nesting depth of the whole list.
 use Rattle.std.proofs.Common.{◌≡◌, ℕ, ◌+◌, ◌<◌, ◌≤◌, max, List, ◌∷◌, length, drop, get_or, sym, ap, ◌∙◌, arith}
 use Rattle.std.proofs.lemmas.List.{drop_all, drop_more}
 use Rattle.ob0_tree.specs.CappedDepth.{capped_to_u32}

@@ -1,6 +1,6 @@
--- The identifiers of a tree are the names that it spells, in the same order. The identifiers of a
--- parsed module are all identifiers of its text. A tree and its spelling have the same names,
--- whatever the role of names in lists. Everything else is an induction over tokens.
+-- Proves that a tree's identifiers are the names that the tree spells, in the same order. The role
+-- of the names in a list doesn't matter. So the identifiers of a parsed module are all identifiers
+-- of its text. Their indexes ascend.
 use Rattle.std.proofs.Common.{◌≡◌, ℕ, ◌+◌, ◌≤◌, ◌<◌, Some, None, List, [], ◌∷◌, ◌++◌, length, refl, sym, ◌∙◌, ap, arith, append-nil, subst, zero-add, append_assoc, slice_index_or}
 use Rattle.std.proofs.lemmas.List.{map-append}
 use Rattle.ob0_scan.specs.declared.lexeme.TokenKind.{TokenKind}

@@ -1,4 +1,5 @@
--- Proves facts about the identifiers and the leaves of a tree whose names are replaced.
+-- Proves that replacing the names of a tree replaces the names of its identifiers, and keeps their
+-- roles.
 use Rattle.std.proofs.Common.{◌≡◌, ℕ, List, [], ◌∷◌, ◌++◌, map, refl, ap, sym, ◌∙◌}
 use Rattle.std.proofs.lemmas.List.{map-append}
 use Rattle.ob0_tree.specs.declared.tree.Role.{Role}

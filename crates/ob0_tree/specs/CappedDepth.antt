@@ -1,5 +1,5 @@
--- Defines how the code caps the nesting depths that it computes. It adds levels in 32 bits with
--- saturation, so 2^32 - 1 stands for every greater depth.
+-- Defines the cap on the nesting depths that the code computes. The code adds levels in 32 bits
+-- with saturation, so 2^32 - 1 stands for this depth and every greater one.
 -- Rule: none; used in the contracts of the functions that compute nesting depths.
 use Rattle.std.specs.Prelude.{ℕ, min}
 

@@ -1,4 +1,4 @@
--- Defines the token indexes of a tree's identifiers, and states when such indexes ascend.
+-- Defines the token indexes of a tree's identifiers, and states when indexes ascend.
 -- Rule: none; used in contracts about the token indexes of identifiers.
 use Rattle.std.specs.Prelude.{◌≡◌, ℕ, ◌+◌, ◌≤◌, ◌<◌, List, [], ◌∷◌, ◌++◌, map, length}
 use Rattle.std.specs.List.{HoldsAt}

@@ -20,14 +20,14 @@ ghost use Rattle.ob0_tree.specs.View.{expression_of, compound_expression_of, sim
 
 use crate::tree::{
     Assignment, Block, Call, CompoundExpression, ConstantDeclaration, Designator, Elsif,
-    Expression, Factor, If, Module, Names, OptionalFieldGroup, ParameterSection, Procedure,
-    RecordType, Role, Selector, SimpleExpression, Statement, Term, TypeDeclaration,
+    Expression, Factor, IdentifierList, If, Module, OptionalFieldGroup, ParameterSection,
+    Procedure, RecordType, Role, Selector, SimpleExpression, Statement, Term, TypeDeclaration,
     VariableDeclaration, WrittenType,
 };
 use std::alloc::AllocError;
 
-/// The state of a walk over the identifiers of a module, or of a part of one, in text order. The
-/// walk updates the state at each identifier.
+/// A value that a walk updates at each identifier. The walk visits the identifiers of a module, or
+/// of a part of one, in text order.
 pub trait Visitor {
     /// Returns the state after the visit of an identifier. The arguments are the identifier's role,
     /// the index of its token and the state before the visit.
@@ -246,7 +246,11 @@ fn walk_elsifs<V: Visitor>(visitor: &mut V, parts: &Vec<Elsif>) -> Result<(), Al
 }
 
 /// Visits each name of the list `ns`, in text order. Each of these names has the role `role`.
-fn walk_names<V: Visitor>(visitor: &mut V, role: Role, ns: &Names) -> Result<(), AllocError>
+fn walk_names<V: Visitor>(
+    visitor: &mut V,
+    role: Role,
+    ns: &IdentifierList,
+) -> Result<(), AllocError>
     ensures { OnOk result (visitor.new ≡ state_after_identifiers V.state_after_one_identifier
         (identifiers role (names_of ns.now)) visitor.old) }
 {

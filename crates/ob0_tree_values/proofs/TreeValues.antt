@@ -13,7 +13,7 @@ use Rattle.ob0_tree.specs.declared.tree.Multiplier.{Multiplier}
 use Rattle.ob0_tree.specs.declared.tree.Factor as factor_module
 use Rattle.ob0_tree.specs.declared.tree.Factor.{Designator, Integer, Parenthesised, Not}
 use Rattle.ob0_tree.specs.declared.tree.Selector.{Selector, Field, Index}
-use Rattle.ob0_tree.specs.declared.tree.Names.{Names}
+use Rattle.ob0_tree.specs.declared.tree.IdentifierList.{IdentifierList}
 use Rattle.ob0_tree.specs.declared.tree.Statement.{Statement, Empty, Assign, Call, If, While, Repeat}
 use Rattle.ob0_tree.specs.declared.tree.If.{roll-If}
 use Rattle.ob0_tree.specs.declared.tree.Elsif.{Elsif}
@@ -32,7 +32,7 @@ use Rattle.ob0_tree.specs.Tree.{GrammarItem, selector, multiplier, addend, compa
 use Rattle.ob0_scan.specs.declared.lexeme.TokenKind.TheVariants as kind
 use Rattle.ob0_scan.specs.declared.lexeme.Symbol.TheVariants as symbol
 use Rattle.ob0_tree.specs.Terminals.{WordOrSymbol}
-use Rattle.ob0_tree.specs.View.{expression_of, maybe_comparison_of, comparison_of, simple_expression_of, addend_of, term_of, multiplier_of, factor_of, selector_of, items_of, names_of, argument_after_comma_of, arguments_of_list, arguments_of, statement_of, statement_after_semicolon_of, sequence_of_list, elsif_of, else_part_of, type_of, optional_field_group_of, field_group_after_semicolon_of, record_type_of_list, parameter_section_of, parameter_section_after_semicolon_of, formals_of_list, formals_of, constant_of, constant_section_of, type_declaration_of, type_section_of, variable_of, variable_section_of, body_of, block_of, procedure_of}
+use Rattle.ob0_tree.specs.View.{expression_of, maybe_comparison_of, comparison_of, simple_expression_of, addend_of, term_of, multiplier_of, factor_of, selector_of, items_of, names_of, argument_after_comma_of, arguments_of_list, arguments_of, statement_of, statement_after_semicolon_of, sequence_of_list, elsif_of, else_part_of, type_of, optional_field_group_of, field_group_after_semicolon_of, record_type_of_list, parameter_section_of, parameter_section_after_semicolon_of, formals_of_list, formals_of, constant_declaration_of, constant_section_of, type_declaration_of, type_section_of, variable_declaration_of, variable_section_of, body_of, block_of, procedure_of}
 use Rattle.ob0_tree.proofs.Viewed.{simple_made, term_made, designator_made, compound_made, comparison_made, addend_made, made_record_type, while_made, repeat_made, block_made, procedure_made, if_made}
 
 -- ---- vectors and boxes
@@ -85,12 +85,12 @@ part_of name_after_comma x = comma_then_name x
 part_of fields_after_semicolon x = field_group_after_semicolon_of x
 part_of formals xs = formals_of_list xs.items
 part_of section_after_semicolon x = parameter_section_after_semicolon_of x
-part_of constant x = constant_of x
-part_of constants xs = declares_const_section (items_of constant_of xs.items)
+part_of constant x = constant_declaration_of x
+part_of constants xs = declares_const_section (items_of constant_declaration_of xs.items)
 part_of type_definition x = type_declaration_of x
 part_of type_definitions xs = declares_type_section (items_of type_declaration_of xs.items)
-part_of variable x = variable_of x
-part_of variables xs = declares_var_section (items_of variable_of xs.items)
+part_of variable x = variable_declaration_of x
+part_of variables xs = declares_var_section (items_of variable_declaration_of xs.items)
 part_of procedure x = procedure_of x
 part_of body xs = begins (sequence_of_list xs.items)
 
@@ -114,7 +114,7 @@ Value term = Term
 Value factor = factor_module.Factor
 Value statement = Statement
 Value sequence = Vec Statement Global
-Value names = Names
+Value names = IdentifierList
 Value written_type = WrittenType
 Value fields = fields_module.OptionalFieldGroup
 Value section = ParameterSection

@@ -1,7 +1,6 @@
 -- Facts about lists of numbers and whether a number is among them.
 use Rattle.std.proofs.Common.{◌≡◌, ℕ, Bool, true, false, ◌||◌, List, [], ◌∷◌, ◌++◌, refl, ◌∙◌, nat_eq, eq-eqb}
 use Rattle.std.proofs.lemmas.List.Folds.{list_any-append}
-use Rattle.std.specs.List.{AllZip}
 use Rattle.std.proofs.lemmas.Bool.{or_left, or_right}
 use Rattle.ob0_types_check.specs.WalksOverSomeBodies.{AllClosingNamesPass, is_body_in_list}
 
@@ -24,10 +23,3 @@ all_among (x ∷ xs) = (itself_first, all_weaker (is_body_in_list xs) (is_body_i
   where
     itself_first : is_body_in_list (x ∷ xs) x ≡ true
     itself_first = or_left (nat_eq x x) (is_body_in_list xs x) (eq-eqb x x refl)
-
--- Two lists that are equal item by item are equal.
-pub copied_items : (xs ys : List ℕ) → AllZip (λ x y. y ≡ x) xs ys → ys ≡ xs
-copied_items [] [] h = refl
-copied_items [] (y ∷ ys) h = absurd h
-copied_items (x ∷ xs) [] h = absurd h
-copied_items (x ∷ xs) (y ∷ ys) h = λ i. h.0 i ∷ copied_items xs ys h.1 i

@@ -6,7 +6,7 @@ use Rattle.ob0_scope_table.specs.TokenProperty.{EachTokenSatisfies}
 use Rattle.ob0_scope_table.specs.BodyReplacement.{PathToBody, block_without_body, path_after_inserting_first_procedure, procedure_without_body, path_to_body_in_procedure_list, path_to_body_in_block, path_to_body_in_procedure, path_to_body_in_module, module_without_body}
 use Rattle.ob0_scope_table.specs.SpellingChangesInOneBody.{closing_name}
 use Rattle.ob0_scope_table.proofs.BodyOutside.{Among}
-use Rattle.ob0_types_check.specs.EqualExceptBodies.{BlockTokensHavePropertyExceptInBodies, EachTokenOfModuleHasExceptInBodies, EachTokenOfProcedureHasExceptInBodies, ProcedureTokensHavePropertyExceptInBodies, HoldsUnless}
+use Rattle.ob0_types_check.specs.EqualExceptBodies.{HoldsOutsideBodiesOfBlock, HoldsOutsideBodiesOfModule, HoldsOutsideBodiesOfProcedure, HoldsOutsideBodiesOfProcedures, HoldsUnless}
 use Rattle.ob0_types.specs.OneBody.{body_with_token_in_procedures, body_with_token_in_block, body_with_token_in_module, body_with_token_in_procedure}
 
 -- ---- if all tokens have the property
@@ -17,18 +17,18 @@ module _ (P : ℕ → Type 0) (wanted : ℕ → Bool) where
   unless_any false a = a
 
   mutual
-    block_any : (own : ℕ) (b : Tree ℕ block) → EachTokenSatisfies P b → BlockTokensHavePropertyExceptInBodies P wanted own b
+    block_any : (own : ℕ) (b : Tree ℕ block) → EachTokenSatisfies P b → HoldsOutsideBodiesOfBlock P wanted own b
     block_any own (forms_block (declares cs ts vs ps) statements) h = (h.0.0, h.0.1, h.0.2, procedures_any ps h.0.3, unless_any (wanted own) h.1)
 
-    procedures_any : (ps : Tree ℕ (items procedure)) → EachTokenSatisfies P ps → ProcedureTokensHavePropertyExceptInBodies P wanted ps
+    procedures_any : (ps : Tree ℕ (items procedure)) → EachTokenSatisfies P ps → HoldsOutsideBodiesOfProcedures P wanted ps
     procedures_any end h = tt
     procedures_any (more p rest) h = (procedure_any p h.0, procedures_any rest h.1)
 
-    procedure_any : (p : Tree ℕ (item procedure)) → EachTokenSatisfies P p → EachTokenOfProcedureHasExceptInBodies P wanted p
+    procedure_any : (p : Tree ℕ (item procedure)) → EachTokenSatisfies P p → HoldsOutsideBodiesOfProcedure P wanted p
     procedure_any (declares_procedure x fs b closing) h = (h.0, h.1, block_any closing b h.2, h.3)
 
 -- If all tokens of a module have a property, all tokens outside the wanted bodies have it.
-pub module_any : (P : ℕ → Type 0) (wanted : ℕ → Bool) (m : Tree ℕ module_text) → EachTokenSatisfies P m → EachTokenOfModuleHasExceptInBodies P wanted m
+pub module_any : (P : ℕ → Type 0) (wanted : ℕ → Bool) (m : Tree ℕ module_text) → EachTokenSatisfies P m → HoldsOutsideBodiesOfModule P wanted m
 module_any P wanted (forms_module x b closing) h = (h.0, block_any P wanted closing b h.1, h.2)
 
 -- ---- all tokens except those in one body
@@ -63,23 +63,23 @@ ModuleOutside P low (forms_module x b closing) = P x × BlockOutside P low b × 
 -- wanted bodies have this property.
 module _ (P : ℕ → Type 0) (low : ℕ) (wanted : ℕ → Bool) where
   mutual
-    block_but : (own : ℕ) (b : Tree ℕ block) → BlockOutside P low b → wanted (body_with_token_in_block low own b).closing ≡ true → BlockTokensHavePropertyExceptInBodies P wanted own b
+    block_but : (own : ℕ) (b : Tree ℕ block) → BlockOutside P low b → wanted (body_with_token_in_block low own b).closing ≡ true → HoldsOutsideBodiesOfBlock P wanted own b
     block_but own (forms_block (declares cs ts vs ps) statements) h is_wanted = let f = among_but own ps statements h.3 is_wanted in (h.0, h.1, h.2, f.0, f.1)
 
     among_but : (own : ℕ) (ps : Tree ℕ (items procedure)) (statements : Tree ℕ (maybe body)) → AmongOutside P low ps statements → wanted (body_with_token_in_procedures low own ps statements).closing ≡ true
-        → ProcedureTokensHavePropertyExceptInBodies P wanted ps × HoldsUnless (wanted own) (EachTokenSatisfies P statements)
+        → HoldsOutsideBodiesOfProcedures P wanted ps × HoldsUnless (wanted own) (EachTokenSatisfies P statements)
     among_but own end statements h is_wanted = (tt, subst (λ b. HoldsUnless b (EachTokenSatisfies P statements)) (sym is_wanted) tt)
     among_but own (more p rest) statements h is_wanted =
         (elim (nat_lt (closing_name p) low) as (λ z. Chosen z (EachTokenSatisfies P p × AmongOutside P low rest statements) (ProcedureOutside P low p × EachTokenSatisfies P rest × EachTokenSatisfies P statements)
-        → wanted (if z then body_with_token_in_procedures low own rest statements else body_with_token_in_procedure low p).closing ≡ true → ProcedureTokensHavePropertyExceptInBodies P wanted (more p rest) × HoldsUnless (wanted own) (EachTokenSatisfies P statements)) [
+        → wanted (if z then body_with_token_in_procedures low own rest statements else body_with_token_in_procedure low p).closing ≡ true → HoldsOutsideBodiesOfProcedures P wanted (more p rest) × HoldsUnless (wanted own) (EachTokenSatisfies P statements)) [
           | true ↦ λ h is_wanted. let f = among_but own rest statements h.1 is_wanted in ((procedure_any P wanted p h.0, f.0), f.1)
           | false ↦ λ h is_wanted. ((procedure_but p h.0 is_wanted, procedures_any P wanted rest h.1), unless_any P wanted (wanted own) h.2)
         ]) h is_wanted
 
-    procedure_but : (p : Tree ℕ (item procedure)) → ProcedureOutside P low p → wanted (body_with_token_in_procedure low p).closing ≡ true → EachTokenOfProcedureHasExceptInBodies P wanted p
+    procedure_but : (p : Tree ℕ (item procedure)) → ProcedureOutside P low p → wanted (body_with_token_in_procedure low p).closing ≡ true → HoldsOutsideBodiesOfProcedure P wanted p
     procedure_but (declares_procedure x fs b closing) h is_wanted = (h.0, h.1, block_but closing b h.2 is_wanted, h.3)
 
-  pub module_but : (m : Tree ℕ module_text) → ModuleOutside P low m → wanted (body_with_token_in_module low m).closing ≡ true → EachTokenOfModuleHasExceptInBodies P wanted m
+  pub module_but : (m : Tree ℕ module_text) → ModuleOutside P low m → wanted (body_with_token_in_module low m).closing ≡ true → HoldsOutsideBodiesOfModule P wanted m
   module_but (forms_module x b closing) h is_wanted = (h.0, block_but closing b h.1 is_wanted, h.2)
 
 -- ---- from each token of the module without that body

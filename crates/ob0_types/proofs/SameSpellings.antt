@@ -1,15 +1,14 @@
 -- If the tokens of a text have the same kinds and spellings as before, the result of checking its module is the same.
 -- The module's tree has the same names and numbers, and its faults are at the same tokens.
-use Rattle.std.proofs.Common.{◌≡◌, ℕ, List, ◌++◌, IfSome, length, option_and_then, refl, sym, ap, ◌∙◌, subst}
+use Rattle.std.proofs.Common.{◌≡◌, ℕ, List, ◌++◌, IfSome, length, refl, sym, ap, subst}
 use Rattle.std.specs.List.{filter}
 use Rattle.ob0_scan.specs.ReusedLexemes.{words_of_tokens}
 use Rattle.ob0_scan.specs.TextWithTokens.{TextWithTokens}
 use Rattle.ob0_tree.specs.ParsedModule.{named_tree_of, parsed_module, tree_of}
 use Rattle.ob0_tree.specs.declared.tree.ModuleTree.{ModuleTree}
-use Rattle.ob0_language_types.specs.Bindings.{declared_object}
 use Rattle.ob0_language_types.specs.WellTyped.{WellTyped}
 use Rattle.ob0_scope_table.specs.Bindings.{resolution_with_bindings}
-use Rattle.ob0_scope_table.specs.Resolution.{IsResolution, Resolution, is_duplicate_or_end_name_fault, ordinal_in}
+use Rattle.ob0_scope_table.specs.Resolution.{IsResolution, Resolution, is_duplicate_or_end_name_fault}
 use Rattle.ob0_scope_table.specs.declared.faults.FaultAtTokens.{FaultAtTokens}
 use Rattle.ob0_scope_table.specs.declared.resolved.Bindings.{Bindings}
 use Rattle.ob0_scope_table.proofs.Placed.{each_token}
@@ -19,8 +18,6 @@ use Rattle.ob0_types_check.specs.ModuleLaws.{TableHasDeclaredObjects}
 use Rattle.ob0_types_check.specs.WalksOverSomeBodies.{AllClosingNamesPass, faulty_bodies, is_body_in_list}
 use Rattle.ob0_types_check.proofs.SameModules.{module_same}
 use Rattle.ob0_types_check.proofs.WalksOverSomeBodies.{faulty_stay}
-use Rattle.ob0_types_fields.specs.FieldIdentifiers.{field_identifiers}
-use Rattle.ob0_types_fields.specs.IdentifierOwners.{fields_with_owners, identifier_owners_in_module}
 use Rattle.ob0_types.proofs.BodyFound.{module_any}
 use Rattle.ob0_types.specs.FaultOrder.{AreFirstFaultsByTokens, AreFirstFaultsWhenSorted, all_faults_of, compare_faults_by_tokens}
 use Rattle.ob0_types.specs.SameSpellings.{CheckResultDependsOnlyOnSpellings}
@@ -39,9 +36,6 @@ module _ (old new : TextWithTokens) (tree : ModuleTree) (b : Bindings) (same : w
   first_stay faults first =
       subst (λ count. AreFirstFaultsWhenSorted (compare_faults_by_tokens count) (all_faults_of after) faults) (sym (same_count old new same))
       (subst (λ found. AreFirstFaultsWhenSorted (compare_faults_by_tokens (length old.tokens)) found faults) (ap (λ found. found ++ filter is_duplicate_or_end_name_fault b.faults.items) (module_same old new same tree b)) first)
-
-  fields_stay : field_identifiers after ≡ field_identifiers before
-  fields_stay = λ i. fields_with_owners (identifier_owners_in_module (record { object_for = λ token. option_and_then (declared_object (named i)) (ordinal_in b.ordinals.items token); written = λ token. same_texts old new same i token }) (tree_of (parsed_module old tree)))
 
   alike_at : (k : ℕ) → IsSameTokenAt before after k
   alike_at k = record { written = λ i. same_texts old new same i k; value = λ i. same_values old new same i k; bound = refl }
@@ -70,8 +64,5 @@ check_result_depends_only_on_spellings old new tree b types same s t =
         holds = subst (λ n. IfSome types.known (TableHasDeclaredObjects n)) (sym names) t.table.holds;
         kept = λ typed. t.table.kept (subst WellTyped names typed);
       };
-      fields = λ typed.
-          let f = t.fields (subst WellTyped names typed) in
-          (f.0, f.1 ∙ sym (fields_stay old new tree b same));
       bodies_with_faults = bodies_stay old new tree b same t.resolved s types.bodies_with_faults.items t.bodies_with_faults;
     }

@@ -12,7 +12,6 @@ use Rattle.ob0_types_table.specs.DeclarationTables.{DeclarationTableView}
 use Rattle.ob0_language_types.specs.WellTyped.{WellTyped}
 use Rattle.ob0_types.specs.FaultOrder.{AreFirstFaultsOfModule, AreFirstFaultsByTokens}
 use Rattle.ob0_types.specs.declared.checked_modules.CheckResult.{CheckResult}
-use Rattle.ob0_types_fields.specs.FieldLists.{AreFieldListsOfModule, FieldLists}
 
 -- a checked module: its bindings, its faults, and the table of its declarations if there is one
 pub record CheckedModule : Type 0 where
@@ -20,8 +19,9 @@ pub record CheckedModule : Type 0 where
   pub faults : List Fault
   pub known : Option DeclarationTableView
 
--- States that `c.faults` has the module's first 100 faults, in order, and is empty exactly if the module is well-typed.
--- If there is a table, it has the module's declarations. If there are no faults, there is a table.
+-- States that `c.faults` has the module's first 100 faults, in order, and is empty exactly if the
+-- module is well-typed. The bindings `c.names` are correct for the module. If there is a table, it
+-- has the module's declarations. If there are no faults, there is a table.
 pub record IsCorrectlyChecked (c : CheckedModule) : Type 0 where
   pub resolved : IsResolution c.names
   pub reported : (c.faults ≡ []) ↔ WellTyped (named_tree_of c.names.module_read)
@@ -30,7 +30,8 @@ pub record IsCorrectlyChecked (c : CheckedModule) : Type 0 where
   pub few : length c.faults ≤ max_faults
   pub first : AreFirstFaultsOfModule c.names c.faults
 
--- returns the checked module that consists of a module and the result of checking it; the faults get their spans
+-- returns the checked module that consists of a module and the result of checking it; the faults
+-- get their spans
 abbrev pub checked_module : Resolution → CheckResult → CheckedModule
 checked_module names types =
     record {
@@ -39,35 +40,30 @@ checked_module names types =
       known = types.known;
     }
 
--- States that the table `known` has the module's declarations or is None. If the module is well-typed, the table isn't
--- None.
+-- States that the table `known` has the module's declarations or is None. If the module is
+-- well-typed, the table isn't None.
 pub record HasTableIfWellTyped (names : Resolution) (known : Option DeclarationTableView) : Type 0 where
   pub holds : IfSome known (TableHasDeclaredObjects (named_tree_of names.module_read))
   pub kept : WellTyped (named_tree_of names.module_read) → is_some known ≡ true
 
--- states that the lists `fields` have the module's fields if the module is well-typed
-abbrev pub AreFieldListsIfWellTyped : Resolution → FieldLists → Type 0
-AreFieldListsIfWellTyped names fields =
-    WellTyped (named_tree_of names.module_read) → AreFieldListsOfModule names fields
-
--- States that `types` is the result of checking a module. It has the module's first 100 faults, and no fault exactly if
--- the module is well-typed. Each body with a fault of types is listed in `types.bodies_with_faults`.
+-- States that `types` is the result of checking a module. It has the module's first 100 faults, and
+-- no fault exactly if the module is well-typed. Each body with a type fault is listed in
+-- `types.bodies_with_faults`. If the module is well-typed, `types` has the table of its
+-- declarations.
 pub record IsCheckResultOfModule (names : Resolution) (types : CheckResult) : Type 0 where
   pub resolved : IsResolution names
   pub reported : (types.faults.items ≡ []) ↔ WellTyped (named_tree_of names.module_read)
   pub first : AreFirstFaultsByTokens names types.faults.items
   pub table : HasTableIfWellTyped names types.known
-  pub fields : AreFieldListsIfWellTyped names types.fields
   pub bodies_with_faults : AllClosingNamesPass (is_body_in_list types.bodies_with_faults.items) (faulty_bodies names)
 
--- states that `names` has the right bindings of its module (`IsResolution`), and that this module is well-typed
+-- states that `names` has the right bindings of its module (`IsResolution`), and that this module
+-- is well-typed
 pub record IsWellTyped (names : Resolution) : Type 0 where
   pub resolved : IsResolution names
   pub well_typed : WellTyped (named_tree_of names.module_read)
 
--- states that the module is well-typed, that the table `known` has its declarations, and that the lists `fields` have
--- its fields
-pub record IsWellTypedWithTableAndFields (names : Resolution) (known : DeclarationTableView) (fields : FieldLists) : Type 0 where
+-- states that the module is well-typed, and that the table `known` has its declarations
+pub record IsWellTypedWithTable (names : Resolution) (known : DeclarationTableView) : Type 0 where
   pub well_typed : IsWellTyped names
   pub declarations : TableHasDeclaredObjects (named_tree_of names.module_read) known
-  pub fields_are : AreFieldListsOfModule names fields

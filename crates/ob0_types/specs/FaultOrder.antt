@@ -14,8 +14,8 @@ use Rattle.ob0_scope_table.specs.Resolution.{Resolution, is_duplicate_or_end_nam
 use Rattle.ob0_scope_table.specs.declared.faults.FaultAtTokens.{FaultAtTokens}
 use Rattle.ob0_types_check.specs.DeclarationFaults.{undeclared_name_and_type_faults}
 
--- returns the number of a fault's code; the numbers order the codes: first lexical codes, then codes of scopes, then
--- codes of types
+-- returns the number of a fault's code; the numbers order the codes: first lexical codes, then
+-- codes of scopes, then codes of types
 abbrev pub fault_code_number : FaultCode → ℕ
 fault_code_number code.TooLong = 1
 fault_code_number code.BadChar = 2
@@ -45,8 +45,9 @@ compare_spans x y = ordering_then (nat_cmp x.span.start y.span.start) (nat_cmp x
 abbrev pub compare_faults : Fault → Fault → Ordering
 compare_faults x y = ordering_then (compare_spans x y) (nat_cmp (fault_code_number x.code) (fault_code_number y.code))
 
--- Compares two faults by their first tokens, then by their last tokens, and then by the numbers of their codes. `count`
--- is the number of the text's tokens. A token that doesn't exist counts as the last token.
+-- Compares two faults by their first tokens, then by their last tokens, and then by the numbers of
+-- their codes. `count` is the number of the text's tokens. A token that doesn't exist counts as the
+-- last token.
 abbrev pub compare_faults_by_tokens : ℕ → FaultAtTokens → FaultAtTokens → Ordering
 compare_faults_by_tokens count x y =
     ordering_then
@@ -54,27 +55,28 @@ compare_faults_by_tokens count x y =
     (nat_cmp (clamped_token_index count x.last) (clamped_token_index count y.last)))
     (nat_cmp (fault_code_number x.code) (fault_code_number y.code))
 
--- states that `faults` has the first 100 faults of the list `all`, which has the faults of the list `found` sorted by
--- `cmp`
+-- states that `faults` has the first 100 faults of the list `all`, which has the faults of the list
+-- `found` sorted by `cmp`
 pub record AreFirstFaultsWhenSorted {F : Type 0} (cmp : F → F → Ordering) (found faults : List F) : Type 0 where
   pub all : List F
   pub joined : IsPermutation found all
   pub in_order : IsSorted cmp all
   pub first : faults ≡ take max_faults all
 
--- Returns all faults of a module, according to LANGUAGE.md, Faults of scopes and types. The undeclared names and the
--- faults of types come first, then the duplicate declarations and wrong closing names. Only the first 100 faults in the
--- order of `compare_faults` are reported.
+-- Returns all faults of a module, according to LANGUAGE.md, Faults of scopes and types. The
+-- undeclared names and the type faults come first, then the duplicate declarations and wrong
+-- closing names. Only the first 100 faults in the order of `compare_faults` are reported.
 abbrev pub all_faults_of : Resolution → List FaultAtTokens
 all_faults_of r = undeclared_name_and_type_faults r ++ filter is_duplicate_or_end_name_fault r.faults
 
--- states that the list `faults` has the module's first 100 faults, with spans, in the order of `compare_faults`
+-- states that the list `faults` has the module's first 100 faults, with spans, in the order of
+-- `compare_faults`
 abbrev pub AreFirstFaultsOfModule : Resolution → List Fault → Type 0
 AreFirstFaultsOfModule r faults =
     AreFirstFaultsWhenSorted compare_faults (map (fault_with_span r.module_read.source) (all_faults_of r)) faults
 
--- States that the list `faults` has the module's first 100 faults in the order of `compare_faults_by_tokens`.
--- This is also the order of their spans.
+-- States that the list `faults` has the module's first 100 faults in the order of
+-- `compare_faults_by_tokens`. This is also the order of their spans.
 abbrev pub AreFirstFaultsByTokens : Resolution → List FaultAtTokens → Type 0
 AreFirstFaultsByTokens r faults =
     AreFirstFaultsWhenSorted (compare_faults_by_tokens (length r.module_read.source.tokens)) (all_faults_of r) faults

@@ -7,9 +7,9 @@ use Rattle.ob0_scope_table.specs.Resolution.{Resolution}
 use Rattle.ob0_types.specs.CheckedModules.{IsCheckResultOfModule}
 use Rattle.ob0_types.specs.declared.checked_modules.CheckResult.{CheckResult}
 
--- States that `types` is the result of checking an older module, and that `r` is that module with the statements of one
--- body replaced. All other tokens have the same spellings in both modules. `s` gives the ranges of these unchanged
--- tokens in both modules.
+-- States that `types` is the result of checking an older module, and that `r` is that module with
+-- the statements of one body replaced. All other tokens have the same spellings in both modules.
+-- `s` says which tokens at the start and at the end of the text these are.
 pub record IsCheckResultBeforeBodyReplacement (r : Resolution) (types : CheckResult) (s : CommonPrefixAndSuffix) : Type 0 where
   pub old : Resolution
   pub path : PathToBody

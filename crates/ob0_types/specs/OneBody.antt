@@ -1,4 +1,5 @@
--- The result of checking a module before its tokens changed in the statements of one body.
+-- The result of checking a module before the spellings of tokens in one body changed. A body is the
+-- statements of a block.
 -- Rule: docs/LANGUAGE.md, Types 8, Faults of scopes and types 1.
 use Rattle.std.specs.Prelude.{◌≡◌, ℕ, true, nat_lt, if◌then◌else◌}
 use Rattle.ob0_tree.specs.Tree.{Tree, block, body, declares, declares_procedure, end, forms_block, forms_module, item, items, maybe, module_text, more, procedure}
@@ -22,8 +23,8 @@ pub record OneBody : Type 0 where
 abbrev pub body_view : Body → OneBody
 body_view b = record { closing = b.closing; statements = body_of b.statements.now }
 
--- Returns the body that contains a range of tokens, given the index `low` of the range's first token. If the range
--- isn't in one body, the result may be any body of the module.
+-- Returns the body that contains a range of tokens, given the index `low` of the range's first
+-- token. If the range isn't in one body, the result may be any body of the module.
 abbrev mutual
   -- Returns the body of a block, or the body of a procedure in this block. If one of these bodies
   -- contains the token `low`, it is the result. `own` is the block's closing name.
@@ -51,13 +52,14 @@ abbrev mutual
 abbrev pub body_with_token_in_module : ℕ → Tree ℕ module_text → OneBody
 body_with_token_in_module low (forms_module x b closing) = body_with_token_in_block low closing b
 
--- replaces the tokens of a module by the tokens of another text; the tree is unchanged
+-- replaces a module's text and tokens by another text with its tokens; the tree is unchanged
 abbrev pub module_with_source : TextWithTokens → ParsedModule → ParsedModule
 module_with_source source m =
     record { source = source; name = m.name; block = m.block; closing = m.closing }
 
--- States that `types` is the result of checking the module before a change. The changed tokens have indexes of at least
--- `low` and are in one body. All other tokens have the same spellings and bindings as before the change.
+-- States that `types` is the result of checking the module before a change. All tokens have the
+-- same kinds as before. The changed tokens have indexes of at least `low` and are in one body. All
+-- other tokens have the same spellings and bindings as before.
 pub record IsCheckResultBeforeBodyChange (r : Resolution) (types : CheckResult) (low : ℕ) : Type 0 where
   pub high : ℕ
   pub old : TextWithTokens

@@ -1,5 +1,5 @@
--- The result of checking a module after a change that keeps the spellings of all tokens, for example a change of only
--- the white space.
+-- The result of checking a module after a change that keeps the spellings of all tokens, for
+-- example a change of only the white space.
 -- Rule: docs/LANGUAGE.md, Types 8, Faults of scopes and types 1.
 use Rattle.std.specs.Prelude.{◌≡◌}
 use Rattle.ob0_scan.specs.ReusedLexemes.{words_of_tokens}
@@ -12,8 +12,8 @@ use Rattle.ob0_scope_table.specs.declared.resolved.Bindings.{Bindings}
 use Rattle.ob0_types.specs.CheckedModules.{IsCheckResultOfModule}
 use Rattle.ob0_types.specs.declared.checked_modules.CheckResult.{CheckResult}
 
--- States that the result of checking a module is also the result for the same tree and bindings with the tokens of
--- another text. The tokens of both texts must have the same kinds and spellings.
+-- States that two texts with the same tree and the same bindings have the same result of checking.
+-- The tokens of both texts must have the same kinds and spellings.
 abbrev pub CheckResultDependsOnlyOnSpellings : Type 0
 CheckResultDependsOnlyOnSpellings =
     (old new : TextWithTokens) (tree : ModuleTree) (b : Bindings) (types : CheckResult)

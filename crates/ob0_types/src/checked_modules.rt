@@ -1,5 +1,4 @@
-//! Checks the scopes and types of a module, and returns the types, values and fields of a
-//! well-typed module.
+//! Checks the scopes and types of a module, and returns the types and values of a well-typed module.
 //!
 //! `CheckResult` is the complete result of checking. It borrows nothing, so it can be kept next to
 //! the module's bindings. Its faults are at tokens, so a change of only white space or comments
@@ -7,15 +6,12 @@
 //! their spans. `check` makes a `Checked` that owns the result. `Checked::from_parts` makes a
 //! `Checked` that borrows a result kept elsewhere.
 //!
-//! Faults are sorted by (start, end, code), which is the same order as by (first token, last token,
-//! code), because the tokens ascend. The lists of fields are made only for a module that has
-//! no fault of types (`fields_from_table`). If one body changed, the lists are made from the lists
-//! of the previous text (`fields_after_body_change`). In contracts, the value of a `Checked`
-//! doesn't contain the lists. Its invariant states that they have the module's fields if the module
-//! has no fault.
+//! Faults are sorted by (start, end, code). This is also the order by (first token, last token,
+//! code), because the tokens are in text order. The fields of a module aren't kept: a question about
+//! a field walks the tree (`fields.rt`).
 
 ghost use Rattle.ob0_scope_table.specs.Resolution.{is_duplicate_or_end_name_fault};
-ghost use Rattle.ob0_types.specs.CheckedModules.{AreFieldListsIfWellTyped, IsCheckResultOfModule, IsCorrectlyChecked, HasTableIfWellTyped};
+ghost use Rattle.ob0_types.specs.CheckedModules.{IsCheckResultOfModule, IsCorrectlyChecked};
 ghost use Rattle.ob0_types.specs.FaultOrder.{AreFirstFaultsWhenSorted, compare_faults_by_tokens};
 ghost use Rattle.ob0_types.specs.NewBody.{IsCheckResultBeforeBodyReplacement};
 ghost use Rattle.ob0_types.specs.OneBody.{IsCheckResultBeforeBodyChange};
@@ -28,34 +24,32 @@ use crate::one_body::body_with_token_in_module;
 use ob0_language_values::Scalar;
 use ob0_scan::{CommonPrefixAndSuffix, Fault, MAX_FAULTS};
 use ob0_scope_table::{
-    FaultAtTokens, PREDECLARED_COUNT, Resolved, body_bounds_in_module, collect_faults_with_spans,
+    FaultAtTokens, PREDECLARED_COUNT, Resolved, collect_faults_with_spans,
     is_duplicate_or_end_name_fault,
 };
 use ob0_types_check::laws::{modules_without_fault_pass_type_check, typed_modules_have_no_fault};
 use ob0_types_check::{
     ModuleReport, module_report, module_report_walking_one_body, module_report_walking_some_bodies,
 };
-use ob0_types_fields::ModuleFields;
 use ob0_types_table::{DeclarationTable, TypeId, TypeWithParts};
 use std::alloc::{AllocError, Global};
 use std::borrow::Cow;
 use std::marker::Model;
 
-/// The greatest number of faulty bodies with which only some bodies are checked again after a
-/// change. If the previous text had at most this many faulty bodies, only they and the changed body
-/// are checked again. If it had more, all bodies are checked, because searching a longer list for
-/// each body would cost as much as checking all bodies.
+/// The limit up to which only some bodies are checked again after a change in one body. If the
+/// previous text had at most this many faulty bodies, only they and the changed body are checked
+/// again. If it had more, all bodies are checked, because searching a longer list for each body
+/// would cost as much as checking all bodies.
 const MAX_FAULTY_BODIES_FOR_PARTIAL_CHECK: usize = 32;
 
 /// The result of checking a module. If the module is well-typed, `known` has the table of its
-/// declarations, and `fields` the lists of its fields. `faults` has the first 100 faults of its
-/// scopes and types, in the order of their spans. `bodies_with_faults` has the closing names of the
-/// bodies with a fault of types. All places are token indexes, so a change of only white space or
-/// comments changes nothing here. The result borrows nothing.
+/// declarations. `faults` has the first 100 faults of its scopes and types, in the order of their
+/// spans. `bodies_with_faults` contains the closing name of each body with a type fault. All places
+/// are token indexes, so a change of only white space or comments changes nothing here. The result
+/// borrows nothing.
 #[derive(Drop)]
 pub struct CheckResult {
     pub known: Option<DeclarationTable>,
-    pub fields: ModuleFields,
     pub faults: Vec<FaultAtTokens>,
     pub bodies_with_faults: Vec<usize>,
 }
@@ -88,16 +82,15 @@ impl<'t> Model for Checked<'t> {
         × (IsCorrectlyChecked checked × (c.faults.items ≡ checked.faults)) };
 }
 
-/// A well-typed module with its table of declarations and its fields.
+/// A well-typed module with its table of declarations.
 #[derive(Drop)]
 pub struct WellTyped<'t> {
     checked: &'t Checked<'t>,
     known: &'t DeclarationTable,
-    fields: &'t ModuleFields,
 }
 
 impl<'t> Model for WellTyped<'t> {
-    ghost use Rattle.ob0_types.specs.CheckedModules.{IsWellTypedWithTableAndFields};
+    ghost use Rattle.ob0_types.specs.CheckedModules.{IsWellTypedWithTable};
     ghost use Rattle.ob0_scope_table.specs.Resolution.{Resolution};
 
     ghost Value = { Resolution };
@@ -109,7 +102,7 @@ impl<'t> Model for WellTyped<'t> {
 
     ghost view = { λ w. w.checked.now.names };
 
-    ghost invariant = { λ w. IsWellTypedWithTableAndFields w.checked.now.names w.known.now w.fields.now };
+    ghost invariant = { λ w. IsWellTypedWithTable w.checked.now.names w.known.now };
 }
 
 /// A type of a module (`of`), with the module's table of declarations (`known`), which has the
@@ -138,18 +131,13 @@ pub fn check_result_of<'t>(
 ) -> Result<CheckResult, AllocError>
     ensures { IfOk result (IsCheckResultOfModule resolved.now) }
 {
-    typed_modules_have_no_fault();
-    // The proof needs this call: its contract states the module's invariant.
-    let _module = resolved.module();
     let report = module_report(alloc, resolved)?;
-    let fields = fields_from_table(alloc, resolved, &report.known)?;
-    check_result_from_report(resolved, report, fields)
+    check_result_from_report(resolved, report)
 }
 
-/// Returns the result of checking a module after tokens of one body changed. No token with an index
-/// less than `low` has changed. `before` is the result before the change. The other bodies are
-/// checked again only if they had faults, or if more than 32 bodies had faults. If the module was
-/// valid before, only the changed body is searched for fields again.
+/// Returns the result of checking a module after the spellings of tokens in one body changed. No
+/// token with an index less than `low` has changed. `before` is the result before the change. The
+/// other bodies are checked again only if they had faults, or if more than 32 bodies had faults.
 pub fn check_result_after_body_change<'t>(
     alloc: Global,
     resolved: &'t Resolved<'t>,
@@ -162,20 +150,23 @@ pub fn check_result_after_body_change<'t>(
     if before.bodies_with_faults.len() > MAX_FAULTY_BODIES_FOR_PARTIAL_CHECK {
         return check_result_of(alloc, resolved);
     }
-    typed_modules_have_no_fault();
     let body = body_with_token_in_module(resolved.module(), low);
-    let mut bodies = before.bodies_with_faults.clone()?;
+    let CheckResult {
+        known: _,
+        faults: _,
+        bodies_with_faults,
+    } = before;
+    let mut bodies = bodies_with_faults;
     bodies.push(body.closing)?;
     let report = module_report_walking_some_bodies(alloc, resolved, bodies.as_slice())?;
-    let fields = fields_after_body_change(alloc, resolved, &report.known, before, low)?;
-    check_result_from_report(resolved, report, fields)
+    check_result_from_report(resolved, report)
 }
 
 /// Returns the result of checking a module after the statements of one body were replaced, perhaps
 /// by a different number of tokens. `before` is the result before the replacement. `same` says
 /// which tokens at the start and at the end of the text are unchanged. If the module wasn't valid
 /// before, the whole module is checked again. If it was valid, only its declarations and the new
-/// body are checked. Then, if possible, only the new body is searched for fields.
+/// body are checked.
 pub fn check_result_after_body_replacement<'t>(
     alloc: Global,
     resolved: &'t Resolved<'t>,
@@ -186,39 +177,19 @@ pub fn check_result_after_body_replacement<'t>(
     ensures { IfOk result (IsCheckResultOfModule resolved.now) }
 {
     if before.faults.is_empty() {
-        return check_result_by_walking_new_body(alloc, resolved, before, same);
+        let body = body_with_token_in_module(resolved.module(), same.prefix);
+        let report = module_report_walking_one_body(alloc, resolved, body.closing)?;
+        return check_result_from_report(resolved, report);
     }
     check_result_of(alloc, resolved)
 }
 
-/// Returns the result of checking a module after the statements of one body were replaced. The
-/// module must have been valid before.
-fn check_result_by_walking_new_body<'t>(
-    alloc: Global,
-    resolved: &'t Resolved<'t>,
-    before: CheckResult,
-    same: CommonPrefixAndSuffix,
-) -> Result<CheckResult, AllocError>
-    requires before { IsCheckResultBeforeBodyReplacement resolved.now before same }
-    requires none { before.faults.items ≡ [] }
-    ensures { IfOk result (IsCheckResultOfModule resolved.now) }
-{
-    typed_modules_have_no_fault();
-    let body = body_with_token_in_module(resolved.module(), same.prefix);
-    let report = module_report_walking_one_body(alloc, resolved, body.closing)?;
-    let fields = fields_after_body_replacement(alloc, resolved, &report.known, before, same)?;
-    check_result_from_report(resolved, report, fields)
-}
-
-/// Returns the result of checking a module, given the module's report. If the module is well-typed,
-/// `fields` must have the module's fields. Otherwise `fields` may have any lists.
+/// Returns the result of checking a module, given the module's report.
 fn check_result_from_report<'t>(
     resolved: &'t Resolved<'t>,
     report: ModuleReport,
-    fields: ModuleFields,
 ) -> Result<CheckResult, AllocError>
-    requires report { IsReportOfModule resolved.now report }
-    requires fields { AreFieldListsIfWellTyped resolved.now fields }
+    requires { IsReportOfModule resolved.now report }
     ensures { IfOk result (IsCheckResultOfModule resolved.now) }
 {
     modules_without_fault_pass_type_check();
@@ -233,102 +204,14 @@ fn check_result_from_report<'t>(
     let faults = first_sorted_faults(resolved, faults)?;
     Ok(CheckResult {
         known,
-        fields,
         faults,
         bodies_with_faults,
     })
 }
 
-/// Returns the lists of a module's fields, given the table of its declarations (`known`). If there
-/// is no table, the module isn't well-typed and the lists are empty.
-fn fields_from_table<'t>(
-    alloc: Global,
-    resolved: &'t Resolved<'t>,
-    known: &Option<DeclarationTable>,
-) -> Result<ModuleFields, AllocError>
-    requires { HasTableIfWellTyped resolved.now known.now }
-    ensures { IfOk result (AreFieldListsIfWellTyped resolved.now) }
-{
-    // The proof needs this call: its contract states the module's invariant.
-    let _module = resolved.module();
-    match known {
-        None => Ok(ModuleFields::empty(alloc)),
-        Some(known) => {
-            let fields = ModuleFields::from_resolved(alloc, known, resolved)?;
-            Ok(fields)
-        }
-    }
-}
-
-/// Returns the lists of a module's fields after tokens of only one body changed. If the module was
-/// well-typed before, only the changed body is searched for fields again. If the module isn't
-/// well-typed after the change, the result may be any lists.
-fn fields_after_body_change<'t>(
-    alloc: Global,
-    resolved: &'t Resolved<'t>,
-    known: &Option<DeclarationTable>,
-    before: CheckResult,
-    low: usize,
-) -> Result<ModuleFields, AllocError>
-    requires before { IsCheckResultBeforeBodyChange resolved.now before low }
-    requires known { HasTableIfWellTyped resolved.now known.now }
-    ensures { IfOk result (AreFieldListsIfWellTyped resolved.now) }
-{
-    typed_modules_have_no_fault();
-    let body = body_with_token_in_module(resolved.module(), low);
-    let CheckResult {
-        known: _,
-        fields,
-        faults,
-        bodies_with_faults: _,
-    } = before;
-    let Some(table) = known else {
-        return Ok(fields);
-    };
-    if faults.is_empty() {
-        let fields = fields.with_changed_body(alloc, table, resolved, body.statements)?;
-        return Ok(fields);
-    }
-    fields_from_table(alloc, resolved, known)
-}
-
-/// Returns the lists of a module's fields after the statements of one body were replaced. The
-/// module must have been valid before. Its old lists of fields (`before.fields`) are reused if
-/// possible. If the module isn't well-typed after the replacement, the result may be any lists.
-fn fields_after_body_replacement<'t>(
-    alloc: Global,
-    resolved: &'t Resolved<'t>,
-    known: &Option<DeclarationTable>,
-    before: CheckResult,
-    same: CommonPrefixAndSuffix,
-) -> Result<ModuleFields, AllocError>
-    requires before { IsCheckResultBeforeBodyReplacement resolved.now before same }
-    requires none { before.faults.items ≡ [] }
-    requires known { HasTableIfWellTyped resolved.now known.now }
-    ensures { IfOk result (AreFieldListsIfWellTyped resolved.now) }
-{
-    let CheckResult {
-        known: _,
-        fields,
-        faults: _,
-        bodies_with_faults: _,
-    } = before;
-    let body = body_with_token_in_module(resolved.module(), same.prefix);
-    let found = body_bounds_in_module(resolved.module(), same.prefix, same.new_suffix);
-    let Some(place) = found else {
-        return fields_from_table(alloc, resolved, known);
-    };
-    let Some(table) = known else {
-        return Ok(fields);
-    };
-    let fields = fields.with_replaced_body(alloc, table, resolved, body.statements, place, same)?;
-    Ok(fields)
-}
-
 /// Returns the first 100 faults of scopes and types, sorted by first token, last token and code.
-/// `of_types` has the faults of types and the undeclared names. The other faults of scopes, which
-/// are duplicate declarations and wrong closing names, are added to these. A token that doesn't
-/// exist counts as the last token.
+/// `of_types` has the type faults and the undeclared names. The duplicate declarations and wrong
+/// closing names are added to these. A token that doesn't exist counts as the last token.
 fn first_sorted_faults<'t>(
     resolved: &'t Resolved<'t>,
     of_types: Vec<FaultAtTokens>,
@@ -440,8 +323,8 @@ impl<'t> Checked<'t> {
         self.faults.as_slice()
     }
 
-    /// Returns the module as a well-typed module, with its table of declarations and its fields.
-    /// Returns None if the module has a fault.
+    /// Returns the module as a well-typed module, with its table of declarations. Returns None if
+    /// the module has a fault.
     pub fn well_typed(&self) -> Option<WellTyped<'_>>
         ensures { MatchOption result (self.now.faults ≡ [] → ⊥) (λ w. w ≡ self.now.names) }
     {
@@ -453,7 +336,6 @@ impl<'t> Checked<'t> {
                     Some(WellTyped {
                         checked: self,
                         known,
-                        fields: &types.fields,
                     })
                 } else {
                     None
@@ -468,7 +350,6 @@ impl<'t> WellTyped<'t> {
     ghost use Rattle.ob0_tree.specs.ParsedModule.{named_tree_of};
     ghost use Rattle.ob0_types.specs.CheckedModules.{IsWellTyped};
     ghost use Rattle.ob0_types_check.specs.ModuleLaws.{TableHasDeclaredObjects};
-    ghost use Rattle.ob0_types_fields.specs.FieldLists.{AreFieldListsOfModule};
     ghost use Rattle.ob0_language_types.specs.ConstantValues.{constant_value_in_module};
     ghost use Rattle.ob0_language_types.specs.Bindings.{declared_object};
     ghost use Rattle.ob0_types.specs.DeclaredShapes.{shape_of};
@@ -498,13 +379,6 @@ impl<'t> WellTyped<'t> {
         self.known
     }
 
-    /// Returns the lists of all fields in the module.
-    pub fn fields(&self) -> &'t ModuleFields
-        ensures { AreFieldListsOfModule self.now result.now }
-    {
-        self.fields
-    }
-
     /// Returns the value of the constant with this ordinal. Returns None if no CONST section
     /// declares a constant with this ordinal, for example for TRUE and FALSE.
     pub fn constant(&self, declaration: usize) -> Option<Scalar>
@@ -521,9 +395,9 @@ impl<'t> WellTyped<'t> {
         }
     }
 
-    /// Returns the type of the declaration with this ordinal if it is a type, a variable, a
-    /// parameter or a constant. Returns None for a procedure, and for a number that isn't the
-    /// ordinal of a declaration.
+    /// Returns the type of the declaration with this ordinal if the declaration is a type, a
+    /// variable, a parameter or a constant. Returns None for a procedure, and for a number that
+    /// isn't the ordinal of a declaration.
     pub fn shape(&self, declaration: usize) -> Option<Shape<'t>>
         ensures { option_map shape_of result
             ≡ type_of_object (declared_object (named_tree_of self.now.module_read) declaration) }

@@ -1,7 +1,7 @@
 //! Finds the meaning of the identifier at an offset of the text: a declaration or a field.
 //!
-//! The handlers of hover, declarations, occurrences and renaming distinguish names and fields by
-//! the result of `identifier_meaning_at_offset`.
+//! Requests about an identifier, such as hover and renaming, are answered according to this
+//! meaning.
 
 ghost use Rattle.std.specs.Prelude.{◌≡◌, IfSome};
 ghost use Rattle.ob0_tree.specs.IdentifierIndexes.{IsIdentifierToken};
@@ -29,7 +29,7 @@ pub struct IdentifierWithMeaning {
 
 /// Returns the identifier that contains the byte offset `offset` or ends there, with its meaning.
 /// The closing name of a procedure means the procedure. Returns None if there is no identifier at
-/// `offset`, and at the module's name.
+/// `offset`, or if the identifier is the module's name.
 pub fn identifier_meaning_at_offset(
     well_typed: &WellTyped<'_>,
     offset: usize,

@@ -1,4 +1,5 @@
--- Constants, types, variables and parameters are declared if no fault is reported for them.
+-- If no fault is reported for constants, types, variables and parameters, the definitions return an
+-- environment in which they are declared.
 use Rattle.std.proofs.Common.{◌≡◌, ℕ, suc, ◌+◌, ◌≤◌, true, List, [], ◌∷◌, ◌++◌, length, map, Option, Some, option_and_then, refl, sym, ap, ◌∙◌, subst, subst₂, le_refl, le_of_lt, arith}
 use Rattle.std.proofs.lemmas.List.{map-append}
 use Rattle.ob0_tree.specs.TokenIndexLeaves.{tree_with_names, token_text_at, token_value_at}

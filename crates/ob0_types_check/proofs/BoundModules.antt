@@ -1,12 +1,12 @@
--- Each name of a well-typed module is bound. The proof is about the numbered tree. There, a label that has only a
--- spelling is bound in no environment (`only-written`). So the proof needs no invariant.
+-- Each name of a well-typed module is bound. The proof is about the numbered tree. It needs no
+-- invariant, because no environment binds a label that is only a spelling (`only-written`).
 use Rattle.std.proofs.Common.{◌≡◌, ℕ, ◌+◌, true, false, ◌&&◌, List, [], ◌∷◌, ◌++◌, map, Some, None, option_and_then, if◌then◌else◌, refl, sym, ap, ◌∙◌}
 use Rattle.std.proofs.lemmas.Bool.{and_parts}
 use Rattle.ob0_scan.specs.declared.fault.FaultCode.TheVariants as code
 use Rattle.ob0_tree.specs.ParsedModule.{named_tree_of, tree_of}
 use Rattle.ob0_tree.specs.Tree.{Tree, begins, block, body, constant, constants, declares, declares_constant, declares_const_section, declares_procedure, declares_type, declares_type_section, declares_variable, declares_var_section, end, formals, section_after_semicolon, forms_block, forms_module, item, items, maybe, module_text, more, no_formals, none, occurrences, one, procedure, section, some_formals, semicolon_then_section, type_definition, type_definitions, value_section, variable, variable_section, variables}
 use Rattle.ob0_language_names.specs.Names.{Label, Naming, naming_by_label, as_written, declared}
-use Rattle.ob0_language_names.specs.Occurrences.{bindings}
+use Rattle.ob0_language_names.specs.Occurrences.{labels_of_occurrences}
 use Rattle.ob0_language_names.specs.BlockParts.{formal_parameter_sections, names_in_list, procedure_formals, procedure_name, section_constants, parameter_section_names, parameter_section_type, section_types, section_variables}
 use Rattle.ob0_scope_table.specs.FaultsAtTokens.{fault_at_token}
 use Rattle.ob0_scope_table.specs.Resolution.{is_unbound, undeclared_faults_from_labels}
@@ -136,4 +136,4 @@ pub typed_modules_have_bound_names-holds : TypedModulesHaveBoundNames
 typed_modules_have_bound_names-holds r is h =
     let m = r.module_read in
     is.reported.undeclared
-    ∙ none-unbound (occurrences (tree_of m)) (bindings (named_tree_of m)) (labels-bound (numbered (named_tree_of m)) (sym (numbering_keeps_type_check-holds (named_tree_of m)) ∙ h))
+    ∙ none-unbound (occurrences (tree_of m)) (labels_of_occurrences (named_tree_of m)) (labels-bound (numbered (named_tree_of m)) (sym (numbering_keeps_type_check-holds (named_tree_of m)) ∙ h))

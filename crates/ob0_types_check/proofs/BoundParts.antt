@@ -5,8 +5,8 @@ use Rattle.std.proofs.lemmas.Bool.{and_parts}
 use Rattle.ob0_language_names.specs.BlockParts.{names_in_list}
 use Rattle.ob0_tree.specs.Tree.{Tree, addend, adds, arguments, array_type, assigns, branches, calls, compares, designator, else_branch, else_part, elsif_branch, elsif_part, empty, end, expression, factor, field, fields, argument_after_comma, fields_after_semicolon, statement_after_semicolon, index, integer, items, maybe, more, multiplier, multiplies, named_type, negation, no_arguments, no_fields, none, occurrences, one, parenthesised, product, record_type, relates, repeat_loop, runs, selector, sequence, simple, some_arguments, some_fields, statement, sum, term, comma_then_argument, semicolon_then_fields, semicolon_then_statement, while_loop, written_type}
 use Rattle.ob0_language_types.specs.Arguments.{call_arguments, further_arguments}
-use Rattle.ob0_language_types.specs.Expressions.{Meanings, Object, a_constant, a_procedure, a_standard_procedure, a_type, a_variable, evaluate}
-use Rattle.ob0_language_types.specs.Typing.{addition_type, array_length_from_value, negation_type, value_of_constant_object, constant_expression_value, meanings_in_constant_expressions, denoted_type, denoted_group_fields, denoted_further_fields, lone_designator, element_type, field_type, outcome_value, group_constructor_count, multiplication_type, type_of_variable_or_constant, relation_type, signed_operand_type, type_after_selectors, type_of_expression, type_after_addends, type_of_factor, type_after_multipliers, type_of_type_object, type_of_simple_expression, type_of_term, prepend_fields, type_within_limits}
+use Rattle.ob0_language_types.specs.Expressions.{Meanings, Object, a_constant, a_procedure, a_standard_procedure, a_type, a_variable, evaluate_expression}
+use Rattle.ob0_language_types.specs.Typing.{addition_type, array_length_from_value, negation_type, value_of_constant_object, constant_expression_value, meanings_in_constant_expressions, denoted_type, denoted_group_fields, denoted_further_fields, lone_designator, element_type, field_type, outcome_value, group_constructor_count, multiplication_type, type_of_variable_or_constant, relation_type, signed_operand_type, type_after_selectors, type_of_expression, type_after_addends, type_of_factor, type_after_multipliers, type_of_type_object, type_of_simple_expression, type_of_term, prepend_fields, type_if_within_limits}
 use Rattle.ob0_language_types.specs.WellTyped.{FormalParameter, ParameterMode, Signature, TypeMeanings, same_known_shape, argument_matches_parameter, arguments_match_signature, by_place, by_value, call_is_well_typed, condition_is_boolean, else_is_well_typed, elsifs_are_well_typed, sequence_is_well_typed, signature_of, statement_is_well_typed, further_statements_are_well_typed, assignable_type}
 use Rattle.ob0_language_types.proofs.Conditions.{same_known_shape-true}
 use Rattle.ob0_language_values.specs.Values.{FieldShapes, Shape, Value, array_shape, boolean_shape, record_shape}
@@ -86,7 +86,7 @@ module _ {N V Q : Type 0} (P : N → Type 0) (meaning : Meanings N V Q) (bound :
   pub value-bound : (e : Tree N expression) (v : Value) → constant_expression_value meaning e ≡ Some v → Each P (occurrences e)
   unfolding constant_expression_value
   value-bound e v h =
-      let (s, hs, given) = and-then (λ s. outcome_value (evaluate {P = Unit {0}} (meanings_in_constant_expressions meaning) [] e)) (type_of_expression {P = Unit {0}} (meanings_in_constant_expressions meaning) e) v h in
+      let (s, hs, given) = and-then (λ s. outcome_value (evaluate_expression {P = Unit {0}} (meanings_in_constant_expressions meaning) [] e)) (type_of_expression {P = Unit {0}} (meanings_in_constant_expressions meaning) e) v h in
       expression-bound P (meanings_in_constant_expressions {W = Shape} {Q = Unit {0}} meaning) (constant-bound (Unit {0})) e s hs
 
   mutual
@@ -95,13 +95,13 @@ module _ {N V Q : Type 0} (P : N → Type 0) (meaning : Meanings N V Q) (bound :
     pub type-bound : (k : ℕ) (t : Tree N written_type) (s : Shape) → denoted_type meaning k t ≡ Some s → Each P (occurrences t)
     type-bound k (named_type x) s h = let (o, ho) = name-of type_of_type_object refl (meaning.object_for x) s h in (bound x o ho, tt)
     type-bound k (array_type e t) s h =
-        let (v, hv, later) = and-then (λ v. option_and_then (λ n. option_and_then (λ s. type_within_limits (array_shape k n s)) (denoted_type meaning (suc k) t)) (array_length_from_value v)) (constant_expression_value meaning e) s h in
-        let (n, hn, last) = and-then (λ n. option_and_then (λ s. type_within_limits (array_shape k n s)) (denoted_type meaning (suc k) t)) (array_length_from_value v) s later in
-        let (u, hu, limits) = and-then (λ s. type_within_limits (array_shape k n s)) (denoted_type meaning (suc k) t) s last in
+        let (v, hv, later) = and-then (λ v. option_and_then (λ n. option_and_then (λ s. type_if_within_limits (array_shape k n s)) (denoted_type meaning (suc k) t)) (array_length_from_value v)) (constant_expression_value meaning e) s h in
+        let (n, hn, last) = and-then (λ n. option_and_then (λ s. type_if_within_limits (array_shape k n s)) (denoted_type meaning (suc k) t)) (array_length_from_value v) s later in
+        let (u, hu, limits) = and-then (λ s. type_if_within_limits (array_shape k n s)) (denoted_type meaning (suc k) t) s last in
         each-of-both P (occurrences e) (occurrences t) (value-bound e v hv) (type-bound (suc k) t u hu)
     type-bound k (record_type g rest) s h =
-        let (later, hl, last) = and-then (λ later. option_and_then (λ fs. type_within_limits (record_shape k fs)) (denoted_group_fields meaning (suc k) later g)) (denoted_further_fields meaning (suc k + group_constructor_count g) rest) s h in
-        let (fs, hf, limits) = and-then (λ fs. type_within_limits (record_shape k fs)) (denoted_group_fields meaning (suc k) later g) s last in
+        let (later, hl, last) = and-then (λ later. option_and_then (λ fs. type_if_within_limits (record_shape k fs)) (denoted_group_fields meaning (suc k) later g)) (denoted_further_fields meaning (suc k + group_constructor_count g) rest) s h in
+        let (fs, hf, limits) = and-then (λ fs. type_if_within_limits (record_shape k fs)) (denoted_group_fields meaning (suc k) later g) s last in
         each-of-both P (occurrences g) (occurrences rest) (group-bound (suc k) later g fs hf) (groups-bound (suc k + group_constructor_count g) rest later hl)
 
     group-bound : (k : ℕ) (later : FieldShapes) (g : Tree N fields) (fs : FieldShapes) → denoted_group_fields meaning k later g ≡ Some fs → Each P (occurrences g)

@@ -1,11 +1,12 @@
--- The state at a place of a module agrees with the scope and the environment there. Scope and environment grow by the
--- same steps, so `NamesKnown` compares them position by position. If the scope finds a name, the environment finds it
--- at the same position. The meaning of the name's ordinal agrees with its object. So nothing has to be looked up by
--- ordinal, and ordinals needn't be shown to differ. Standard procedures are treated like others, with their parameters.
--- A separate clause says that no object with an ordinal of at least 7 is a standard procedure. All proofs about
--- declarations keep `Later n p q before after`: declarations below the ordinal n are unchanged, and types keep their
--- shapes. Facts about a place also hold later (`holds_later`), so the names around a procedure remain known in its
--- whole block.
+-- The state at a place of a module agrees with the scope and the environment at this place. Scope
+-- and environment grow by the same steps, so `NamesKnown` compares them position by position. If
+-- the scope finds a name, the environment finds it at the same position. The meaning of the name's
+-- ordinal agrees with its object. So nothing has to be looked up by ordinal, and ordinals needn't
+-- be shown to differ. Standard procedures are treated like others, with their parameters. A
+-- separate clause says that no object with an ordinal of at least 7 is a standard procedure. All
+-- proofs about declarations keep `Later n p q before after`: declarations below the ordinal n are
+-- unchanged, and types keep their shapes. Facts about a place also hold later (`holds_later`), so
+-- the names around a procedure remain known in its whole block.
 use Rattle.std.proofs.Common.{map, ◌≡◌, ◌≢◌, ℕ, suc, ◌<◌, ◌≤◌, Bool, true, false, List, [], ◌∷◌, length, Option, Some, None, option_and_then, slice_index_or, slice_set, refl, sym, ap, ◌∙◌, subst, arith, le_trans, le_of_lt, le_refl, get_or-set_other, get_or-set_same}
 use Rattle.std.proofs.lemmas.List.{length-set}
 use Rattle.ob0_tree.proofs.Occurring.{looked_up-occurrences, looked_up_only}

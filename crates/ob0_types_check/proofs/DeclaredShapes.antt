@@ -7,7 +7,7 @@ use Rattle.ob0_tree.specs.TokenIndexLeaves.{token_text_at}
 use Rattle.ob0_language_names.specs.Names.{Name}
 use Rattle.ob0_types_table.specs.declared.types.TypeId.{TypeId}
 use Rattle.ob0_types_table.specs.declared.types.TypeId.TheVariants as type
-use Rattle.ob0_language_types.specs.Typing.{depth, deepest_field_depth, scalar_count_of_fields, scalars, prepend_fields, type_within_limits}
+use Rattle.ob0_language_types.specs.Typing.{depth, deepest_field_depth, scalar_count_of_fields, scalar_count, prepend_fields, type_if_within_limits}
 use Rattle.ob0_language_values.specs.Values.{FieldShapes, Shape, array_shape, boolean_shape, integer_shape, next_field_shape, no_field_shape, record_shape}
 use Rattle.ob0_types_check.specs.KnownDeclarations.{CompositeType, CompositeParts, TypeSize, KnownField, is_within_limits, of_elements, of_fields, scalar_size, size_of_known_type, composite_size}
 use Rattle.ob0_types_check.specs.WrittenTypeFaults.{KnownFields, array_size, record_size, append_known_field, append_known_fields}
@@ -82,7 +82,7 @@ last_record ms shapes k fs h = ap (option_and_then shape_if_record) (last_shape 
 
 -- holds if a size is the size of a shape
 pub record SizeAgrees (z : TypeSize) (s : Shape) : Type 0 where
-  pub scalars_are : z.scalars ≡ scalars s
+  pub scalars_are : z.scalars ≡ scalar_count s
   pub depth_is : z.depth ≡ depth s
 
 -- holds if the table has an entry that agrees with the shape in its size
@@ -123,11 +123,11 @@ size_agrees ms shapes (type.Array i) s h e = sized s (entered [] shape_if_array 
 size_agrees ms shapes (type.Record i) s h e = sized s (entered [] shape_if_record record_is ms shapes i s h e)
 size_agrees ms shapes type.Unknown s h e = absurd (cc)
 
-pub is_limited : (z : TypeSize) (s : Shape) → SizeAgrees z s → is_within_limits z ≡ true → type_within_limits s ≡ Some s
+pub is_limited : (z : TypeSize) (s : Shape) → SizeAgrees z s → is_within_limits z ≡ true → type_if_within_limits s ≡ Some s
 is_limited z s h e = (λ i. if nat_le (sym h.scalars_are i) 65536 && nat_le (sym h.depth_is i) 100 then Some s else None) ∙ ap (λ b. if b then Some s else None) e
 
 pub array_sized : (z : TypeSize) (k n : ℕ) (s : Shape) → SizeAgrees z s → SizeAgrees (array_size n z) (array_shape k n s)
-array_sized z k n s h = record { scalars_are = ap (λ a. a * n) h.scalars_are ∙ mul_comm (scalars s) n; depth_is = omega (arith, h.depth_is) }
+array_sized z k n s h = record { scalars_are = ap (λ a. a * n) h.scalars_are ∙ mul_comm (scalar_count s) n; depth_is = omega (arith, h.depth_is) }
 
 -- concatenates the shapes of two lists of fields
 abbrev pub followed : FieldShapes → FieldShapes → FieldShapes

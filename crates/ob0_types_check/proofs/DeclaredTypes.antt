@@ -1,6 +1,7 @@
--- Written types for which no fault is reported denote the shapes that their types have in the state. Fields are
--- gathered from the left, but their shapes are built from the right. So `GroupGathers` is about the fields of a group
--- before any fields that follow. Definitions nest two sums differently; `grouped` proves that they are equal.
+-- Written types for which no fault is reported denote the shapes that their types have in the
+-- state. Fields are gathered from the left, but their shapes are built from the right. So
+-- `GroupGathers` is about the fields of a group before any fields that follow. Two definitions nest
+-- optional steps differently; `grouped` proves that the nestings are equal.
 use Rattle.std.proofs.Common.{◌≡◌, ℕ, suc, ◌+◌, Bool, true, false, List, [], ◌∷◌, ◌++◌, length, map, Option, Some, None, option_and_then, if◌then◌else◌, refl, sym, ap, ◌∙◌, subst, subst₂, le_refl, arith}
 use Rattle.ob0_tree.specs.TokenIndexLeaves.{tree_with_names, token_text_at, token_value_at}
 use Rattle.ob0_tree.specs.Tree.{Tree, array_type, end, fields, fields_after_semicolon, items, mapped_tree, more, named_type, no_fields, occurrences, record_type, some_fields, semicolon_then_fields, written_type}
@@ -10,7 +11,7 @@ use Rattle.ob0_language_names.specs.Scopes.{Scope}
 use Rattle.ob0_types_table.specs.declared.types.TypeId.{TypeId}
 use Rattle.ob0_language_types.specs.Environments.{meanings}
 use Rattle.ob0_language_types.specs.Expressions as meant
-use Rattle.ob0_language_types.specs.Typing.{array_length_from_value, constant_expression_value, denoted_type, denoted_group_fields, denoted_further_fields, constructor_count, group_constructor_count, later_groups_constructor_count, type_of_type_object, prepend_fields, type_within_limits}
+use Rattle.ob0_language_types.specs.Typing.{array_length_from_value, constant_expression_value, denoted_type, denoted_group_fields, denoted_further_fields, constructor_count, group_constructor_count, later_groups_constructor_count, type_of_type_object, prepend_fields, type_if_within_limits}
 use Rattle.ob0_language_types.specs.WellTyped.{Signature, TypeEnvironment}
 use Rattle.ob0_language_values.specs.Values.{FieldShapes, Shape, Value, array_shape, no_field_shape, record_shape}
 use Rattle.ob0_types_check.specs.ExpressionFaults.{report_on_expression}
@@ -18,7 +19,7 @@ use Rattle.ob0_types_check.specs.TypesAndMeanings.{Meaning, Operand, ResultWithF
 use Rattle.ob0_types_check.specs.OperandFaults.{without_fault}
 use Rattle.ob0_types_check.specs.KnownDeclarations.{CompositeParts, TypeSize, KnownDeclarations, TypeWithFollowingDeclarations, facts_from_declarations, is_within_limits, append_composite, make_composite_type, of_elements, of_fields, size_of_known_type, report_on_too_large_type, type_id_of_parts}
 use Rattle.ob0_types_check.specs.TypeFaults.{length_from_operand, type_from_meaning}
-use Rattle.ob0_types_check.specs.WrittenTypeFaults.{KnownFields, made_array_type, array_size, append_field_group, no_known_fields, made_record_type, record_size, record_keyword_token, report_on_field_group, report_on_further_field_groups, next_type_ordinal, report_on_written_type, append_known_field, append_known_fields, token_before_group}
+use Rattle.ob0_types_check.specs.WrittenTypeFaults.{KnownFields, make_array_type, array_size, append_field_group, no_known_fields, make_record_type, record_size, record_keyword_token, report_on_field_group, report_on_further_field_groups, next_type_ordinal, report_on_written_type, append_known_field, append_known_fields, token_before_group}
 use Rattle.ob0_types_check.specs.Agreement.{PartsAgreeWithShape, IsKnownAndAgreesWithObject, TableAgreesWithShapes, shape_of_type_in}
 use Rattle.ob0_types_check.specs.WellTypedLaws.{ordinal_of_shape}
 use Rattle.ob0_types_check.proofs.MadeOnce.{Apart, apart_made, apart_same, apart_then}
@@ -49,7 +50,7 @@ named_denotes n w p before k l last token (Some (a_procedure fs)) o table alike 
 
 -- holds if an array or a record denotes a shape within the limits
 pub record MadeDenotes (n : ℕ) (p : KnownDeclarations) (before : List Shape) (k l : ℕ) (s : Shape) (u : TypeWithFollowingDeclarations) : Type 0 where
-  pub limited : type_within_limits s ≡ Some s
+  pub limited : type_if_within_limits s ≡ Some s
   pub denotes : Denotes n p before k l (Some s) u
 
 made_denotes : (n : ℕ) (p q : KnownDeclarations) (before mid : List Shape) (k l word ordinal : ℕ) (parts : CompositeParts) (size : TypeSize) (s : Shape) → ordinal ≡ k → ordinal_of_shape s ≡ Some k → Apart (suc k) l before mid → Later n p q before mid → PartsAgreeWithShape (shape_of_type_in mid) k parts s → SizeAgrees size s → shape_of_type_in (mid ++ s ∷ []) (type_id_of_parts parts (length q.made)) ≡ Some s
@@ -79,25 +80,25 @@ made_denotes n p q before mid k l word ordinal parts size s here number own late
     }
 
 -- An array denotes a shape if the type of its elements denotes one and no fault is reported for the array.
-array_denotes : (n : ℕ) (p : KnownDeclarations) (before : List Shape) (k l ordinal count : ℕ) (o : Operand TypeId) (given : Option Shape) (u : TypeWithFollowingDeclarations) → ordinal ≡ k → Denotes n p before (suc k) l given u → (made_array_type ordinal o (Some count) u).faults ≡ []
-    → Denotes n p before k l (option_and_then (λ s. type_within_limits (array_shape k count s)) given) (made_array_type ordinal o (Some count) u).known
+array_denotes : (n : ℕ) (p : KnownDeclarations) (before : List Shape) (k l ordinal count : ℕ) (o : Operand TypeId) (given : Option Shape) (u : TypeWithFollowingDeclarations) → ordinal ≡ k → Denotes n p before (suc k) l given u → (make_array_type ordinal o (Some count) u).faults ≡ []
+    → Denotes n p before k l (option_and_then (λ s. type_if_within_limits (array_shape k count s)) given) (make_array_type ordinal o (Some count) u).known
 array_denotes n p before k l ordinal count o given u here d none =
     let s : Shape = array_shape k count d.shape in
     let size = array_sized (size_of_known_type u.following.made u.of) k count d.shape (size_agrees u.following.made d.after u.of d.shape d.later.table d.known) in
     let m = made_denotes n p u.following before d.after k l _ ordinal (of_elements count u.of) (array_size count (size_of_known_type u.following.made u.of)) s here refl d.apart d.later (d.shape, refl, d.known) size (last_array u.following.made d.after k count d.shape d.later.table) none in
     record {
       shape = m.denotes.shape;
-      given_is = ap (option_and_then (λ s. type_within_limits (array_shape k count s))) d.given_is ∙ (m.limited ∙ m.denotes.given_is);
+      given_is = ap (option_and_then (λ s. type_if_within_limits (array_shape k count s))) d.given_is ∙ (m.limited ∙ m.denotes.given_is);
       after = m.denotes.after;
       apart = m.denotes.apart;
       later = m.denotes.later;
       known = m.denotes.known;
     }
 
-sized_array : (n : ℕ) (p : KnownDeclarations) (before : List Shape) (k l ordinal : ℕ) (o : Operand TypeId) (reported : Option ℕ) (count : ℕ) (given : Option Shape) (u : TypeWithFollowingDeclarations) → reported ≡ Some count → ordinal ≡ k → Denotes n p before (suc k) l given u → (made_array_type ordinal o reported u).faults ≡ []
-    → Denotes n p before k l (option_and_then (λ s. type_within_limits (array_shape k count s)) given) (made_array_type ordinal o reported u).known
+sized_array : (n : ℕ) (p : KnownDeclarations) (before : List Shape) (k l ordinal : ℕ) (o : Operand TypeId) (reported : Option ℕ) (count : ℕ) (given : Option Shape) (u : TypeWithFollowingDeclarations) → reported ≡ Some count → ordinal ≡ k → Denotes n p before (suc k) l given u → (make_array_type ordinal o reported u).faults ≡ []
+    → Denotes n p before k l (option_and_then (λ s. type_if_within_limits (array_shape k count s)) given) (make_array_type ordinal o reported u).known
 sized_array n p before k l ordinal o reported count given u e here d none =
-    subst (λ z. (made_array_type ordinal o z u).faults ≡ [] → Denotes n p before k l (option_and_then (λ s. type_within_limits (array_shape k count s)) given) (made_array_type ordinal o z u).known) (sym e) (array_denotes n p before k l ordinal count o given u here d) none
+    subst (λ z. (make_array_type ordinal o z u).faults ≡ [] → Denotes n p before k l (option_and_then (λ s. type_if_within_limits (array_shape k count s)) given) (make_array_type ordinal o z u).known) (sym e) (array_denotes n p before k l ordinal count o given u here d) none
 
 -- holds if the fields gathered so far agree with the earlier shapes `first` followed by the shapes `own`
 pub record CodeFindsFieldsAndReports (n : ℕ) (p : KnownDeclarations) (before : List Shape) (k l : ℕ) (first : FieldShapes) (own : FieldShapes) (g : KnownFields) : Type 0 where
@@ -165,15 +166,15 @@ both_gather n p before k m l first given g h others one other = record {
 }
 
 -- A record denotes a shape if its fields have shapes and no fault is reported for the record.
-record_denotes : (n : ℕ) (p : KnownDeclarations) (before : List Shape) (k l word ordinal : ℕ) (given : Option FieldShapes) (g : KnownFields) → ordinal ≡ k → GroupsGather n p before (suc k) l no_field_shape given g → (made_record_type word ordinal g).faults ≡ []
-    → Denotes n p before k l (option_and_then (λ fs. type_within_limits (record_shape k fs)) given) (made_record_type word ordinal g).known
+record_denotes : (n : ℕ) (p : KnownDeclarations) (before : List Shape) (k l word ordinal : ℕ) (given : Option FieldShapes) (g : KnownFields) → ordinal ≡ k → GroupsGather n p before (suc k) l no_field_shape given g → (make_record_type word ordinal g).faults ≡ []
+    → Denotes n p before k l (option_and_then (λ fs. type_if_within_limits (record_shape k fs)) given) (make_record_type word ordinal g).known
 record_denotes n p before k l word ordinal given g here h none =
     let after = h.gathers.after in
     let s : Shape = record_shape k h.own in
     let m = made_denotes n p g.following before after k l word ordinal (of_fields g.fields) (record_size g.size) s here refl h.gathers.apart h.gathers.later (h.own, refl, h.gathers.agrees.fields) (record_sized after g k h.own h.gathers.agrees) (last_record g.following.made after k h.own h.gathers.later.table) none in
     record {
       shape = m.denotes.shape;
-      given_is = ap (option_and_then (λ fs. type_within_limits (record_shape k fs))) h.given_is ∙ (m.limited ∙ m.denotes.given_is);
+      given_is = ap (option_and_then (λ fs. type_if_within_limits (record_shape k fs))) h.given_is ∙ (m.limited ∙ m.denotes.given_is);
       after = m.denotes.after;
       apart = m.denotes.apart;
       later = m.denotes.later;
@@ -181,7 +182,7 @@ record_denotes n p before k l word ordinal given g here h none =
     }
 
 abbrev pub of_limits : ℕ → ℕ → Option Shape → Option Shape
-of_limits k count given = option_and_then (λ s. type_within_limits (array_shape k count s)) given
+of_limits k count given = option_and_then (λ s. type_if_within_limits (array_shape k count s)) given
 
 pub array_given : (k : ℕ) (value : Option Value) (v : Value) (count : ℕ) (given : Option Shape) → value ≡ Some v → array_length_from_value v ≡ Some count → option_and_then (λ v. option_and_then (λ c. of_limits k c given) (array_length_from_value v)) value ≡ of_limits k count given
 array_given k value v count given e h = ap (option_and_then (λ v. option_and_then (λ c. of_limits k c given) (array_length_from_value v))) e ∙ ap (option_and_then (λ c. of_limits k c given)) h
@@ -215,14 +216,14 @@ module _ (w : Numbering) (fit : PartsFit) (n : ℕ) (scope : Scope Name) (env : 
         let el : ResultWithFaults TypeWithFollowingDeclarations = report_on_written_type (suc around) p u in
         let ordinal : ℕ = next_type_ordinal around p in
         let here : ordinal ≡ k = omega (arith, table_long p.made before st.table, at) in
-        let a = none-reported (report_on_expression (facts_from_declarations p true) e).faults (l.faults ++ (el.faults ++ (made_array_type ordinal o l.known el.known).faults)) h in
-        let b = none-reported l.faults (el.faults ++ (made_array_type ordinal o l.known el.known).faults) a.1 in
-        let c = none-reported el.faults (made_array_type ordinal o l.known el.known).faults b.1 in
+        let a = none-reported (report_on_expression (facts_from_declarations p true) e).faults (l.faults ++ (el.faults ++ (make_array_type ordinal o l.known el.known).faults)) h in
+        let b = none-reported l.faults (el.faults ++ (make_array_type ordinal o l.known el.known).faults) a.1 in
+        let c = none-reported el.faults (make_array_type ordinal o l.known el.known).faults b.1 in
         let long = fit.lengths p before (token_text_at w.source) (meanings naming_by_spelling env) e (agrees_where_seen w p true before n scope env st fit e parts.0) (λ i. a.0 i ++ b.0 i) in
         let given : constant_expression_value (meanings naming_by_spelling env) (tree_with_names w.source e) ≡ Some long.value = ap (λ s. constant_expression_value (meanings naming_by_spelling env) (mapped_tree (token_text_at w.source) (token_value_at s) e)) (sym st.source) ∙ long.given in
         let element = type_denotes (suc around) (suc k) u p before (omega (arith, at)) st parts.1 c.0 in
         let inner : ℕ = constructor_count (tree_with_names w.source u) in
-        subst₂ (λ j z. Denotes n p before k j z (made_array_type ordinal o l.known el.known).known) (later_constructor k inner) (sym (array_given k (constant_expression_value (meanings naming_by_spelling env) (tree_with_names w.source e)) long.value long.length (denoted_type (meanings naming_by_spelling env) (suc k) (tree_with_names w.source u)) given long.counted))
+        subst₂ (λ j z. Denotes n p before k j z (make_array_type ordinal o l.known el.known).known) (later_constructor k inner) (sym (array_given k (constant_expression_value (meanings naming_by_spelling env) (tree_with_names w.source e)) long.value long.length (denoted_type (meanings naming_by_spelling env) (suc k) (tree_with_names w.source u)) given long.counted))
         (sized_array n p before k (suc k + inner) ordinal o l.known long.length (denoted_type (meanings naming_by_spelling env) (suc k) (tree_with_names w.source u)) el.known long.known here element c.1)
     type_denotes around k (record_type g rest) p before at st seen h =
         let parts = each_part (IsSeen w scope) (occurrences g) (occurrences rest) seen in
@@ -231,14 +232,14 @@ module _ (w : Numbering) (fit : PartsFit) (n : ℕ) (scope : Scope Name) (env : 
         let here : ordinal ≡ k = omega (arith, table_long p.made before st.table, at) in
         let first : ResultWithFaults KnownFields = report_on_field_group (suc around) (no_known_fields p) g in
         let all : ResultWithFaults KnownFields = report_on_further_field_groups (suc around) first.known rest in
-        let a = none-reported first.faults (all.faults ++ (made_record_type word ordinal all.known).faults) h in
-        let b = none-reported all.faults (made_record_type word ordinal all.known).faults a.1 in
+        let a = none-reported first.faults (all.faults ++ (make_record_type word ordinal all.known).faults) h in
+        let b = none-reported all.faults (make_record_type word ordinal all.known).faults a.1 in
         let one = group_gathers (suc around) (suc k) g (no_known_fields p) before no_field_shape (omega (arith, at)) st parts.0 (nothing_agrees before p) a.0 in
         let later = holds_later w n n n p first.known.following before one.gathers.after scope env (le_refl n) (le_refl n) st one.gathers.later in
         let other = groups_gather (suc around) (suc k + group_constructor_count (tree_with_names w.source g)) rest first.known one.gathers.after one.own (omega (arith, at, one.gathers.apart.counted)) later parts.1 one.gathers.agrees b.0 in
         let c : ℕ = group_constructor_count (tree_with_names w.source g) in
         let d : ℕ = later_groups_constructor_count (tree_with_names w.source rest) in
-        subst₂ (λ j z. Denotes n p before k j z (made_record_type word ordinal all.known).known) (later_groups k c d) (grouped (denoted_further_fields (meanings naming_by_spelling env) (suc k + group_constructor_count (tree_with_names w.source g)) (tree_with_names w.source rest)) (λ ys. denoted_group_fields (meanings naming_by_spelling env) (suc k) ys (tree_with_names w.source g)) (λ fs. type_within_limits (record_shape k fs)))
+        subst₂ (λ j z. Denotes n p before k j z (make_record_type word ordinal all.known).known) (later_groups k c d) (grouped (denoted_further_fields (meanings naming_by_spelling env) (suc k + group_constructor_count (tree_with_names w.source g)) (tree_with_names w.source rest)) (λ ys. denoted_group_fields (meanings naming_by_spelling env) (suc k) ys (tree_with_names w.source g)) (λ fs. type_if_within_limits (record_shape k fs)))
         (record_denotes n p before k (suc k + c + d) word ordinal (option_and_then (λ ys. denoted_group_fields (meanings naming_by_spelling env) (suc k) ys (tree_with_names w.source g)) (denoted_further_fields (meanings naming_by_spelling env) (suc k + group_constructor_count (tree_with_names w.source g)) (tree_with_names w.source rest))) all.known here
         (both_gather n p before (suc k) (suc k + c) (suc k + c + d) no_field_shape (λ ys. denoted_group_fields (meanings naming_by_spelling env) (suc k) ys (tree_with_names w.source g)) first.known all.known (denoted_further_fields (meanings naming_by_spelling env) (suc k + group_constructor_count (tree_with_names w.source g)) (tree_with_names w.source rest)) one other) b.1)
 

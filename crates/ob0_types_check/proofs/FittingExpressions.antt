@@ -12,15 +12,15 @@ use Rattle.ob0_tree.specs.declared.tree.Role.TheVariants as role
 use Rattle.ob0_tree.specs.declared.tree.Sign.{Sign}
 use Rattle.ob0_tree.specs.TokenIndexLeaves.{token_text_at, token_value_at}
 use Rattle.ob0_tree.specs.Tree.{Sort, Tree, addend, adds, compares, designator, end, expression, factor, field, identifiers, index, integer, item, items, mapped_tree, more, multiplier, multiplies, negation, none, one, parenthesised, product, relates, selector, simple, sum, term}
-use Rattle.ob0_language_types.specs.Expressions.{Meanings, a_variable, evaluate, evaluate_addends, evaluate_factor, evaluate_multipliers, evaluate_simple_expression, evaluate_term}
+use Rattle.ob0_language_types.specs.Expressions.{Meanings, a_variable, evaluate_expression, evaluate_addends, evaluate_factor, evaluate_multipliers, evaluate_simple_expression, evaluate_term}
 use Rattle.ob0_language_types.specs.DesignatorSelectors.{apply_to_both_options}
 use Rattle.ob0_language_types.specs.Typing.{addition_type, negation_type, value_of_constant_object, meanings_in_constant_expressions, element_type, field_type, outcome_value, multiplication_type, type_of_variable_or_constant, relation_type, signed_operand_type, type_after_selectors, type_of_expression, type_after_addends, type_of_factor, type_after_multipliers, type_of_simple_expression, type_of_term}
 use Rattle.ob0_types_table.specs.Operators.{product_value, sum_value}
-use Rattle.ob0_language_values.specs.Values.{Place, Shape, Value, boolean_shape, integer_shape, negate, number, apply_relation}
+use Rattle.ob0_language_values.specs.Values.{Place, Shape, Value, boolean_shape, integer_shape, apply_not, number, apply_relation}
 use Rattle.ob0_language_values.specs.Values.{apply_sign as with_sign}
 use Rattle.ob0_types_check.specs.ExpressionFaults.{report_on_addends, report_on_expression, report_on_factor, report_on_multipliers, report_on_selectors, report_on_simple_expression, report_on_term}
 use Rattle.ob0_types_check.specs.TypesAndMeanings.{Facts, Operand}
-use Rattle.ob0_types_check.specs.OperandFaults.{add_operands, negated_operand, element_operand, field_operand, multiply_operands, name_operand, relate_operands, signed_operand}
+use Rattle.ob0_types_check.specs.OperandFaults.{check_sum, check_negation, element_operand, field_operand, check_product, name_operand, check_relation, check_sign}
 use Rattle.ob0_types_check.specs.Agreement.{TypesAgreeWithShapes}
 use Rattle.ob0_types_check.proofs.Operands.{IsOf, added-fits, value_of_negation-of, complemented-fits, element-fits, field-fits, multiplied-fits, none-of, related-fits, relation-of, apply_sign-fits, some-of}
 use Rattle.ob0_types_check.proofs.Unreported.{goes-on, none-reported, then-assoc, then-itself}
@@ -78,12 +78,12 @@ module _ {T : Type 0} (facts : Facts T) where
   pub addends-apart : (x : Operand T) (rest : Tree ℕ (items addend)) → x.may_be_variable ≡ false → (report_on_addends facts x rest).known.may_be_variable ≡ false
   unfolding report_on_expression
   addends-apart x end h = h
-  addends-apart x (more (adds o t) rest) h = addends-apart (add_operands facts o x (report_on_term facts t).known).known rest refl
+  addends-apart x (more (adds o t) rest) h = addends-apart (check_sum facts o x (report_on_term facts t).known).known rest refl
 
   pub multipliers-apart : (x : Operand T) (rest : Tree ℕ (items multiplier)) → x.may_be_variable ≡ false → (report_on_multipliers facts x rest).known.may_be_variable ≡ false
   unfolding report_on_expression
   multipliers-apart x end h = h
-  multipliers-apart x (more (multiplies o f) rest) h = multipliers-apart (multiply_operands facts o x (report_on_factor facts f).known).known rest refl
+  multipliers-apart x (more (multiplies o f) rest) h = multipliers-apart (check_product facts o x (report_on_factor facts f).known).known rest refl
 
 module _ {T N P : Type 0} (facts : Facts T) (shape : T → Option Shape) (types : TypesAgreeWithShapes facts.types shape) (label : ℕ → N) (meaning : Meanings N Shape P) where
   abbrev pub tree : {s : Sort} → Tree ℕ s → Tree N s
@@ -98,7 +98,7 @@ module _ {T N P : Type 0} (facts : Facts T) (shape : T → Option Shape) (types 
   -- holds if the operand of an expression has the expression's type and value; the next three are about a simple
   -- expression, a term and a factor
   abbrev pub FitsExpression : Tree ℕ expression → Type 0
-  FitsExpression e = Fits shape (report_on_expression facts e).known (type_of_expression meaning (tree e)) (outcome_value (evaluate among [] (tree e)))
+  FitsExpression e = Fits shape (report_on_expression facts e).known (type_of_expression meaning (tree e)) (outcome_value (evaluate_expression among [] (tree e)))
 
   abbrev pub FitsSimple : Tree ℕ simple → Type 0
   FitsSimple a = Fits shape (report_on_simple_expression facts a).known (type_of_simple_expression meaning (tree a)) (outcome_value (evaluate_simple_expression among [] (tree a)))
@@ -126,8 +126,8 @@ module _ {T N P : Type 0} (facts : Facts T) (shape : T → Option Shape) (types 
 
   -- Each production fits if its parts fit.
 
-  related-whole : (r : Relation) (a b : Tree ℕ simple) → FitsSimple a → FitsSimple b → (relate_operands facts r (report_on_simple_expression facts a).known (report_on_simple_expression facts b).known).faults ≡ [] → FitsExpression (compares a (one (relates r b)))
-  unfolding report_on_expression type_of_expression evaluate
+  related-whole : (r : Relation) (a b : Tree ℕ simple) → FitsSimple a → FitsSimple b → (check_relation facts r (report_on_simple_expression facts a).known (report_on_simple_expression facts b).known).faults ≡ [] → FitsExpression (compares a (one (relates r b)))
+  unfolding report_on_expression type_of_expression evaluate_expression
   related-whole r a b fa fb h =
       let (known, typed) = related-fits facts shape types r (report_on_simple_expression facts a).known (report_on_simple_expression facts b).known fa.of fb.of fa.known fb.known h in
       record {
@@ -140,8 +140,8 @@ module _ {T N P : Type 0} (facts : Facts T) (shape : T → Option Shape) (types 
       }
 
   addend-whole : (x : Operand T) (s : Shape) (o : AddOperator) (t : Tree ℕ term) (rest : Tree ℕ (items addend)) (ft : FitsTerm t) (w : Shape) → addition_type o s ft.of ≡ Some w
-      → FitsAddends (add_operands facts o x (report_on_term facts t).known).known w rest → FitsAddends x s (more (adds o t) rest)
-  unfolding report_on_expression type_of_expression evaluate
+      → FitsAddends (check_sum facts o x (report_on_term facts t).known).known w rest → FitsAddends x s (more (adds o t) rest)
+  unfolding report_on_expression type_of_expression evaluate_expression
   addend-whole x s o t rest ft w typed fr = record {
     of = fr.of;
     known = fr.known;
@@ -154,8 +154,8 @@ module _ {T N P : Type 0} (facts : Facts T) (shape : T → Option Shape) (types 
   }
 
   multiplier-whole : (x : Operand T) (s : Shape) (o : MultiplyOperator) (f : Tree ℕ factor) (rest : Tree ℕ (items multiplier)) (ff : FitsFactor f) (w : Shape) → multiplication_type o s ff.of ≡ Some w
-      → FitsMultipliers (multiply_operands facts o x (report_on_factor facts f).known).known w rest → FitsMultipliers x s (more (multiplies o f) rest)
-  unfolding report_on_expression type_of_expression evaluate
+      → FitsMultipliers (check_product facts o x (report_on_factor facts f).known).known w rest → FitsMultipliers x s (more (multiplies o f) rest)
+  unfolding report_on_expression type_of_expression evaluate_expression
   multiplier-whole x s o f rest ff w typed fr = record {
     of = fr.of;
     known = fr.known;
@@ -167,13 +167,13 @@ module _ {T N P : Type 0} (facts : Facts T) (shape : T → Option Shape) (types 
     scalar = fr.scalar;
   }
 
-  sign-value : (g : Option Sign) (o : Operand T) → (signed_operand facts g o).known.value ≡ option_and_then (λ x. outcome_value (with_sign g x)) o.value
+  sign-value : (g : Option Sign) (o : Operand T) → (check_sign facts g o).known.value ≡ option_and_then (λ x. outcome_value (with_sign g x)) o.value
   sign-value None o = then-itself o.value
   sign-value (Some g) o = refl
 
   simple-whole : (g : Option Sign) (t : Tree ℕ term) (rest : Tree ℕ (items addend)) (ft : FitsTerm t) (w : Shape) → signed_operand_type g ft.of ≡ Some w
-      → FitsAddends (signed_operand facts g (report_on_term facts t).known).known w rest → FitsSimple (sum g t rest)
-  unfolding report_on_expression type_of_expression evaluate
+      → FitsAddends (check_sign facts g (report_on_term facts t).known).known w rest → FitsSimple (sum g t rest)
+  unfolding report_on_expression type_of_expression evaluate_expression
   simple-whole g t rest ft w typed fr = record {
     of = fr.of;
     known = fr.known;
@@ -187,7 +187,7 @@ module _ {T N P : Type 0} (facts : Facts T) (shape : T → Option Shape) (types 
   }
 
   term-whole : (f : Tree ℕ factor) (rest : Tree ℕ (items multiplier)) (ff : FitsFactor f) → FitsMultipliers (report_on_factor facts f).known ff.of rest → FitsTerm (product f rest)
-  unfolding report_on_expression type_of_expression evaluate
+  unfolding report_on_expression type_of_expression evaluate_expression
   term-whole f rest ff fr = record {
     of = fr.of;
     known = fr.known;
@@ -198,7 +198,7 @@ module _ {T N P : Type 0} (facts : Facts T) (shape : T → Option Shape) (types 
 
   designator-value_agrees : (x : ℕ) (path : Tree ℕ (items selector)) → NameFits facts shape label meaning x
       → (report_on_factor facts (designator x path)).known.value ≡ outcome_value (evaluate_factor among [] (tree (designator x path)))
-  unfolding report_on_expression type_of_expression evaluate
+  unfolding report_on_expression type_of_expression evaluate_expression
   designator-value_agrees x end name = name.fits.value_agrees ∙ sym (name-value_agrees among (label x) (value_of_constant_object (meaning.object_for (label x))) refl)
   designator-value_agrees x (more s path) name =
       parts-have-none facts (name_operand facts x).known s path
@@ -210,7 +210,7 @@ module _ {T N P : Type 0} (facts : Facts T) (shape : T → Option Shape) (types 
   designator-scalar x (more s path) name fs = λ v e. none-of fs.of v (sym (parts-have-none facts (name_operand facts x).known s path) ∙ e)
 
   designator-whole : (x : ℕ) (path : Tree ℕ (items selector)) (name : NameFits facts shape label meaning x) → FitsSelectors (name_operand facts x).known name.fits.of path → FitsFactor (designator x path)
-  unfolding report_on_expression type_of_expression evaluate
+  unfolding report_on_expression type_of_expression evaluate_expression
   designator-whole x path name fs = record {
     of = fs.of;
     known = fs.known;
@@ -219,24 +219,24 @@ module _ {T N P : Type 0} (facts : Facts T) (shape : T → Option Shape) (types 
     scalar = designator-scalar x path name fs;
   }
 
-  negation-whole : (f : Tree ℕ factor) (ff : FitsFactor f) → (negated_operand facts (report_on_factor facts f).known).faults ≡ [] → FitsFactor (negation f)
-  unfolding report_on_expression type_of_expression evaluate
+  negation-whole : (f : Tree ℕ factor) (ff : FitsFactor f) → (check_negation facts (report_on_factor facts f).known).faults ≡ [] → FitsFactor (negation f)
+  unfolding report_on_expression type_of_expression evaluate_expression
   negation-whole f ff h =
       let (known, typed) = complemented-fits facts shape types (report_on_factor facts f).known ff.of ff.known h in
       record {
         of = boolean_shape;
         known = known;
         typed = goes-on negation_type (type_of_factor meaning (tree f)) ff.of (Some boolean_shape) ff.typed typed;
-        value_agrees = ap (option_and_then (λ x. outcome_value (negate x))) ff.value_agrees ∙ sym (negation-value_agrees among (tree f));
+        value_agrees = ap (option_and_then (λ x. outcome_value (apply_not x))) ff.value_agrees ∙ sym (negation-value_agrees among (tree f));
         scalar = value_of_negation-of (report_on_factor facts f).known.value;
       }
 
   parentheses-whole : (e : Tree ℕ expression) → FitsExpression e → FitsFactor (parenthesised e)
-  unfolding report_on_expression type_of_expression evaluate
+  unfolding report_on_expression type_of_expression evaluate_expression
   parentheses-whole e fe = record { of = fe.of; known = fe.known; typed = fe.typed; value_agrees = fe.value_agrees; scalar = fe.scalar }
 
   integer-whole : (n : ℕ) → FitsFactor (integer n)
-  unfolding report_on_expression type_of_expression evaluate
+  unfolding report_on_expression type_of_expression evaluate_expression
   integer-whole n = record { of = integer_shape; known = types.integer; typed = refl; value_agrees = refl; scalar = some-of integer_shape (number (pos (token_value_at facts.source n))) refl }
 
   field-whole : (x : Operand T) (s : Shape) (n : ℕ) (rest : Tree ℕ (items selector)) (u : Shape) → field_type s (token_text_at facts.source n) ≡ Some u → meaning.written (label n) ≡ token_text_at facts.source n
@@ -259,11 +259,11 @@ module _ {T N P : Type 0} (facts : Facts T) (shape : T → Option Shape) (types 
   }
 
   ended-addends : (x : Operand T) (s : Shape) → shape x.of ≡ Some s → IsOf s x.value → FitsAddends x s end
-  unfolding report_on_expression type_of_expression evaluate
+  unfolding report_on_expression type_of_expression evaluate_expression
   ended-addends x s hx scalar = record { of = s; known = hx; typed = refl; value_agrees = then-itself x.value; scalar = scalar }
 
   ended-multipliers : (x : Operand T) (s : Shape) → shape x.of ≡ Some s → IsOf s x.value → FitsMultipliers x s end
-  unfolding report_on_expression type_of_expression evaluate
+  unfolding report_on_expression type_of_expression evaluate_expression
   ended-multipliers x s hx scalar = record { of = s; known = hx; typed = refl; value_agrees = then-itself x.value; scalar = scalar }
 
   ended-selectors : (x : Operand T) (s : Shape) → shape x.of ≡ Some s → FitsSelectors x s end
@@ -277,7 +277,7 @@ module _ {T N P : Type 0} (facts : Facts T) (shape : T → Option Shape) (types 
   ids t = identifiers role.DeclaringName t
 
   mutual
-    unfolding report_on_expression type_of_expression evaluate
+    unfolding report_on_expression type_of_expression evaluate_expression
 
     pub expression-fits : (e : Tree ℕ expression) → All e → (report_on_expression facts e).faults ≡ [] → FitsExpression e
     expression-fits (compares a none) k h = simple-fits a (split (ids a) [] k).0 h
@@ -291,21 +291,21 @@ module _ {T N P : Type 0} (facts : Facts T) (shape : T → Option Shape) (types 
     simple-fits (sum g t rest) k h =
         let parts = split (ids t) (ids rest) k in
         let left = none-reported (report_on_term facts t).faults _ h in
-        let right = none-reported (signed_operand facts g (report_on_term facts t).known).faults _ left.1 in
+        let right = none-reported (check_sign facts g (report_on_term facts t).known).faults _ left.1 in
         let ft : FitsTerm t = term-fits t parts.0 left.0 in
         let (w, known, typed, keeps) = apply_sign-fits facts shape types g (report_on_term facts t).known ft.of ft.known right.0 in
-        simple-whole g t rest ft w typed (addends-fit (signed_operand facts g (report_on_term facts t).known).known w rest known (keeps ft.scalar) parts.1 right.1)
+        simple-whole g t rest ft w typed (addends-fit (check_sign facts g (report_on_term facts t).known).known w rest known (keeps ft.scalar) parts.1 right.1)
 
     addends-fit : (x : Operand T) (s : Shape) (rest : Tree ℕ (items addend)) → shape x.of ≡ Some s → IsOf s x.value → All rest → (report_on_addends facts x rest).faults ≡ [] → FitsAddends x s rest
     addends-fit x s end hx scalar k h = ended-addends x s hx scalar
     addends-fit x s (more (adds o t) rest) hx scalar k h =
         let parts = split (ids t) (ids rest) k in
         let left = none-reported (report_on_term facts t).faults _ h in
-        let right = none-reported (add_operands facts o x (report_on_term facts t).known).faults _ left.1 in
+        let right = none-reported (check_sum facts o x (report_on_term facts t).known).faults _ left.1 in
         let ft : FitsTerm t = term-fits t parts.0 left.0 in
         let (w, known, typed, keeps) = added-fits facts shape types o x (report_on_term facts t).known s ft.of hx ft.known right.0 in
         addend-whole x s o t rest ft w typed
-        (addends-fit (add_operands facts o x (report_on_term facts t).known).known w rest known (keeps scalar) parts.1 right.1)
+        (addends-fit (check_sum facts o x (report_on_term facts t).known).known w rest known (keeps scalar) parts.1 right.1)
 
     pub term-fits : (t : Tree ℕ term) → All t → (report_on_term facts t).faults ≡ [] → FitsTerm t
     term-fits (product f rest) k h =
@@ -319,11 +319,11 @@ module _ {T N P : Type 0} (facts : Facts T) (shape : T → Option Shape) (types 
     multipliers-fit x s (more (multiplies o f) rest) hx scalar k h =
         let parts = split (ids f) (ids rest) k in
         let left = none-reported (report_on_factor facts f).faults _ h in
-        let right = none-reported (multiply_operands facts o x (report_on_factor facts f).known).faults _ left.1 in
+        let right = none-reported (check_product facts o x (report_on_factor facts f).known).faults _ left.1 in
         let ff : FitsFactor f = factor-fits f parts.0 left.0 in
         let (w, known, typed, keeps) = multiplied-fits facts shape types o x (report_on_factor facts f).known s ff.of hx ff.known right.0 in
         multiplier-whole x s o f rest ff w typed
-        (multipliers-fit (multiply_operands facts o x (report_on_factor facts f).known).known w rest known (keeps scalar) parts.1 right.1)
+        (multipliers-fit (check_product facts o x (report_on_factor facts f).known).known w rest known (keeps scalar) parts.1 right.1)
 
     pub factor-fits : (f : Tree ℕ factor) → All f → (report_on_factor facts f).faults ≡ [] → FitsFactor f
     factor-fits (designator x path) k h =

@@ -1,6 +1,7 @@
--- The meaning of a name agrees with its object. Only the tokens of the tree itself are considered. The reason is that a
--- declaration remains in the state after its scope has ended, although its name has no meaning there. The same list of
--- tokens requires that a field is spelled as in the text. So fields need no further facts, whatever the labels are.
+-- The meaning of a name agrees with its object. Only the tokens of the tree itself are considered.
+-- The reason is that a declaration remains in the state after the end of its scope, although its
+-- name has no meaning after that. The same list of tokens requires that a field is spelled as in
+-- the text. So fields need no further facts, whatever the labels are.
 use Rattle.std.proofs.Common.{◌≡◌, ℕ, Bool, true, false, true≢false, List, [], ◌∷◌, Option, Some, None, option_map, is_some, if◌then◌else◌, refl, sym, subst, subst₂}
 use Rattle.ob0_tree.specs.declared.tree.Role.{Role}
 use Rattle.ob0_tree.specs.declared.tree.Role.TheVariants as role
@@ -10,7 +11,7 @@ use Rattle.ob0_language_types.specs.Typing.{value_of_constant_object, meanings_i
 use Rattle.ob0_language_types.specs.WellTyped.{Signature, TypeMeanings}
 use Rattle.ob0_language_values.specs.Values.{Shape, Value, boolean_shape, elements, integer_shape, members, number, truth}
 use Rattle.ob0_types_check.specs.TypesAndMeanings.{Facts, Meaning, Operand, a_constant, a_procedure, a_type, a_variable}
-use Rattle.ob0_types_check.specs.OperandFaults.{constant_name_operand, typed_name_operand, fault_at_token, operand_from_meaning, without_fault}
+use Rattle.ob0_types_check.specs.OperandFaults.{constant_name_operand, non_constant_name_operand, fault_at_token, operand_from_meaning, without_fault}
 use Rattle.ob0_types_check.specs.Agreement.{IsKnownAndAgreesWithObject, TokenAgreesWithLabel, TokensAgreeWithLabels, TypesAgreeWithShapes}
 use Rattle.ob0_types_check.proofs.FittingExpressions.{Fits, TokenFits, TokensFit}
 use Rattle.ob0_types_check.proofs.Operands.{none-of, some-of}
@@ -35,8 +36,8 @@ module _ {T : Type 0} (facts : Facts T) (shape : T → Option Shape) (types : Ty
   constant-fits x (members k ms) h = absurd (cc)
 
   variable-fits : {P : Type 0} (x : ℕ) (t : T) (s : Shape) → shape t ≡ Some s → (b : Bool)
-      → (if b then record { known = typed_name_operand facts.types.unknown x; faults = fault_at_token code.NotConstant x } else without_fault (typed_name_operand t x)).faults ≡ []
-      → RunObjectAgrees {P = P} shape (if b then record { known = typed_name_operand facts.types.unknown x; faults = fault_at_token code.NotConstant x } else without_fault (typed_name_operand t x)).known (Some (meant.a_variable s))
+      → (if b then record { known = non_constant_name_operand facts.types.unknown x; faults = fault_at_token code.NotConstant x } else without_fault (non_constant_name_operand t x)).faults ≡ []
+      → RunObjectAgrees {P = P} shape (if b then record { known = non_constant_name_operand facts.types.unknown x; faults = fault_at_token code.NotConstant x } else without_fault (non_constant_name_operand t x)).known (Some (meant.a_variable s))
   variable-fits x t s known true h = absurd (cc)
   variable-fits x t s known false h = record { fits = record { of = s; known = known; typed = refl; value_agrees = refl; scalar = none-of s }; placed = λ e. refl }
 
@@ -51,7 +52,7 @@ module _ {T : Type 0} (facts : Facts T) (shape : T → Option Shape) (types : Ty
 
   -- The operand of a name in a constant expression, in which names may only refer to constants, has the type and value
   -- of its object.
-  no-variable : (x : ℕ) (t : T) (b : Bool) → b ≡ true → (if b then record { known = typed_name_operand facts.types.unknown x; faults = fault_at_token code.NotConstant x } else without_fault (typed_name_operand t x)).faults ≡ [] → ⊥
+  no-variable : (x : ℕ) (t : T) (b : Bool) → b ≡ true → (if b then record { known = non_constant_name_operand facts.types.unknown x; faults = fault_at_token code.NotConstant x } else without_fault (non_constant_name_operand t x)).faults ≡ [] → ⊥
   no-variable x t true only h = cc
   no-variable x t false only h = true≢false (sym only)
 

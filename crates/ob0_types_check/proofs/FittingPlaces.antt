@@ -1,4 +1,5 @@
--- An expression that may be a place is a variable with its selectors.
+-- If no fault is reported for an expression that may be a variable, it is a variable or parameter
+-- with its selectors.
 use Rattle.std.proofs.Common.{◌≡◌, ℕ, true, false, true≢false, List, [], ◌++◌, Option, Some, None, refl, sym, ap, ◌∙◌}
 use Rattle.ob0_tree.specs.declared.tree.Role.{Role}
 use Rattle.ob0_tree.specs.declared.tree.Role.TheVariants as role
@@ -10,7 +11,7 @@ use Rattle.ob0_language_types.specs.WellTyped.{assignable_type}
 use Rattle.ob0_language_values.specs.Values.{Shape}
 use Rattle.ob0_types_check.specs.ExpressionFaults.{report_on_expression, report_on_factor, report_on_selectors, report_on_term}
 use Rattle.ob0_types_check.specs.TypesAndMeanings.{Facts, Operand}
-use Rattle.ob0_types_check.specs.OperandFaults.{add_operands, multiply_operands, name_operand, signed_operand}
+use Rattle.ob0_types_check.specs.OperandFaults.{check_sum, check_product, name_operand, check_sign}
 use Rattle.ob0_types_check.specs.Agreement.{TypesAgreeWithShapes}
 use Rattle.ob0_types_check.specs.ReportLaws.{OperandAgreesWithExpression}
 use Rattle.ob0_types_check.proofs.FittingExpressions.{FitsExpression, FitsSelectors, NameFits, TokensFit, addends-apart, expression-fits, multipliers-apart, parts-placed, selectors-fit, split-tokens}
@@ -69,11 +70,11 @@ module _ {T N P : Type 0} (facts : Facts T) (shape : T → Option Shape) (types 
   expression-placed (compares a (one (relates r b))) k h e = no-place (report_on_expression facts (compares a (one (relates r b)))).known refl e
   expression-placed (compares (sum g t (more (adds o u) rest)) none) k h e =
       no-place (report_on_expression facts (compares (sum g t (more (adds o u) rest)) none)).known
-      (addends-apart facts (add_operands facts o (signed_operand facts g (report_on_term facts t).known).known (report_on_term facts u).known).known rest refl) e
+      (addends-apart facts (check_sum facts o (check_sign facts g (report_on_term facts t).known).known (report_on_term facts u).known).known rest refl) e
   expression-placed (compares (sum (Some g) t end) none) k h e = no-place (report_on_expression facts (compares (sum (Some g) t end) none)).known refl e
   expression-placed (compares (sum None (product f (more (multiplies o u) rest)) end) none) k h e =
       no-place (report_on_expression facts (compares (sum None (product f (more (multiplies o u) rest)) end) none)).known
-      (multipliers-apart facts (multiply_operands facts o (report_on_factor facts f).known (report_on_factor facts u).known).known rest refl) e
+      (multipliers-apart facts (check_product facts o (report_on_factor facts f).known (report_on_factor facts u).known).known rest refl) e
   expression-placed (compares (sum None (product f end) end) none) k h e =
       placed-factor f (split (ids f) [] (split (ids (product f end)) [] (split (ids (sum None (product f end) end)) [] k).0).0).0
       (none-reported (report_on_factor facts f).faults _ (none-reported (report_on_term facts (product f end)).faults _ h).0).0 e

@@ -17,9 +17,9 @@ use Rattle.ob0_language_values.specs.Values.{Shape, boolean_shape}
 use Rattle.ob0_types_check.specs.ExpressionFaults.{report_on_expression}
 use Rattle.ob0_types_check.specs.TypesAndMeanings.{Facts, Meaning, Operand, ResultWithFaults, a_constant, a_procedure, a_type, a_variable}
 use Rattle.ob0_types_check.specs.TypesAndMeanings as known
-use Rattle.ob0_types_check.specs.OperandFaults.{typed_name_operand, require_type, fault_at_operand}
+use Rattle.ob0_types_check.specs.OperandFaults.{non_constant_name_operand, require_type, fault_at_operand}
 use Rattle.ob0_types_check.specs.KnownDeclarations.{facts_from_declarations}
-use Rattle.ob0_types_check.specs.StatementFaults.{target_name_type, target_type_from_meaning, call_faults_from_meaning, faults_of_argument, faults_of_arguments, faults_of_expression_of_type, assignment_faults, call_faults, condition_faults, else_faults, elsif_faults, sequence_faults, statement_faults, further_statement_faults, report_on_assignment_target}
+use Rattle.ob0_types_check.specs.StatementFaults.{check_assigned_name, check_assigned_meaning, call_faults_from_meaning, faults_of_argument, faults_of_arguments, faults_of_expression_of_type, assignment_faults, call_faults, condition_faults, else_faults, elsif_faults, sequence_faults, statement_faults, further_statement_faults, report_on_assignment_target}
 use Rattle.ob0_types_check.specs.Agreement.{FormalsAgreeWithSignature, IsKnownAndAgreesWithObject, TokensAgreeWithLabels, TypesAgreeWithShapes, shape_of_type_in}
 use Rattle.ob0_types_check.specs.ReportLaws.{OperandAgreesWithExpression, FaultlessStatementsAreWellTyped}
 use Rattle.ob0_types_check.proofs.FittingExpressions.{FitsSelectors, selectors-fit}
@@ -77,7 +77,7 @@ module _ {T N : Type 0} (facts : Facts T) (shape : T → Option Shape) (types : 
     pub known : shape reported.known ≡ Some of
     pub holds : o ≡ Some (meant.a_variable of)
 
-  assigned-holds : (x : ℕ) (m : Option (Meaning T)) (o : Option (Object Shape Signature)) → IsKnownAndAgreesWithObject shape m o → (target_type_from_meaning facts x m).faults ≡ [] → IsAssigned (target_type_from_meaning facts x m) o
+  assigned-holds : (x : ℕ) (m : Option (Meaning T)) (o : Option (Object Shape Signature)) → IsKnownAndAgreesWithObject shape m o → (check_assigned_meaning facts x m).faults ≡ [] → IsAssigned (check_assigned_meaning facts x m) o
   assigned-holds x None o a h = absurd a
   assigned-holds x (Some (a_type t)) o a h = absurd (cc)
   assigned-holds x (Some (a_constant c)) o a h = absurd (cc)
@@ -88,11 +88,11 @@ module _ {T N : Type 0} (facts : Facts T) (shape : T → Option Shape) (types : 
   unfolding report_on_assignment_target statement_is_well_typed
   assignment-fits x path e k h =
       let parts = none-reported (report_on_assignment_target facts x path).faults _ h in
-      let target = none-reported (target_name_type facts x).faults _ parts.0 in
+      let target = none-reported (check_assigned_name facts x).faults _ parts.0 in
       let rest = split (ids path) (ids e) k.1 in
-      let a : IsAssigned (target_name_type facts x) (meaning.object_for (label x)) = assigned-holds x (facts.object_for x) (meaning.object_for (label x)) k.0 target.0 in
-      let fs : FitsSelectors facts shape types label meaning (typed_name_operand (target_name_type facts x).known x) a.of path
-      = selectors-fit facts shape types label meaning (typed_name_operand (target_name_type facts x).known x) a.of path a.known (tokens-fit facts shape types label meaning (ids path) rest.0) target.1 in
+      let a : IsAssigned (check_assigned_name facts x) (meaning.object_for (label x)) = assigned-holds x (facts.object_for x) (meaning.object_for (label x)) k.0 target.0 in
+      let fs : FitsSelectors facts shape types label meaning (non_constant_name_operand (check_assigned_name facts x).known x) a.of path
+      = selectors-fit facts shape types label meaning (non_constant_name_operand (check_assigned_name facts x).known x) a.of path a.known (tokens-fit facts shape types label meaning (ids path) rest.0) target.1 in
       same_known_shape-same fs.of (assignable_type meaning (Some (label x, here path))) (type_of_expression meaning (here e))
       (variable-typed facts shape types label meaning x path a.of (Some fs.of) a.holds fs.typed)
       (requested-typed (report_on_assignment_target facts x path).known.of fs.of e fs.known rest.1 parts.1)

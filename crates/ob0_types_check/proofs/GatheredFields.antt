@@ -1,7 +1,6 @@
--- The fields of a record are gathered name by name and group by group. They are in order, and the first field with a
--- name is found; the code keeps them in a table with a map. Sizes are sums in the definition. In the code these sums
--- saturate at the limit of `usize`. `CodeFieldsMatchKnownFields` states that the code has gathered the same fields as the definition,
--- with the size capped at this limit.
+-- The code gathers the same fields of a record as the definition, in the same order
+-- (`CodeFieldsMatchKnownFields`). A name selects the first field with this name; the code finds it
+-- by a map. Sizes are unlimited sums in the definition. In the code they are capped at 2^64 - 1.
 use Rattle.std.proofs.Common.{◌≡◌, ℕ, ◌+◌, ◌-◌, ◌^◌, ◌<◌, ◌≤◌, min, max, List, [], ◌∷◌, ◌++◌, length, get_or, drop, refl, sym, ap, ◌∙◌, subst, arith}
 use Rattle.std.proofs.lemmas.List.{drop_all, drop_more}
 use Rattle.ob0_scope_table.specs.declared.faults.FaultAtTokens.{FaultAtTokens}

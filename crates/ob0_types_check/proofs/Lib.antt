@@ -44,6 +44,5 @@ pub mod TypedModules
 pub mod SameFaults
 pub mod SameModules
 pub mod WalksOverSomeBodies
-pub mod DeclarationsStay
 pub mod WithoutNames
 pub mod NewBody

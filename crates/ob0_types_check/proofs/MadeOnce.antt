@@ -1,8 +1,9 @@
--- Each word ARRAY and RECORD of the text makes one type, because between two places types are made only by the words
--- between them. So a type is at only one index of the table. Statements need this because assignments and arguments
--- compare two types (`Fresh`). `Apart k l before after` relates two tables. It states that the new types were made by
--- the words with ordinals from `k` up to `l`. Two such steps can be joined without a further premise, so `Apart` is a
--- field of each record about declarations.
+-- No two types of the table have the same ordinal, because each word ARRAY or RECORD of the text
+-- makes only one type. Assignments and arguments need this, because they compare two types.
+-- `Fresh k shapes` states it for the table after the first `k` words. `Apart k l before after`
+-- states that the table grew from `before` to `after` by types of the words with ordinals from `k`
+-- to `l - 1`. Growth from `k` to `m` and then from `m` to `l` is growth from `k` to `l`
+-- (`apart_then`). So `Apart` is a field of each record about declarations.
 use Rattle.std.proofs.Common.{◌≡◌, ℕ, zero, suc, ◌+◌, ◌<◌, ◌≤◌, List, [], ◌∷◌, ◌++◌, length, slice_get, Some, refl, sym, ap, ◌∙◌, subst, arith, le_refl, le_trans, length-append}
 use Rattle.ob0_language_values.specs.Values.{Shape}
 use Rattle.ob0_types_check.specs.WellTypedLaws.{HaveDistinctOrdinals, ordinal_of_shape}
@@ -12,8 +13,8 @@ use Rattle.ob0_types_check.proofs.Unreported.{some-same}
 abbrev pub Lacks : ℕ → List Shape → Type 0
 Lacks j shapes = (i : ℕ) (s : Shape) → slice_get shapes i ≡ Some s → ordinal_of_shape s ≡ Some j → ⊥
 
--- Holds if the list grew by as many types as there are ordinals from `k` up to `l`, without `l`. Words ARRAY and RECORD
--- with other ordinals made no new type.
+-- Holds if the list grew by as many types as there are ordinals from `k` to `l - 1`. Words ARRAY
+-- and RECORD with other ordinals made no new type.
 pub record Apart (k l : ℕ) (before after : List Shape) : Type 0 where
   pub le : k ≤ l
   pub counted : length after + k ≡ length before + l

@@ -14,10 +14,10 @@ use Rattle.ob0_tree.specs.declared.tree.Sign.TheVariants as sign
 use Rattle.ob0_tree.specs.TokenIndexLeaves.{token_text_at}
 use Rattle.ob0_language_types.specs.DesignatorSelectors.{apply_to_both_options}
 use Rattle.ob0_language_types.specs.Typing.{addition_type, negation_type, element_type, field_type, outcome_value, multiplication_type, relation_type, named_field_shape, signed_operand_type, value_type}
-use Rattle.ob0_language_values.specs.Values.{Overflow, Shape, Value, add, add_operator_short_circuits, boolean_shape, checked_division, division_outcome, ends_run_with, succeeds_with, checked_number, integer_shape, multiply, multiply_operator_short_circuits, negate, number, quotient, apply_relation, remainder, truth}
+use Rattle.ob0_language_values.specs.Values.{Overflow, Shape, Value, apply_add_operator, add_operator_short_circuits, boolean_shape, checked_division, division_outcome, ends_run_with, succeeds_with, checked_number, integer_shape, apply_multiply_operator, multiply_operator_short_circuits, apply_not, number, quotient, apply_relation, remainder, truth}
 use Rattle.ob0_language_values.specs.Values as values
 use Rattle.ob0_types_check.specs.TypesAndMeanings.{Facts, TypeForm, Operand, ResultWithFaults, a_record, a_scalar, an_array, unknown_form}
-use Rattle.ob0_types_check.specs.OperandFaults.{add_operands, require_type, require_type_of_both_operands, fault_at_operand, negated_operand, element_type_from_form, element_operand, field_type_from_form, field_operand, may_be_same_type, field_type_or_fault, multiply_operands, relate_operands, signed_operand, comparison_type, operand_type_of_addition, operand_type_of_equality, operand_type_of_multiplication, operand_type_of_relation}
+use Rattle.ob0_types_check.specs.OperandFaults.{check_sum, require_type, require_type_of_both_operands, fault_at_operand, check_negation, element_type_from_form, element_operand, field_type_from_form, field_operand, may_be_same_type, field_type_or_fault, check_product, check_relation, check_sign, comparison_type, operand_type_of_addition, operand_type_of_equality, operand_type_of_multiplication, operand_type_of_relation}
 use Rattle.ob0_types_check.specs.Agreement.{FormAgreesWithShape, TypesAgreeWithShapes}
 use Rattle.ob0_types_check.proofs.Unreported.{first-of, first-reported, none-if, none-reported, not-true, some-none, some-same}
 
@@ -52,13 +52,13 @@ division_outcome-of : (result : Option ℤ) → IsOf integer_shape (outcome_valu
 division_outcome-of None = none-of integer_shape
 division_outcome-of (Some n) = checked_number-of n
 
-add-of : (o : AddOperator) (v w : Value) → IsOf (shape_added o) (outcome_value (add o v w))
+add-of : (o : AddOperator) (v w : Value) → IsOf (shape_added o) (outcome_value (apply_add_operator o v w))
 add-of add_operator.Add (number a) (number b) = checked_number-of (a +ℤ b)
 add-of add_operator.Subtract (number a) (number b) = checked_number-of (a -ℤ b)
 add-of add_operator.Or (truth a) (truth b) = some-of boolean_shape (truth (a || b)) refl
 add-of _ _ _ = none-of _
 
-multiply-of : (o : MultiplyOperator) (v w : Value) → IsOf (shape_multiplied o) (outcome_value (multiply o v w))
+multiply-of : (o : MultiplyOperator) (v w : Value) → IsOf (shape_multiplied o) (outcome_value (apply_multiply_operator o v w))
 multiply-of multiply_operator.Multiply (number a) (number b) = checked_number-of (a *ℤ b)
 multiply-of multiply_operator.Divide (number a) (number b) = division_outcome-of (checked_division quotient a b)
 multiply-of multiply_operator.Modulo (number a) (number b) = division_outcome-of (checked_division remainder a b)
@@ -76,7 +76,7 @@ apply_sign-of sign.Plus (number a) = checked_number-of a
 apply_sign-of sign.Minus (number a) = checked_number-of (neg_ℤ a)
 apply_sign-of _ _ = none-of integer_shape
 
-negate-of : (v : Value) → IsOf boolean_shape (outcome_value (negate v))
+negate-of : (v : Value) → IsOf boolean_shape (outcome_value (apply_not v))
 negate-of (truth b) = some-of boolean_shape (truth _) refl
 negate-of _ = none-of boolean_shape
 
@@ -91,14 +91,14 @@ settled-of s false x o h k = k
 sum-of : (o : AddOperator) (a b : Option Value) (s : Shape) → s ≡ shape_added o → IsOf s a → IsOf (shape_added o) (option_and_then (sum_value o b) a)
 sum-of o a b s same h =
     then-of (shape_added o) (sum_value o b) a
-    (λ x e. settled-of (shape_added o) (add_operator_short_circuits o x) x (option_and_then (λ y. outcome_value (add o x y)) b) (h x e ∙ ap (λ u. Some u) same)
-    (then-of (shape_added o) (λ y. outcome_value (add o x y)) b (λ y f. add-of o x y)))
+    (λ x e. settled-of (shape_added o) (add_operator_short_circuits o x) x (option_and_then (λ y. outcome_value (apply_add_operator o x y)) b) (h x e ∙ ap (λ u. Some u) same)
+    (then-of (shape_added o) (λ y. outcome_value (apply_add_operator o x y)) b (λ y f. add-of o x y)))
 
 product-of : (o : MultiplyOperator) (a b : Option Value) (s : Shape) → s ≡ shape_multiplied o → IsOf s a → IsOf (shape_multiplied o) (option_and_then (product_value o b) a)
 product-of o a b s same h =
     then-of (shape_multiplied o) (product_value o b) a
-    (λ x e. settled-of (shape_multiplied o) (multiply_operator_short_circuits o x) x (option_and_then (λ y. outcome_value (multiply o x y)) b) (h x e ∙ ap (λ u. Some u) same)
-    (then-of (shape_multiplied o) (λ y. outcome_value (multiply o x y)) b (λ y f. multiply-of o x y)))
+    (λ x e. settled-of (shape_multiplied o) (multiply_operator_short_circuits o x) x (option_and_then (λ y. outcome_value (apply_multiply_operator o x y)) b) (h x e ∙ ap (λ u. Some u) same)
+    (then-of (shape_multiplied o) (λ y. outcome_value (apply_multiply_operator o x y)) b (λ y f. multiply-of o x y)))
 
 pub relation-of : (r : Relation) (a b : Option Value) → IsOf boolean_shape (apply_to_both_options (λ x y. outcome_value (apply_relation r x y)) a b)
 relation-of r a b =
@@ -107,8 +107,8 @@ relation-of r a b =
 sign-of : (s : Sign) (a : Option Value) → IsOf integer_shape (option_and_then (λ x. outcome_value (values.apply_sign (Some s) x)) a)
 sign-of s a = then-of integer_shape (λ x. outcome_value (values.apply_sign (Some s) x)) a (λ x e. apply_sign-of s x)
 
-pub value_of_negation-of : (a : Option Value) → IsOf boolean_shape (option_and_then (λ x. outcome_value (negate x)) a)
-value_of_negation-of a = then-of boolean_shape (λ x. outcome_value (negate x)) a (λ x e. negate-of x)
+pub value_of_negation-of : (a : Option Value) → IsOf boolean_shape (option_and_then (λ x. outcome_value (apply_not x)) a)
+value_of_negation-of a = then-of boolean_shape (λ x. outcome_value (apply_not x)) a (λ x e. negate-of x)
 
 add-typed : (o : AddOperator) → addition_type o (shape_added o) (shape_added o) ≡ Some (shape_added o)
 add-typed add_operator.Add = refl
@@ -186,34 +186,34 @@ module _ {T : Type 0} (facts : Facts T) (shape : T → Option Shape) (types : Ty
 
   -- An operation for which no fault is reported has the right type, and its value, when present, has that type.
 
-  pub added-fits : (o : AddOperator) (a b : Operand T) (s t : Shape) → shape a.of ≡ Some s → shape b.of ≡ Some t → (add_operands facts o a b).faults ≡ []
-      → (w : Shape) × (shape (add_operands facts o a b).known.of ≡ Some w) × (addition_type o s t ≡ Some w) × (IsOf s a.value → IsOf w (add_operands facts o a b).known.value)
+  pub added-fits : (o : AddOperator) (a b : Operand T) (s t : Shape) → shape a.of ≡ Some s → shape b.of ≡ Some t → (check_sum facts o a b).faults ≡ []
+      → (w : Shape) × (shape (check_sum facts o a b).known.of ≡ Some w) × (addition_type o s t ≡ Some w) × (IsOf s a.value → IsOf w (check_sum facts o a b).known.value)
   added-fits o a b s t hs ht h =
       let (known, left, right) = apply_to_both_options-requested (operand_type_of_addition facts.types o) a b s t (shape_added o) hs ht (add-wanted o) (none-reported _ _ h).0 in
       (shape_added o, ap shape known ∙ add-wanted o, (λ i. addition_type o (left i) (right i)) ∙ add-typed o, sum-of o a.value b.value s left)
 
-  pub multiplied-fits : (o : MultiplyOperator) (a b : Operand T) (s t : Shape) → shape a.of ≡ Some s → shape b.of ≡ Some t → (multiply_operands facts o a b).faults ≡ []
-      → (w : Shape) × (shape (multiply_operands facts o a b).known.of ≡ Some w) × (multiplication_type o s t ≡ Some w) × (IsOf s a.value → IsOf w (multiply_operands facts o a b).known.value)
+  pub multiplied-fits : (o : MultiplyOperator) (a b : Operand T) (s t : Shape) → shape a.of ≡ Some s → shape b.of ≡ Some t → (check_product facts o a b).faults ≡ []
+      → (w : Shape) × (shape (check_product facts o a b).known.of ≡ Some w) × (multiplication_type o s t ≡ Some w) × (IsOf s a.value → IsOf w (check_product facts o a b).known.value)
   multiplied-fits o a b s t hs ht h =
       let (known, left, right) = apply_to_both_options-requested (operand_type_of_multiplication facts.types o) a b s t (shape_multiplied o) hs ht (multiply-wanted o) (none-reported _ _ h).0 in
       (shape_multiplied o, ap shape known ∙ multiply-wanted o, (λ i. multiplication_type o (left i) (right i)) ∙ multiply-typed o, product-of o a.value b.value s left)
 
-  pub related-fits : (r : Relation) (a b : Operand T) (s t : Shape) → shape a.of ≡ Some s → shape b.of ≡ Some t → (relate_operands facts r a b).faults ≡ []
-      → (shape (relate_operands facts r a b).known.of ≡ Some boolean_shape) × (relation_type r s t ≡ Some boolean_shape)
+  pub related-fits : (r : Relation) (a b : Operand T) (s t : Shape) → shape a.of ≡ Some s → shape b.of ≡ Some t → (check_relation facts r a b).faults ≡ []
+      → (shape (check_relation facts r a b).known.of ≡ Some boolean_shape) × (relation_type r s t ≡ Some boolean_shape)
   related-fits r a b s t hs ht h =
       let (w, hw, typed) = relation-wanted r a.of s hs in
       let (known, left, right) = apply_to_both_options-requested (operand_type_of_relation facts.types r a.of) a b s t w hs ht hw (none-reported _ _ h).0 in
       (ap (λ u. shape (comparison_type facts.types u)) known ∙ truth-known (operand_type_of_relation facts.types r a.of) w hw, (λ i. relation_type r (left i) (right i)) ∙ typed)
 
-  pub apply_sign-fits : (g : Option Sign) (o : Operand T) (s : Shape) → shape o.of ≡ Some s → (signed_operand facts g o).faults ≡ []
-      → (w : Shape) × (shape (signed_operand facts g o).known.of ≡ Some w) × (signed_operand_type g s ≡ Some w) × (IsOf s o.value → IsOf w (signed_operand facts g o).known.value)
+  pub apply_sign-fits : (g : Option Sign) (o : Operand T) (s : Shape) → shape o.of ≡ Some s → (check_sign facts g o).faults ≡ []
+      → (w : Shape) × (shape (check_sign facts g o).known.of ≡ Some w) × (signed_operand_type g s ≡ Some w) × (IsOf s o.value → IsOf w (check_sign facts g o).known.value)
   apply_sign-fits None o s hs h = (s, hs, refl, λ has_value. has_value)
   apply_sign-fits (Some g) o s hs h =
       let (known, right) = requested-fits facts.types.integer o s integer_shape hs types.integer (none-reported _ _ h).0 in
       (integer_shape, ap shape known ∙ types.integer, ap (signed_operand_type (Some g)) right ∙ sign-typed g, λ has_value. sign-of g o.value)
 
-  pub complemented-fits : (o : Operand T) (s : Shape) → shape o.of ≡ Some s → (negated_operand facts o).faults ≡ []
-      → (shape (negated_operand facts o).known.of ≡ Some boolean_shape) × (negation_type s ≡ Some boolean_shape)
+  pub complemented-fits : (o : Operand T) (s : Shape) → shape o.of ≡ Some s → (check_negation facts o).faults ≡ []
+      → (shape (check_negation facts o).known.of ≡ Some boolean_shape) × (negation_type s ≡ Some boolean_shape)
   complemented-fits o s hs h =
       let (known, right) = requested-fits facts.types.boolean o s boolean_shape hs types.boolean (none-reported _ _ h).0 in
       (ap shape known ∙ types.boolean, ap negation_type right)

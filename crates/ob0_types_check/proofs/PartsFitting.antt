@@ -1,5 +1,5 @@
--- The laws about expressions and statements that the proofs about declarations use: they fit if no fault is reported
--- for them.
+-- Expressions and statements fit if no fault is reported for them. The proofs about declarations
+-- use these laws.
 use Rattle.ob0_language_names.specs.Names.{Name}
 use Rattle.ob0_types_check.specs.ReportLaws.{FaultlessConstantsHaveCorrectValues, FaultlessLengthsHaveCorrectValues, FaultlessStatementsAreWellTyped, TypesAgreeWithShapesIfTableDoes}
 use Rattle.ob0_types_check.proofs.FittingStatements.{faultless_statements_are_well_typed-holds}

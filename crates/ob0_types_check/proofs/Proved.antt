@@ -3,7 +3,7 @@ use Rattle.std.proofs.Common.{◌≡◌, ℕ, Bool, true, false, [], Option, Som
 use Rattle.ob0_tree.specs.declared.tree.Role.TheVariants as role
 use Rattle.ob0_tree.specs.TokenIndexLeaves.{token_value_at}
 use Rattle.ob0_tree.specs.Tree.{Tree, expression, identifiers, mapped_tree}
-use Rattle.ob0_language_types.specs.Expressions.{Meanings, Object, a_constant, evaluate}
+use Rattle.ob0_language_types.specs.Expressions.{Meanings, Object, a_constant, evaluate_expression}
 use Rattle.ob0_language_types.specs.Typing.{array_length_from_value, value_of_constant_object, constant_expression_value, meanings_in_constant_expressions, outcome_value, type_of_expression}
 use Rattle.ob0_language_types.specs.WellTyped.{TypeMeanings}
 use Rattle.ob0_language_values.specs.Values.{Place, Shape, Value, integer_shape}
@@ -11,7 +11,7 @@ use Rattle.ob0_types_check.specs.ExpressionFaults.{report_on_expression}
 use Rattle.ob0_types_check.specs.TypesAndMeanings.{Facts, Operand}
 use Rattle.ob0_types_check.specs.OperandFaults.{require_type, without_fault}
 use Rattle.ob0_types_check.specs.KnownDeclarations.{facts_from_declarations}
-use Rattle.ob0_types_check.specs.TypeFaults.{operand_value, length_or_fault, length_from_value, length_from_operand, report_on_constant_expression, value_or_fault}
+use Rattle.ob0_types_check.specs.TypeFaults.{require_constant_value, length_or_fault, length_from_value, length_from_operand, report_on_constant_expression, value_or_fault}
 use Rattle.ob0_types_check.specs.Agreement.{FactsAgreeWithShapesAndLabels, TypesAgreeWithShapes, shape_of_type_in}
 use Rattle.ob0_types_check.specs.ReportLaws.{FaultlessConstantsHaveCorrectValues, FaultlessExpressionsHaveCorrectTypesAndValues, FaultlessLengthsHaveCorrectValues, OperandAgreesWithExpression, allowed_meanings}
 use Rattle.ob0_types_check.proofs.FittingExpressions.{FitsExpression, expression-fits}
@@ -46,8 +46,8 @@ module _ {T N : Type 0} (facts : Facts T) (shape : T → Option Shape) (label : 
       record {
         of = fe.of;
         known = fe.known;
-        given = λ v is. goes-on (λ s. outcome_value (evaluate {P = Unit {0}} (meanings_in_constant_expressions meaning) [] (mapped_tree label (token_value_at facts.source) e))) (type_of_expression {P = Unit {0}} (meanings_in_constant_expressions meaning) (mapped_tree label (token_value_at facts.source) e)) fe.of (Some v) fe.typed
-            (ap (λ m. outcome_value (evaluate {P = Unit {0}} m [] (mapped_tree label (token_value_at facts.source) e))) (sym (constants-again meaning)) ∙ (sym fe.value_agrees ∙ is));
+        given = λ v is. goes-on (λ s. outcome_value (evaluate_expression {P = Unit {0}} (meanings_in_constant_expressions meaning) [] (mapped_tree label (token_value_at facts.source) e))) (type_of_expression {P = Unit {0}} (meanings_in_constant_expressions meaning) (mapped_tree label (token_value_at facts.source) e)) fe.of (Some v) fe.typed
+            (ap (λ m. outcome_value (evaluate_expression {P = Unit {0}} m [] (mapped_tree label (token_value_at facts.source) e))) (sym (constants-again meaning)) ∙ (sym fe.value_agrees ∙ is));
         scalar = fe.scalar;
       }
 
@@ -61,8 +61,8 @@ value-there : {T : Type 0} (o : Operand T) (c : Option Value) → o.value ≡ c 
 value-there o None e h = absurd (cc)
 value-there o (Some v) e h = record { value = v; known = refl; there = e }
 
-pub operand_value-there : {T : Type 0} (facts : Facts T) (o : Operand T) → facts.types.same o.of facts.types.unknown ≡ false → (operand_value facts o).faults ≡ [] → HasReportedValue o (operand_value facts o).known
-operand_value-there facts o known h =
+pub require_constant_value-there : {T : Type 0} (facts : Facts T) (o : Operand T) → facts.types.same o.of facts.types.unknown ≡ false → (require_constant_value facts o).faults ≡ [] → HasReportedValue o (require_constant_value facts o).known
+require_constant_value-there facts o known h =
     let w = value-there o o.value refl (sym (ap (λ b. (if b then without_fault None else value_or_fault o o.value).faults) known) ∙ h) in
     record { value = w.value; known = ap (λ b. (if b then without_fault None else value_or_fault o o.value).known) known ∙ w.known; there = w.there }
 
@@ -73,7 +73,7 @@ faultless_constants_have_correct_values-holds p shapes label meaning e agrees h 
     let parts = none-reported (report_on_expression facts e).faults _ h in
     let c = constant-known facts (shape_of_type_in shapes) label meaning e agrees refl parts.0 in
     let o : Operand _ = (report_on_expression facts e).known in
-    let w = operand_value-there facts o (not-true (facts.types.same o.of facts.types.unknown) (is-known facts (shape_of_type_in shapes) agrees.types o.of c.of c.known)) parts.1 in
+    let w = require_constant_value-there facts o (not-true (facts.types.same o.of facts.types.unknown) (is-known facts (shape_of_type_in shapes) agrees.types o.of c.of c.known)) parts.1 in
     record { value = w.value; known = w.known; given = c.given w.value w.there; scalar = ap is_some (c.scalar w.value w.there) }
 
 pub faultless_expressions_have_correct_types_and_values-holds : {N : Type 0} → FaultlessExpressionsHaveCorrectTypesAndValues N

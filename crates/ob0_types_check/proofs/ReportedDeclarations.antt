@@ -9,7 +9,7 @@ use Rattle.ob0_types_table.specs.declared.declaration_table.FormalParameter as f
 use Rattle.ob0_types_table.specs.declared.types.TypeId.{TypeId}
 use Rattle.ob0_tree.specs.Tree.{Tree, begins, block, body, constant, constants, declares, declares_constant, declares_procedure, declares_type, declares_variable, end, expression, formals, section_after_semicolon, forms_block, item, items, maybe, more, names, none, one, procedure, sequence, comma_then_name, semicolon_then_section, type_definition, type_definitions, value_section, variable, variable_section, variables, written_type}
 use Rattle.ob0_tree.specs.View.{block_of, formals_of_list, formals_of, parameter_section_after_semicolon_of, items_of, names_of, procedure_of}
-use Rattle.ob0_tree.specs.declared.tree.Names.{Names}
+use Rattle.ob0_tree.specs.declared.tree.IdentifierList.{IdentifierList}
 use Rattle.ob0_tree.specs.declared.tree.Procedure.{Procedure, out-Procedure, roll-out-Procedure}
 use Rattle.ob0_tree.specs.declared.tree.ParameterSection.{ParameterSection}
 use Rattle.ob0_tree.proofs.Viewed.{procedure_made}
@@ -27,7 +27,7 @@ further_are : (xs : List ℕ) → names_after_first (items_of comma_then_name xs
 further_are [] = refl
 further_are (x ∷ xs) = ap (λ ys. x ∷ ys) (further_are xs)
 
-pub names_are : (ns : Names) → names_in_list (names_of ns) ≡ ns.first ∷ ns.more.items
+pub names_are : (ns : IdentifierList) → names_in_list (names_of ns) ≡ ns.first ∷ ns.more.items
 names_are ns = ap (λ ys. ns.first ∷ ys) (further_are ns.more.items)
 
 -- holds if declaring the remaining names gives the same state as declaring all names from the start
@@ -71,7 +71,7 @@ types_stepped p t ts = refl
 pub types_chain : IsChain report_on_type_declarations report_on_type_declaration
 types_chain = record { ended = types_ended; stepped = types_stepped }
 
-pub variables_reported : (p : KnownDeclarations) (ns : Names) (t : Tree ℕ written_type) → report_on_variable_group p (declares_variable (names_of ns) t) ≡ (report_on_written_type 0 p t >>= (λ u. without_fault (define_listed_names u.following (a_variable u.of) (ns.first ∷ ns.more.items))))
+pub variables_reported : (p : KnownDeclarations) (ns : IdentifierList) (t : Tree ℕ written_type) → report_on_variable_group p (declares_variable (names_of ns) t) ≡ (report_on_written_type 0 p t >>= (λ u. without_fault (define_listed_names u.following (a_variable u.of) (ns.first ∷ ns.more.items))))
 unfolding report_on_variable_group
 variables_reported p ns t = ap (λ xs. report_on_written_type 0 p t >>= (λ u. without_fault (define_listed_names u.following (a_variable u.of) xs))) (names_are ns)
 
@@ -91,7 +91,7 @@ unfolding report_on_parameter_section report_on_parameters_of_one_type
 parameters_reported h true ns t = refl
 parameters_reported h false ns t = refl
 
-pub section_reported : (h : KnownHeading) (b : Bool) (ns : Names) (t : Tree ℕ written_type)
+pub section_reported : (h : KnownHeading) (b : Bool) (ns : IdentifierList) (t : Tree ℕ written_type)
     → report_on_parameter_section h (semicolon_then_section (if b then variable_section (names_of ns) t else value_section (names_of ns) t)) ≡ (report_on_written_type 0 h.following t >>= (λ u. without_fault (heading_with_parameters h b (ns.first ∷ ns.more.items) u)))
 section_reported h b ns t = parameters_reported h b (names_of ns) t ∙ ap (λ xs. report_on_written_type 0 h.following t >>= (λ u. without_fault (heading_with_parameters h b xs u))) (names_are ns)
 

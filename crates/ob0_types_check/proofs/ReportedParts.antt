@@ -9,16 +9,16 @@ use Rattle.ob0_tree.specs.Tree.{Tree, addend, adds, compares, designator, end, e
 use Rattle.ob0_tree.specs.View.{items_of, selector_of}
 use Rattle.ob0_types_check.specs.TypesAndMeanings.{Facts, Operand, ResultWithFaults}
 use Rattle.ob0_types_check.specs.ExpressionFaults.{report_on_addends, report_on_expression, report_on_factor, report_on_multipliers, report_on_selector, report_on_selectors, report_on_simple_expression, report_on_term}
-use Rattle.ob0_types_check.specs.OperandFaults.{number_operand, add_operands, negated_operand, element_operand, operand_in_parentheses, field_operand, multiply_operands, name_operand, relate_operands, without_fault, signed_operand, ◌>>=◌}
-use Rattle.ob0_types_check.specs.TypeFaults.{operand_value, report_on_constant_expression}
+use Rattle.ob0_types_check.specs.OperandFaults.{number_operand, check_sum, check_negation, element_operand, operand_in_parentheses, field_operand, check_product, name_operand, check_relation, without_fault, check_sign, ◌>>=◌}
+use Rattle.ob0_types_check.specs.TypeFaults.{require_constant_value, report_on_constant_expression}
 use Rattle.ob0_types_check.proofs.Chains.{IsChain, reported_equal, then_assoc}
 
 -- returns the report of an operand with one more term added; `reported_multiplied` is about one more factor
 abbrev pub reported_added : {T : Type 0} → Facts T → Operand T → Tree ℕ (item addend) → ResultWithFaults (Operand T)
-reported_added facts x (adds o t) = report_on_term facts t >>= add_operands facts o x
+reported_added facts x (adds o t) = report_on_term facts t >>= check_sum facts o x
 
 abbrev pub reported_multiplied : {T : Type 0} → Facts T → Operand T → Tree ℕ (item multiplier) → ResultWithFaults (Operand T)
-reported_multiplied facts x (multiplies o f) = report_on_factor facts f >>= multiply_operands facts o x
+reported_multiplied facts x (multiplies o f) = report_on_factor facts f >>= check_product facts o x
 
 module _ {T : Type 0} (facts : Facts T) where
   pub alone_reported : (a : Tree ℕ simple) → report_on_expression facts (compares a none) ≡ report_on_simple_expression facts a
@@ -31,11 +31,11 @@ module _ {T : Type 0} (facts : Facts T) where
   factor_reported f =
       let faults = (report_on_factor facts f).faults in reported_equal refl (append-nil (faults ++ []) ∙ append-nil faults)
 
-  pub related_reported : (r : Relation) (a b : Tree ℕ simple) → report_on_expression facts (compares a (one (relates r b))) ≡ (report_on_simple_expression facts a >>= (λ x. report_on_simple_expression facts b >>= relate_operands facts r x))
+  pub related_reported : (r : Relation) (a b : Tree ℕ simple) → report_on_expression facts (compares a (one (relates r b))) ≡ (report_on_simple_expression facts a >>= (λ x. report_on_simple_expression facts b >>= check_relation facts r x))
   unfolding report_on_expression
   related_reported r a b = refl
 
-  pub simple_reported : (s : Option Sign) (t : Tree ℕ term) (rest : Tree ℕ (items addend)) → report_on_simple_expression facts (sum s t rest) ≡ (report_on_term facts t >>= (λ x. signed_operand facts s x >>= (λ y. report_on_addends facts y rest)))
+  pub simple_reported : (s : Option Sign) (t : Tree ℕ term) (rest : Tree ℕ (items addend)) → report_on_simple_expression facts (sum s t rest) ≡ (report_on_term facts t >>= (λ x. check_sign facts s x >>= (λ y. report_on_addends facts y rest)))
   unfolding report_on_expression
   simple_reported s t rest = refl
 
@@ -55,7 +55,7 @@ module _ {T : Type 0} (facts : Facts T) where
   unfolding report_on_expression
   parentheses_reported e = refl
 
-  pub negation_reported : (f : Tree ℕ factor) → report_on_factor facts (negation f) ≡ (report_on_factor facts f >>= negated_operand facts)
+  pub negation_reported : (f : Tree ℕ factor) → report_on_factor facts (negation f) ≡ (report_on_factor facts f >>= check_negation facts)
   unfolding report_on_expression
   negation_reported f = refl
 
@@ -73,7 +73,7 @@ module _ {T : Type 0} (facts : Facts T) where
 
   added_stepped : (x : Operand T) (t : Tree ℕ (item addend)) (ts : Tree ℕ (items addend)) → report_on_addends facts x (more t ts) ≡ (reported_added facts x t >>= (λ y. report_on_addends facts y ts))
   unfolding report_on_expression
-  added_stepped x (adds o t) ts = then_assoc (report_on_term facts t) (add_operands facts o x) (λ y. report_on_addends facts y ts)
+  added_stepped x (adds o t) ts = then_assoc (report_on_term facts t) (check_sum facts o x) (λ y. report_on_addends facts y ts)
 
   pub added_chain : IsChain (report_on_addends facts) (reported_added facts)
   added_chain = record { ended = added_ended; stepped = added_stepped }
@@ -84,7 +84,7 @@ module _ {T : Type 0} (facts : Facts T) where
 
   multiplied_stepped : (x : Operand T) (t : Tree ℕ (item multiplier)) (ts : Tree ℕ (items multiplier)) → report_on_multipliers facts x (more t ts) ≡ (reported_multiplied facts x t >>= (λ y. report_on_multipliers facts y ts))
   unfolding report_on_expression
-  multiplied_stepped x (multiplies o f) ts = then_assoc (report_on_factor facts f) (multiply_operands facts o x) (λ y. report_on_multipliers facts y ts)
+  multiplied_stepped x (multiplies o f) ts = then_assoc (report_on_factor facts f) (check_product facts o x) (λ y. report_on_multipliers facts y ts)
 
   pub multiplied_chain : IsChain (report_on_multipliers facts) (reported_multiplied facts)
   multiplied_chain = record { ended = multiplied_ended; stepped = multiplied_stepped }
@@ -106,6 +106,6 @@ module _ {T : Type 0} (facts : Facts T) where
   nothing_selected x [] e = selected_ended x
   nothing_selected x (s ∷ xs) e = absurd (omega arith)
 
-  pub constant_reported : (e : Tree ℕ expression) → report_on_constant_expression facts e ≡ (report_on_expression facts e >>= operand_value facts)
+  pub constant_reported : (e : Tree ℕ expression) → report_on_constant_expression facts e ≡ (report_on_expression facts e >>= require_constant_value facts)
   unfolding report_on_constant_expression
   constant_reported e = refl

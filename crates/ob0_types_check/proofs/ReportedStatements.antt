@@ -13,8 +13,8 @@ use Rattle.ob0_tree.specs.declared.tree.Statement.{Statement}
 use Rattle.ob0_language_types.specs.Arguments.{call_arguments, further_arguments}
 use Rattle.ob0_types_check.specs.ExpressionFaults.{report_on_expression, report_on_selectors}
 use Rattle.ob0_types_check.specs.TypesAndMeanings.{Facts, KnownParameter, a_procedure}
-use Rattle.ob0_types_check.specs.OperandFaults.{typed_name_operand, require_type, fault_at_token, ◌>>=◌}
-use Rattle.ob0_types_check.specs.StatementFaults.{target_name_type, call_faults_from_meaning, require_type_of_argument, faults_of_argument, faults_of_arguments, faults_of_expression_of_type, assignment_faults, call_faults, condition_faults, else_faults, elsif_faults, untyped_argument_faults, sequence_faults, statement_faults, further_statement_faults, report_on_assignment_target}
+use Rattle.ob0_types_check.specs.OperandFaults.{non_constant_name_operand, require_type, fault_at_token, ◌>>=◌}
+use Rattle.ob0_types_check.specs.StatementFaults.{check_assigned_name, call_faults_from_meaning, require_type_of_argument, faults_of_argument, faults_of_arguments, faults_of_expression_of_type, assignment_faults, call_faults, condition_faults, else_faults, elsif_faults, untyped_argument_faults, sequence_faults, statement_faults, further_statement_faults, report_on_assignment_target}
 use Rattle.ob0_types_check.specs.CheckerViews.{known_parameter_of}
 use Rattle.ob0_types_check.proofs.Listed.{IsEach, IsPairwise}
 
@@ -31,7 +31,7 @@ module _ {T : Type 0} (facts : Facts T) where
   unfolding faults_of_expression_of_type
   requested_reported wanted e = refl
 
-  pub target_reported : (x : ℕ) (path : Tree ℕ (items selector)) → report_on_assignment_target facts x path ≡ (target_name_type facts x >>= (λ t. report_on_selectors facts (typed_name_operand t x) path))
+  pub target_reported : (x : ℕ) (path : Tree ℕ (items selector)) → report_on_assignment_target facts x path ≡ (check_assigned_name facts x >>= (λ t. report_on_selectors facts (non_constant_name_operand t x) path))
   unfolding report_on_assignment_target
   target_reported x path = refl
 

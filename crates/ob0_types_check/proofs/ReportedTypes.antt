@@ -7,16 +7,16 @@ use Rattle.ob0_language_names.specs.BlockParts.{names_in_list}
 use Rattle.ob0_types_check.specs.ExpressionFaults.{report_on_expression}
 use Rattle.ob0_types_check.specs.OperandFaults.{without_fault, ◌>>=◌}
 use Rattle.ob0_types_check.specs.KnownDeclarations.{KnownDeclarations, facts_from_declarations}
-use Rattle.ob0_types_check.specs.TypeFaults.{length_from_operand, type_named_by_token}
-use Rattle.ob0_types_check.specs.WrittenTypeFaults.{KnownFields, made_array_type, append_field_group, no_known_fields, next_type_ordinal, made_record_type, record_keyword_token, report_on_field_group, report_on_further_field_group, report_on_further_field_groups, report_on_written_type, token_before_group}
+use Rattle.ob0_types_check.specs.TypeFaults.{length_from_operand, check_type_name}
+use Rattle.ob0_types_check.specs.WrittenTypeFaults.{KnownFields, make_array_type, append_field_group, no_known_fields, next_type_ordinal, make_record_type, record_keyword_token, report_on_field_group, report_on_further_field_group, report_on_further_field_groups, report_on_written_type, token_before_group}
 use Rattle.ob0_types_check.proofs.Chains.{IsChain, then_assoc}
 
-pub named_reported : (around : ℕ) (p : KnownDeclarations) (x : ℕ) → report_on_written_type around p (named_type x) ≡ (type_named_by_token (facts_from_declarations p false) x >>= (λ t. without_fault (record { of = t; following = p })))
+pub named_reported : (around : ℕ) (p : KnownDeclarations) (x : ℕ) → report_on_written_type around p (named_type x) ≡ (check_type_name (facts_from_declarations p false) x >>= (λ t. without_fault (record { of = t; following = p })))
 unfolding report_on_written_type
 named_reported around p x = refl
 
 pub array_reported : (around : ℕ) (p : KnownDeclarations) (e : Tree ℕ expression) (u : Tree ℕ written_type)
-    → report_on_written_type around p (array_type e u) ≡ (report_on_expression (facts_from_declarations p true) e >>= (λ o. length_from_operand (facts_from_declarations p false) o >>= (λ n. report_on_written_type (suc around) p u >>= made_array_type (next_type_ordinal around p) o n)))
+    → report_on_written_type around p (array_type e u) ≡ (report_on_expression (facts_from_declarations p true) e >>= (λ o. length_from_operand (facts_from_declarations p false) o >>= (λ n. report_on_written_type (suc around) p u >>= make_array_type (next_type_ordinal around p) o n)))
 unfolding report_on_written_type
 array_reported around p e u = refl
 
@@ -45,8 +45,8 @@ groups_chain around = record { ended = groups_ended around; stepped = groups_ste
 
 -- A record without groups of fields has the same report as a record with one empty group.
 pub record_reported : (around : ℕ) (p : KnownDeclarations) (gs : List OptionalFieldGroup)
-    → report_on_written_type around p (record_type_of_list gs) ≡ (report_on_further_field_groups (suc around) (no_known_fields p) (items_of field_group_after_semicolon_of gs) >>= made_record_type (record_keyword_token (items_of field_group_after_semicolon_of gs)) (next_type_ordinal around p))
+    → report_on_written_type around p (record_type_of_list gs) ≡ (report_on_further_field_groups (suc around) (no_known_fields p) (items_of field_group_after_semicolon_of gs) >>= make_record_type (record_keyword_token (items_of field_group_after_semicolon_of gs)) (next_type_ordinal around p))
 unfolding report_on_written_type
 record_reported around p [] = refl
 record_reported around p (g ∷ gs) =
-    then_assoc (report_on_field_group (suc around) (no_known_fields p) (optional_field_group_of g)) (λ h. report_on_further_field_groups (suc around) h (items_of field_group_after_semicolon_of gs)) (made_record_type (token_before_group (optional_field_group_of g) (record_keyword_token (items_of field_group_after_semicolon_of gs))) (next_type_ordinal around p))
+    then_assoc (report_on_field_group (suc around) (no_known_fields p) (optional_field_group_of g)) (λ h. report_on_further_field_groups (suc around) h (items_of field_group_after_semicolon_of gs)) (make_record_type (token_before_group (optional_field_group_of g) (record_keyword_token (items_of field_group_after_semicolon_of gs))) (next_type_ordinal around p))

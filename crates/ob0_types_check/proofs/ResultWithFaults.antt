@@ -1,4 +1,5 @@
--- The report at the end of a module's walk has its faults and, if there are none, the table of its declarations.
+-- The report at the end of the walk over a module has the module's faults and, if there are none,
+-- the table of its declarations.
 use Rattle.std.proofs.Common.{◌≡◌, ◌==◌, ℕ, Bool, true, false, List, [], ◌++◌, length, eq-eqb, eqb-true, true≢false, sym, ap, ◌∙◌, subst}
 use Rattle.std.specs.List.{filter}
 use Rattle.ob0_tree.specs.ParsedModule.{named_tree_of}

@@ -1,6 +1,7 @@
--- The tokens of a part are alike in two texts if they have the same spelling and binding (`Alikeness`). The part then
--- has the same report in both texts. A state contains its text. So two states are alike if they are one value viewed over
--- each of the texts (`Alike`).
+-- The tokens of a part are alike in two texts if they have the same spelling and binding
+-- (`Alikeness`). The part then has the same report in both texts. A state contains its text. So two
+-- results are alike (`Alike`) if one value gives both, each with its own text, and they have the
+-- same faults.
 use Rattle.std.proofs.Common.{◌≡◌, ℕ, Bool, false, List, [], ◌∷◌, ◌++◌, Option, Some, None, length, nat_eq, option_and_then, pos, ◌+◌, refl, sym, ap, ◌∙◌, subst, if◌then◌else◌}
 use Rattle.std.specs.Prelude.{nat_lt}
 use Rattle.ob0_scan.specs.declared.fault.FaultCode.TheVariants as code
@@ -14,9 +15,9 @@ use Rattle.ob0_scope_table.specs.TokenProperty.{EachTokenSatisfies}
 use Rattle.ob0_scope_table.specs.Resolution.{ordinal_in}
 use Rattle.ob0_types_check.specs.ExpressionFaults.{report_on_addends, report_on_expression, report_on_factor, report_on_multipliers, report_on_selectors, report_on_simple_expression, report_on_term}
 use Rattle.ob0_types_check.specs.TypesAndMeanings.{Facts, TypeForm, KnownParameter, Meaning, Operand, ResultWithFaults, Types, a_constant, a_procedure, a_record, a_scalar, a_type, a_variable, an_array, unknown_form}
-use Rattle.ob0_types_check.specs.OperandFaults.{typed_name_operand, number_operand, add_operands, negated_operand, element_type_from_form, element_operand, fault_at_token, operand_in_parentheses, field_type_from_form, field_operand, field_type_or_fault, multiply_operands, name_operand, operand_from_meaning, operand_with_selector, relate_operands, require_type, without_fault, signed_operand, next_token_index, previous_token_index, ◌>>=◌}
-use Rattle.ob0_types_check.specs.StatementFaults.{call_faults_from_meaning, require_type_of_argument, faults_of_argument, faults_of_arguments, assignment_faults, call_faults, else_faults, elsif_faults, untyped_argument_faults, faults_of_expression_of_type, sequence_faults, statement_faults, further_statement_faults, report_on_assignment_target, target_type_from_meaning, target_name_type}
-use Rattle.ob0_types_check.specs.TypeFaults.{operand_value, report_on_constant_expression, type_from_meaning, type_named_by_token}
+use Rattle.ob0_types_check.specs.OperandFaults.{non_constant_name_operand, number_operand, check_sum, check_negation, element_type_from_form, element_operand, fault_at_token, operand_in_parentheses, field_type_from_form, field_operand, field_type_or_fault, check_product, name_operand, operand_from_meaning, operand_with_selector, check_relation, require_type, without_fault, check_sign, next_token_index, previous_token_index, ◌>>=◌}
+use Rattle.ob0_types_check.specs.StatementFaults.{call_faults_from_meaning, require_type_of_argument, faults_of_argument, faults_of_arguments, assignment_faults, call_faults, else_faults, elsif_faults, untyped_argument_faults, faults_of_expression_of_type, sequence_faults, statement_faults, further_statement_faults, report_on_assignment_target, check_assigned_meaning, check_assigned_name}
+use Rattle.ob0_types_check.specs.TypeFaults.{require_constant_value, report_on_constant_expression, type_from_meaning, check_type_name}
 
 -- returns the facts at a place, given the meaning of each declaration
 abbrev pub facts_over : {T : Type 0} → TextWithTokens → List (Option ℕ) → Types T → (ℕ → Option (Meaning T)) → Bool → Facts T
@@ -71,7 +72,7 @@ module _ (old new : TextWithTokens) (os ns : List (Option ℕ)) (P : ℕ → Typ
 
     -- ---- operations
 
-    signed_same : (s : Option Sign) (o : Operand T) → signed_operand fo s o ≡ signed_operand fn s o
+    signed_same : (s : Option Sign) (o : Operand T) → check_sign fo s o ≡ check_sign fn s o
     signed_same None o = refl
     signed_same (Some s) o = refl
 
@@ -120,27 +121,27 @@ module _ (old new : TextWithTokens) (os ns : List (Option ℕ)) (P : ℕ → Typ
 
       pub expression_same : (e : Tree ℕ expression) → Each e → report_on_expression fo e ≡ report_on_expression fn e
       expression_same (compares a none) h = simple_same a h.0
-      expression_same (compares a (one (relates r b))) h = λ i. simple_same a h.0 i >>= (λ x. simple_same b h.1 i >>= (λ y. relate_operands fo r x y))
+      expression_same (compares a (one (relates r b))) h = λ i. simple_same a h.0 i >>= (λ x. simple_same b h.1 i >>= (λ y. check_relation fo r x y))
 
       simple_same : (e : Tree ℕ simple) → Each e → report_on_simple_expression fo e ≡ report_on_simple_expression fn e
       simple_same (sum s t rest) h = λ i. term_same t h.0 i >>= (λ x. signed_same s x i >>= (λ y. addends_same y rest h.1 i))
 
       addends_same : (x : Operand T) (rest : Tree ℕ (items addend)) → Each rest → report_on_addends fo x rest ≡ report_on_addends fn x rest
       addends_same x end h = refl
-      addends_same x (more (adds o t) rest) h = λ i. term_same t h.0 i >>= (λ y. add_operands fo o x y >>= (λ z. addends_same z rest h.1 i))
+      addends_same x (more (adds o t) rest) h = λ i. term_same t h.0 i >>= (λ y. check_sum fo o x y >>= (λ z. addends_same z rest h.1 i))
 
       term_same : (t : Tree ℕ term) → Each t → report_on_term fo t ≡ report_on_term fn t
       term_same (product f rest) h = λ i. factor_same f h.0 i >>= (λ x. multipliers_same x rest h.1 i)
 
       multipliers_same : (x : Operand T) (rest : Tree ℕ (items multiplier)) → Each rest → report_on_multipliers fo x rest ≡ report_on_multipliers fn x rest
       multipliers_same x end h = refl
-      multipliers_same x (more (multiplies o f) rest) h = λ i. factor_same f h.0 i >>= (λ y. multiply_operands fo o x y >>= (λ z. multipliers_same z rest h.1 i))
+      multipliers_same x (more (multiplies o f) rest) h = λ i. factor_same f h.0 i >>= (λ y. check_product fo o x y >>= (λ z. multipliers_same z rest h.1 i))
 
       factor_same : (f : Tree ℕ factor) → Each f → report_on_factor fo f ≡ report_on_factor fn f
       factor_same (designator x path) h = λ i. named_same x h.0 i >>= (λ base. selectors_same base path h.1 i)
       factor_same (integer n) h = λ i. without_fault (number_same n h i)
       factor_same (parenthesised e) h = λ i. expression_same e h i >>= (λ x. without_fault (enclosed_same x i))
-      factor_same (negation f) h = λ i. factor_same f h i >>= (λ x. negated_operand fo x)
+      factor_same (negation f) h = λ i. factor_same f h i >>= (λ x. check_negation fo x)
 
       pub selectors_same : (x : Operand T) (path : Tree ℕ (items selector)) → Each path → report_on_selectors fo x path ≡ report_on_selectors fn x path
       selectors_same x end h = refl
@@ -151,7 +152,7 @@ module _ (old new : TextWithTokens) (os ns : List (Option ℕ)) (P : ℕ → Typ
 
     pub constant_same : (e : Tree ℕ expression) → Each e → report_on_constant_expression fo e ≡ report_on_constant_expression fn e
     unfolding report_on_constant_expression
-    constant_same e h = λ i. expression_same e h i >>= (λ o. operand_value fo o)
+    constant_same e h = λ i. expression_same e h i >>= (λ o. require_constant_value fo o)
 
     type_same : (token : ℕ) (m : Option (Meaning T)) → type_from_meaning fo token m ≡ type_from_meaning fn token m
     type_same token (Some (a_type t)) = refl
@@ -160,7 +161,7 @@ module _ (old new : TextWithTokens) (os ns : List (Option ℕ)) (P : ℕ → Typ
     type_same token (Some (a_procedure fs)) = refl
     type_same token None = refl
 
-    pub type_named_same : (token : ℕ) → P token → type_named_by_token fo token ≡ type_named_by_token fn token
+    pub type_named_same : (token : ℕ) → P token → check_type_name fo token ≡ check_type_name fn token
     type_named_same token h = type_same token (fo.object_for token) ∙ ap (type_from_meaning fn token) (meant token h)
 
     -- ---- statements
@@ -169,19 +170,19 @@ module _ (old new : TextWithTokens) (os ns : List (Option ℕ)) (P : ℕ → Typ
     unfolding faults_of_expression_of_type
     required_there wanted e h = λ i. (expression_same e h i >>= (λ o. require_type fo wanted o)).faults
 
-    target_meant : (token : ℕ) (m : Option (Meaning T)) → target_type_from_meaning fo token m ≡ target_type_from_meaning fn token m
+    target_meant : (token : ℕ) (m : Option (Meaning T)) → check_assigned_meaning fo token m ≡ check_assigned_meaning fn token m
     target_meant token (Some (a_variable t)) = refl
     target_meant token (Some (a_constant v)) = refl
     target_meant token (Some (a_type t)) = refl
     target_meant token (Some (a_procedure fs)) = refl
     target_meant token None = refl
 
-    target_named : (x : ℕ) → P x → target_name_type fo x ≡ target_name_type fn x
-    target_named x h = target_meant x (fo.object_for x) ∙ ap (target_type_from_meaning fn x) (meant x h)
+    target_named : (x : ℕ) → P x → check_assigned_name fo x ≡ check_assigned_name fn x
+    target_named x h = target_meant x (fo.object_for x) ∙ ap (check_assigned_meaning fn x) (meant x h)
 
     target_same : (x : ℕ) (path : Tree ℕ (items selector)) → P x → Each path → report_on_assignment_target fo x path ≡ report_on_assignment_target fn x path
     unfolding report_on_assignment_target
-    target_same x path h each = λ i. target_named x h i >>= (λ t. selectors_same (typed_name_operand t x) path each i)
+    target_same x path h each = λ i. target_named x h i >>= (λ t. selectors_same (non_constant_name_operand t x) path each i)
 
     assigned_same : (x : ℕ) (path : Tree ℕ (items selector)) (e : Tree ℕ expression) → P x → Each path → Each e → assignment_faults fo (report_on_assignment_target fo x path) e ≡ assignment_faults fn (report_on_assignment_target fn x path) e
     assigned_same x path e named each h = λ i. (target_same x path named each i).faults ++ required_there (target_same x path named each i).known.of e h i

@@ -1,5 +1,5 @@
--- If the tokens of a part are alike in two texts, it has the same faults of types in both. The parts are written types,
--- declarations and bodies.
+-- If the tokens of a part are alike in two texts, it has the same type faults in both. The parts
+-- are written types, declarations and bodies.
 use Rattle.std.proofs.Common.{◌≡◌, ℕ, suc, Bool, true, false, List, [], ◌∷◌, ◌++◌, Option, Some, None, map, slice_index_or, refl, sym, ap, ◌∙◌, subst, if◌then◌else◌}
 use Rattle.std.specs.List.{filter}
 use Rattle.ob0_scan.specs.ReusedLexemes.{words_of_tokens}
@@ -21,7 +21,7 @@ use Rattle.ob0_types_check.specs.TypesAndMeanings.{Meaning, Operand, ResultWithF
 use Rattle.ob0_types_check.specs.OperandFaults.{without_fault, previous_token_index, ◌>>=◌}
 use Rattle.ob0_types_check.specs.KnownDeclarations.{CompositeParts, TypeSize, KnownDeclarations, TypeWithFollowingDeclarations, known_declarations_at_module_start, define_name_at_token, define_listed_names, facts_from_declarations, is_within_limits, append_composite, make_composite_type, of_elements, of_fields, size_of_known_type, report_on_too_large_type, known_types_representation, declarations_with_meaning}
 use Rattle.ob0_types_check.specs.TypeFaults.{length_from_operand}
-use Rattle.ob0_types_check.specs.WrittenTypeFaults.{KnownFields, made_array_type, array_size, append_field_group, no_known_fields, next_type_ordinal, made_record_type, record_size, record_keyword_token, report_on_field_group, report_on_further_field_groups, report_on_written_type, append_known_fields, append_known_field, token_before_group}
+use Rattle.ob0_types_check.specs.WrittenTypeFaults.{KnownFields, make_array_type, array_size, append_field_group, no_known_fields, next_type_ordinal, make_record_type, record_size, record_keyword_token, report_on_field_group, report_on_further_field_groups, report_on_written_type, append_known_fields, append_known_field, token_before_group}
 use Rattle.ob0_types_check.proofs.SameFaults.{Alike, Alikeness, constant_same, expression_same, goes_on, goes_on_equally, rightly, sequence_same, type_named_same}
 
 -- returns the state, or the type and the state after it, with another text
@@ -143,7 +143,7 @@ module _ (old new : TextWithTokens) (os ns : List (Option ℕ)) (P : ℕ → Typ
   made_same : (p : KnownDeclarations) (word ordinal : ℕ) (parts : CompositeParts) (size : TypeSize) → Typed (make_composite_type (so_old p) word ordinal parts size) (make_composite_type (so_new p) word ordinal parts size)
   made_same p word ordinal parts size = made_within (is_within_limits size) p word ordinal parts size
 
-  array_same : (ordinal : ℕ) (o : Operand TypeId) (n : Option ℕ) (t : TypeWithFollowingDeclarations) → Typed (made_array_type ordinal o n (typed_old t)) (made_array_type ordinal o n (typed_new t))
+  array_same : (ordinal : ℕ) (o : Operand TypeId) (n : Option ℕ) (t : TypeWithFollowingDeclarations) → Typed (make_array_type ordinal o n (typed_old t)) (make_array_type ordinal o n (typed_new t))
   array_same ordinal o None t = rightly typed_old typed_new (record { of = type.Unknown; following = t.following })
   array_same ordinal o (Some n) t = made_same t.following (previous_token_index o.first) ordinal (of_elements n t.of) (array_size n (size_of_known_type t.following.made t.of))
 
@@ -173,19 +173,19 @@ module _ (old new : TextWithTokens) (os ns : List (Option ℕ)) (P : ℕ → Typ
         goes_on_equally (λ t. without_fault (record { of = t; following = so_old p })) (λ t. without_fault (record { of = t; following = so_new p })) (type_named_same old new os ns P w (known_types_representation p.made) (declared_at p) false x h)
         (λ t. rightly typed_old typed_new (record { of = t; following = p }))
     written_same around p (array_type e u) h =
-        goes_on_equally (λ o. length_from_operand (facts_from_declarations (so_old p) false) o >>= (λ n. report_on_written_type (suc around) (so_old p) u >>= made_array_type (next_type_ordinal around p) o n))
-        (λ o. length_from_operand (facts_from_declarations (so_new p) false) o >>= (λ n. report_on_written_type (suc around) (so_new p) u >>= made_array_type (next_type_ordinal around p) o n))
+        goes_on_equally (λ o. length_from_operand (facts_from_declarations (so_old p) false) o >>= (λ n. report_on_written_type (suc around) (so_old p) u >>= make_array_type (next_type_ordinal around p) o n))
+        (λ o. length_from_operand (facts_from_declarations (so_new p) false) o >>= (λ n. report_on_written_type (suc around) (so_new p) u >>= make_array_type (next_type_ordinal around p) o n))
         (expression_same old new os ns P w (known_types_representation p.made) (declared_at p) true e h.0)
         (λ o.
         let lengths : length_from_operand (facts_from_declarations (so_old p) false) o ≡ length_from_operand (facts_from_declarations (so_new p) false) o = refl in
-        goes_on_equally (λ n. report_on_written_type (suc around) (so_old p) u >>= made_array_type (next_type_ordinal around p) o n) (λ n. report_on_written_type (suc around) (so_new p) u >>= made_array_type (next_type_ordinal around p) o n) lengths
-        (λ n. goes_on (made_array_type (next_type_ordinal around p) o n) (made_array_type (next_type_ordinal around p) o n) (written_same (suc around) p u h.1) (λ t. array_same (next_type_ordinal around p) o n t)))
+        goes_on_equally (λ n. report_on_written_type (suc around) (so_old p) u >>= make_array_type (next_type_ordinal around p) o n) (λ n. report_on_written_type (suc around) (so_new p) u >>= make_array_type (next_type_ordinal around p) o n) lengths
+        (λ n. goes_on (make_array_type (next_type_ordinal around p) o n) (make_array_type (next_type_ordinal around p) o n) (written_same (suc around) p u h.1) (λ t. array_same (next_type_ordinal around p) o n t)))
     written_same around p (record_type g rest) h =
-        goes_on (λ first. report_on_further_field_groups (suc around) first rest >>= made_record_type (token_before_group g (record_keyword_token rest)) (next_type_ordinal around p))
-        (λ first. report_on_further_field_groups (suc around) first rest >>= made_record_type (token_before_group g (record_keyword_token rest)) (next_type_ordinal around p))
+        goes_on (λ first. report_on_further_field_groups (suc around) first rest >>= make_record_type (token_before_group g (record_keyword_token rest)) (next_type_ordinal around p))
+        (λ first. report_on_further_field_groups (suc around) first rest >>= make_record_type (token_before_group g (record_keyword_token rest)) (next_type_ordinal around p))
         (group_same (suc around) (no_known_fields p) g h.0)
         (λ first.
-        goes_on (made_record_type (token_before_group g (record_keyword_token rest)) (next_type_ordinal around p)) (made_record_type (token_before_group g (record_keyword_token rest)) (next_type_ordinal around p)) (groups_same (suc around) first rest h.1)
+        goes_on (make_record_type (token_before_group g (record_keyword_token rest)) (next_type_ordinal around p)) (make_record_type (token_before_group g (record_keyword_token rest)) (next_type_ordinal around p)) (groups_same (suc around) first rest h.1)
         (λ all. made_same all.following (token_before_group g (record_keyword_token rest)) (next_type_ordinal around p) (of_fields all.fields) (record_size all.size)))
 
     group_same : (around : ℕ) (so_far : KnownFields) (g : Tree ℕ fields) → Each g → CodeFindsFieldsAndReports (report_on_field_group around (gathered_old so_far) g) (report_on_field_group around (gathered_new so_far) g)

@@ -9,7 +9,7 @@ use Rattle.ob0_tree.specs.Tree.{Tree, module_text}
 use Rattle.ob0_language_names.specs.Names.{Name}
 use Rattle.ob0_language_types.specs.Bindings.{declared_object}
 use Rattle.ob0_language_types.specs.Expressions as meant
-use Rattle.ob0_language_types.specs.Typing.{depth, scalars}
+use Rattle.ob0_language_types.specs.Typing.{depth, scalar_count}
 use Rattle.ob0_language_types.specs.WellTyped.{Signature, signature_of}
 use Rattle.ob0_types_table.specs.DeclarationTables.{declared_object_in, shapes_of}
 use Rattle.ob0_types_table.specs.DeclarationTableView.{AreValidEntries, IsValidEntry, RefersOnlyToFirstEntries, field_shapes, formal_parameter_view, entry_shape, faulty_shape, object_view, array_shape_or_faulty, record_shape_or_faulty, append_shapes_of_entries, type_shape}
@@ -81,12 +81,12 @@ entry_there : (known : List Shape) (m : TypeEntry) (s : Shape) → CompositeAgre
 entry_there known (made.Array a) s h =
     let (u, e, there) = h.parts in
     let same : entry_shape known (made.Array a) ≡ s = ap (array_shape a.ordinal a.length) (type_there known a.element u there) ∙ sym e in
-    (same, record { parts = made_there known a.element u there; counted = (h.scalars ∙ ap scalars (sym same), h.depth ∙ ap depth (sym same)) })
+    (same, record { parts = made_there known a.element u there; counted = (h.scalars ∙ ap scalar_count (sym same), h.depth ∙ ap depth (sym same)) })
 entry_there known (made.Record r) s h =
     let (gs, e, there) = h.parts in
     let all = fields_there known r.fields gs there in
     let same : entry_shape known (made.Record r) ≡ s = ap (record_shape r.ordinal) all.0 ∙ sym e in
-    (same, record { parts = all.1; counted = (h.scalars ∙ ap scalars (sym same), h.depth ∙ ap depth (sym same)) })
+    (same, record { parts = all.1; counted = (h.scalars ∙ ap scalar_count (sym same), h.depth ∙ ap depth (sym same)) })
 
 entries_there : (known : List Shape) (ms : List TypeEntry) (ss : List Shape) → EntriesAgreeWithShapes known (map composite_type_of ms) ss → AreValidEntries known ms × (append_shapes_of_entries known ms ≡ known ++ ss)
 entries_there known [] [] h = (tt, sym (append-nil known))
@@ -115,7 +115,7 @@ procedure_there (Some (meant.a_procedure g)) signature own e = ap (λ z. Some (m
 procedure_there (Some (meant.a_standard_procedure p)) signature own e = absurd (cc)
 
 object_there : (shapes : List Shape) (m : Meaning) (o : Option (meant.Object Shape Signature)) → MeaningAgreesWithObject (shape_of_type_in shapes) (meaning_view m) o → is_standard_procedure o ≡ false → object_view shapes (table_object_of_meaning m) ≡ o
-object_there shapes (declared.Named t) o (s, there, is) own = ap (λ z. Some (meant.a_type z)) (type_there shapes t s there) ∙ sym is
+object_there shapes (declared.TypeName t) o (s, there, is) own = ap (λ z. Some (meant.a_type z)) (type_there shapes t s there) ∙ sym is
 object_there shapes (declared.Constant (Some v)) o (w, there, is, scalar) own = ap (λ z. Some (meant.a_constant z)) (some-same _ w there) ∙ sym is
 object_there shapes (declared.Constant None) o (w, there, is, scalar) own = absurd (cc)
 object_there shapes (declared.Variable t) o (s, there, is) own = ap (λ z. Some (meant.a_variable z)) (type_there shapes t s there) ∙ sym is

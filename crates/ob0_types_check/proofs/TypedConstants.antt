@@ -3,7 +3,7 @@ use Rattle.std.proofs.Common.{◌≡◌, ℕ, Bool, true, false, zero, suc, pos,
 use Rattle.ob0_tree.specs.declared.tree.Role.TheVariants as role
 use Rattle.ob0_tree.specs.TokenIndexLeaves.{token_value_at}
 use Rattle.ob0_tree.specs.Tree.{Tree, expression, identifiers, mapped_tree}
-use Rattle.ob0_language_types.specs.Expressions.{Meanings, evaluate}
+use Rattle.ob0_language_types.specs.Expressions.{Meanings, evaluate_expression}
 use Rattle.ob0_language_types.specs.Typing.{array_length_from_value, constant_expression_value, meanings_in_constant_expressions, outcome_value, type_of_expression, value_type}
 use Rattle.ob0_language_types.specs.WellTyped.{Signature, TypeMeanings}
 use Rattle.ob0_language_values.specs.Values.{Shape, Value, elements, integer_shape, members, number, truth}
@@ -11,9 +11,9 @@ use Rattle.ob0_types_check.specs.ExpressionFaults.{report_on_expression}
 use Rattle.ob0_types_check.specs.TypesAndMeanings.{Facts, Operand}
 use Rattle.ob0_types_check.specs.OperandFaults.{require_type, without_fault}
 use Rattle.ob0_types_check.specs.KnownDeclarations.{facts_from_declarations}
-use Rattle.ob0_types_check.specs.TypeFaults.{operand_value, length_or_fault, length_from_value, length_from_operand, report_on_constant_expression, value_or_fault}
+use Rattle.ob0_types_check.specs.TypeFaults.{require_constant_value, length_or_fault, length_from_value, length_from_operand, report_on_constant_expression, value_or_fault}
 use Rattle.ob0_types_check.specs.Agreement.{FactsAgreeWithShapesAndLabels, shape_of_type_in}
-use Rattle.ob0_types_check.specs.WellTypedLaws.{ConstantsWithValuesHaveNoFault, TypedExpressionsHaveNoFault, ValidLengthsHaveNoFault}
+use Rattle.ob0_types_check.specs.WellTypedLaws.{ConstantsWithValuesHaveNoFault, WellTypedExpressionsHaveNoFault, ValidLengthsHaveNoFault}
 use Rattle.ob0_types_check.proofs.FittingExpressions.{FitsExpression, expression-fits}
 use Rattle.ob0_types_check.proofs.FittingNames.{only-tokens, tokens-fit}
 use Rattle.ob0_types_check.proofs.Proved.{constants-again}
@@ -52,16 +52,16 @@ module _ {T N : Type 0} (facts : Facts T) (shape : T → Option Shape) (apart : 
   unfolding constant_expression_value
   value-known only v h =
       let among : Meanings N Shape (Unit {0}) = meanings_in_constant_expressions {W = Shape} {Q = Unit {0}} meaning in
-      let (s, hs, given) = and-then (λ s. outcome_value (evaluate {P = Unit {0}} (meanings_in_constant_expressions meaning) [] here)) (type_of_expression {P = Unit {0}} (meanings_in_constant_expressions meaning) here) v h in
+      let (s, hs, given) = and-then (λ s. outcome_value (evaluate_expression {P = Unit {0}} (meanings_in_constant_expressions meaning) [] here)) (type_of_expression {P = Unit {0}} (meanings_in_constant_expressions meaning) here) v h in
       let none = constant-right (Unit {0}) only s hs in
       let fe : FitsExpression facts shape agrees.types label among e
       = expression-fits facts shape agrees.types label among e (only-tokens facts shape agrees.types label meaning _ only (identifiers role.DeclaringName e) agrees.tokens) none in
-      let value : (report_on_expression facts e).known.value ≡ Some v = fe.value_agrees ∙ (ap (λ m. outcome_value (evaluate {P = Unit {0}} m [] here)) (constants-again meaning) ∙ given) in
+      let value : (report_on_expression facts e).known.value ≡ Some v = fe.value_agrees ∙ (ap (λ m. outcome_value (evaluate_expression {P = Unit {0}} m [] here)) (constants-again meaning) ∙ given) in
       record { none = none; of = fe.of; known = fe.known; value = value; scalar = fe.scalar v value }
 
-operand_value-right : {T : Type 0} (o : Operand T) (b : Bool) (c : Option Value) (v : Value) → c ≡ Some v → (if b then without_fault None else value_or_fault o c).faults ≡ []
-operand_value-right o true c v h = refl
-operand_value-right o false c v h = ap (λ c. (value_or_fault o c).faults) h
+require_constant_value-right : {T : Type 0} (o : Operand T) (b : Bool) (c : Option Value) (v : Value) → c ≡ Some v → (if b then without_fault None else value_or_fault o c).faults ≡ []
+require_constant_value-right o true c v h = refl
+require_constant_value-right o false c v h = ap (λ c. (value_or_fault o c).faults) h
 
 bounds-right : {T : Type 0} (o : Operand T) (b : Bool) (c : Option Value) (v : Value) (n : ℕ) → c ≡ Some v → array_length_from_value v ≡ Some n → (if b then length_from_value o c else without_fault None).faults ≡ []
 bounds-right o true c v n h k = ap (λ c. (length_from_value o c).faults) h ∙ ap (λ m. (length_or_fault o m).faults) k
@@ -75,11 +75,11 @@ length-integer (truth b) n s h k = absurd (cc)
 length-integer (elements vs) n s h k = absurd (cc)
 length-integer (members j ms) n s h k = absurd (cc)
 
-pub typed_expressions_have_no_fault-holds : {N : Type 0} → TypedExpressionsHaveNoFault N
-typed_expressions_have_no_fault-holds p true shapes label meaning e agrees h =
+pub well_typed_expressions_have_no_fault-holds : {N : Type 0} → WellTypedExpressionsHaveNoFault N
+well_typed_expressions_have_no_fault-holds p true shapes label meaning e agrees h =
     let (s, hs) = is-there (type_of_expression (meanings_in_constant_expressions meaning) (mapped_tree label (token_value_at p.source) e)) h in
     constant-right (facts_from_declarations p true) (shape_of_type_in shapes) (types-apart p.made shapes) label meaning e agrees Signature refl s hs
-typed_expressions_have_no_fault-holds p false shapes label meaning e agrees h =
+well_typed_expressions_have_no_fault-holds p false shapes label meaning e agrees h =
     let (s, hs) = is-there (type_of_expression meaning (mapped_tree label (token_value_at p.source) e)) h in
     typed-right (facts_from_declarations p false) (shape_of_type_in shapes) (types-apart p.made shapes) label meaning e agrees refl s hs
 
@@ -90,7 +90,7 @@ constants_with_values_have_no_fault-holds p shapes label meaning e agrees h =
     let (v, hv) = is-there (constant_expression_value meaning (mapped_tree label (token_value_at p.source) e)) h in
     let c = value-known facts (shape_of_type_in shapes) (types-apart p.made shapes) label meaning e agrees refl v hv in
     let o : Operand _ = (report_on_expression facts e).known in
-    none-of-both (report_on_expression facts e).faults (operand_value facts o).faults c.none (operand_value-right o (facts.types.same o.of facts.types.unknown) o.value v c.value)
+    none-of-both (report_on_expression facts e).faults (require_constant_value facts o).faults c.none (require_constant_value-right o (facts.types.same o.of facts.types.unknown) o.value v c.value)
 
 pub valid_lengths_have_no_fault-holds : {N : Type 0} → ValidLengthsHaveNoFault N
 valid_lengths_have_no_fault-holds p shapes label meaning e agrees h =

@@ -1,4 +1,4 @@
--- No fault is reported for declarations that give an environment.
+-- No fault is reported for declarations for which the definitions return an environment.
 use Rattle.std.proofs.Common.{length, arith, ◌≡◌, ℕ, suc, ◌+◌, true, false, List, [], ◌∷◌, ◌++◌, map, Option, Some, option_and_then, is_some, refl, sym, ap, ◌∙◌, le_refl}
 use Rattle.ob0_tree.specs.TokenIndexLeaves.{tree_with_names, token_text_at, token_value_at}
 use Rattle.ob0_tree.specs.Tree.{Tree, begins, body, constant, declares_constant, declares_type, declares_variable, end, section_after_semicolon, items, mapped_tree, maybe, more, none, one, semicolon_then_section, type_definition, value_section, variable, variable_section}

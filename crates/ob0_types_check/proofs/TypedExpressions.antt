@@ -11,7 +11,7 @@ use Rattle.ob0_language_types.specs.Typing.{addition_type, negation_type, elemen
 use Rattle.ob0_language_values.specs.Values.{Shape, Value}
 use Rattle.ob0_types_check.specs.ExpressionFaults.{report_on_addends, report_on_expression, report_on_factor, report_on_multipliers, report_on_selectors, report_on_simple_expression, report_on_term}
 use Rattle.ob0_types_check.specs.TypesAndMeanings.{Facts, Operand}
-use Rattle.ob0_types_check.specs.OperandFaults.{add_operands, element_operand, field_operand, multiply_operands, name_operand, signed_operand}
+use Rattle.ob0_types_check.specs.OperandFaults.{check_sum, element_operand, field_operand, check_product, name_operand, check_sign}
 use Rattle.ob0_types_check.specs.Agreement.{TypesAgreeWithShapes}
 use Rattle.ob0_types_check.proofs.FittingExpressions.{Fits, FitsExpression, FitsFactor, FitsSimple, FitsTerm, NameFits, TokensFit, expression-fits, factor-fits, simple-fits, split-tokens, term-fits}
 use Rattle.ob0_types_check.proofs.Operands.{added-fits, element-fits, field-fits, multiplied-fits, apply_sign-fits}
@@ -83,7 +83,7 @@ module _ {T N P : Type 0} (facts : Facts T) (shape : T → Option Shape) (types 
         let mid = apply_sign-right facts shape types apart g (report_on_term facts t).known u v hv ht in
         let (w, known, typed, keeps) = apply_sign-fits facts shape types g (report_on_term facts t).known u ht mid in
         none-of-both (report_on_term facts t).faults _ left
-        (none-of-both (signed_operand facts g (report_on_term facts t).known).faults _ mid (addends-right (signed_operand facts g (report_on_term facts t).known).known v rest (known ∙ (sym typed ∙ hv)) parts.1 s last))
+        (none-of-both (check_sign facts g (report_on_term facts t).known).faults _ mid (addends-right (check_sign facts g (report_on_term facts t).known).known v rest (known ∙ (sym typed ∙ hv)) parts.1 s last))
 
     addends-right : (x : Operand T) (s : Shape) (rest : Tree ℕ (items addend)) → shape x.of ≡ Some s → AllTyped rest → (r : Shape) → type_after_addends meaning s (tree rest) ≡ Some r → (report_on_addends facts x rest).faults ≡ []
     addends-right x s end hx k r h = refl
@@ -97,7 +97,7 @@ module _ {T N P : Type 0} (facts : Facts T) (shape : T → Option Shape) (types 
         let mid = added-right facts shape types apart o x (report_on_term facts t).known s v z hz hx ht in
         let (w, known, typed, keeps) = added-fits facts shape types o x (report_on_term facts t).known s v hx ht mid in
         none-of-both (report_on_term facts t).faults _ left
-        (none-of-both (add_operands facts o x (report_on_term facts t).known).faults _ mid (addends-right (add_operands facts o x (report_on_term facts t).known).known z rest (known ∙ (sym typed ∙ hz)) parts.1 r last))
+        (none-of-both (check_sum facts o x (report_on_term facts t).known).faults _ mid (addends-right (check_sum facts o x (report_on_term facts t).known).known z rest (known ∙ (sym typed ∙ hz)) parts.1 r last))
 
     term-right : (t : Tree ℕ term) → AllTyped t → (s : Shape) → type_of_term meaning (tree t) ≡ Some s → (report_on_term facts t).faults ≡ []
     term-right (product f rest) k s h =
@@ -119,7 +119,7 @@ module _ {T N P : Type 0} (facts : Facts T) (shape : T → Option Shape) (types 
         let mid = multiplied-right facts shape types apart o x (report_on_factor facts f).known s v z hz hx hf in
         let (w, known, typed, keeps) = multiplied-fits facts shape types o x (report_on_factor facts f).known s v hx hf mid in
         none-of-both (report_on_factor facts f).faults _ left
-        (none-of-both (multiply_operands facts o x (report_on_factor facts f).known).faults _ mid (multipliers-right (multiply_operands facts o x (report_on_factor facts f).known).known z rest (known ∙ (sym typed ∙ hz)) parts.1 r last))
+        (none-of-both (check_product facts o x (report_on_factor facts f).known).faults _ mid (multipliers-right (check_product facts o x (report_on_factor facts f).known).known z rest (known ∙ (sym typed ∙ hz)) parts.1 r last))
 
     factor-right : (f : Tree ℕ factor) → AllTyped f → (s : Shape) → type_of_factor meaning (tree f) ≡ Some s → (report_on_factor facts f).faults ≡ []
     factor-right (designator x path) (k, n) s h =

@@ -11,7 +11,7 @@ use Rattle.ob0_types_table.specs.declared.types.TypeId.{TypeId}
 use Rattle.ob0_types_table.specs.declared.types.TypeId.TheVariants as type
 use Rattle.ob0_language_values.specs.Values.{Shape, array_shape, boolean_shape, integer_shape, record_shape}
 use Rattle.ob0_types_check.specs.TypesAndMeanings.{Facts, Meaning, a_constant, a_procedure, a_scalar, a_type, a_variable}
-use Rattle.ob0_types_check.specs.OperandFaults.{typed_name_operand, fault_at_token, operand_from_meaning, without_fault}
+use Rattle.ob0_types_check.specs.OperandFaults.{non_constant_name_operand, fault_at_token, operand_from_meaning, without_fault}
 use Rattle.ob0_types_check.specs.Agreement.{IsKnownAndAgreesWithObject, TokenAgreesWithLabel, TokensAgreeWithLabels, shape_if_array, shape_if_record, shape_of_type_in}
 use Rattle.ob0_types_check.specs.KnownDeclarations.{CompositeType, form_of_known_type, known_types_representation}
 use Rattle.ob0_types_check.proofs.TypedExpressions.{NameTyped, NamesTyped}
@@ -73,7 +73,7 @@ module _ {T : Type 0} (facts : Facts T) (shape : T → Option Shape) where
   no-procedure (Some (meant.a_procedure p)) signature s e h = some-none s (sym h)
   no-procedure (Some (meant.a_standard_procedure p)) signature s e h = some-none s (sym h)
 
-  variable-named : (x : ℕ) (t : T) (b : Bool) → b ≡ false → (if b then record { known = typed_name_operand facts.types.unknown x; faults = fault_at_token code.NotConstant x } else without_fault (typed_name_operand t x)).faults ≡ []
+  variable-named : (x : ℕ) (t : T) (b : Bool) → b ≡ false → (if b then record { known = non_constant_name_operand facts.types.unknown x; faults = fault_at_token code.NotConstant x } else without_fault (non_constant_name_operand t x)).faults ≡ []
   variable-named x t true e = absurd (true≢false e)
   variable-named x t false e = refl
 

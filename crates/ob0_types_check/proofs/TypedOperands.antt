@@ -1,6 +1,7 @@
--- No fault is reported for operations on operands of the right types. The proofs need two facts about types
--- (`TypesApart`). INTEGER and BOOLEAN differ from all others, and a type with the form of a scalar is one of them. If
--- two steps give a result, each of them does (`and-then`).
+-- No fault is reported for operations on operands of the right types. The proofs need two facts
+-- about types (`TypesApart`). Only INTEGER and BOOLEAN have their shapes, and a type with the form
+-- of a scalar has no array's or record's shape. If two steps give a result, each of them does
+-- (`and-then`).
 use Rattle.std.proofs.Common.{◌≡◌, ℕ, true, ◌||◌, List, [], ◌++◌, if◌then◌else◌, Option, Some, None, option_map, option_and_then, refl, sym, ap, ◌∙◌}
 use Rattle.ob0_scan.specs.declared.fault.FaultCode.TheVariants as code
 use Rattle.ob0_tree.specs.declared.tree.AddOperator.{AddOperator}
@@ -16,7 +17,7 @@ use Rattle.ob0_scope_table.specs.declared.faults.FaultAtTokens.{FaultAtTokens}
 use Rattle.ob0_language_types.specs.Typing.{addition_type, negation_type, element_type, field_type, multiplication_type, relation_type, named_field_shape, signed_operand_type}
 use Rattle.ob0_language_values.specs.Values.{Shape, array_shape, boolean_shape, integer_shape, record_shape}
 use Rattle.ob0_types_check.specs.TypesAndMeanings.{Facts, TypeForm, Operand, ResultWithFaults, Types, a_record, a_scalar, an_array, unknown_form}
-use Rattle.ob0_types_check.specs.OperandFaults.{add_operands, require_type, require_type_of_both_operands, fault_at_operand, negated_operand, element_type_from_form, element_operand, field_type_from_form, field_operand, may_be_same_type, field_type_or_fault, multiply_operands, relate_operands, signed_operand, operand_type_of_addition, operand_type_of_equality, operand_type_of_multiplication, operand_type_of_relation}
+use Rattle.ob0_types_check.specs.OperandFaults.{check_sum, require_type, require_type_of_both_operands, fault_at_operand, check_negation, element_type_from_form, element_operand, field_type_from_form, field_operand, may_be_same_type, field_type_or_fault, check_product, check_relation, check_sign, operand_type_of_addition, operand_type_of_equality, operand_type_of_multiplication, operand_type_of_relation}
 use Rattle.ob0_types_check.specs.Agreement.{FormAgreesWithShape, TypesAgreeWithShapes, shape_if_array, shape_if_record}
 use Rattle.ob0_types_check.proofs.Unreported.{not-true, some-none}
 
@@ -104,17 +105,17 @@ module _ {T : Type 0} (facts : Facts T) (shape : T → Option Shape) (types : Ty
   relation-require_type relation.NotEqual boolean_shape boolean_shape w e a b p q = of-truths a b p q
   relation-require_type _ _ _ w e a b p q = absurd (cc)
 
-  pub added-right : (o : AddOperator) (a b : Operand T) (s t w : Shape) → addition_type o s t ≡ Some w → shape a.of ≡ Some s → shape b.of ≡ Some t → (add_operands facts o a b).faults ≡ []
+  pub added-right : (o : AddOperator) (a b : Operand T) (s t w : Shape) → addition_type o s t ≡ Some w → shape a.of ≡ Some s → shape b.of ≡ Some t → (check_sum facts o a b).faults ≡ []
   added-right o a b s t w e p q =
       let both = add-require_type o s t w e a.of b.of p q in
       none-of-both (require_type_of_both_operands facts (operand_type_of_addition facts.types o) a b).faults [] (both-right (operand_type_of_addition facts.types o) a b both.0 both.1) refl
 
-  pub multiplied-right : (o : MultiplyOperator) (a b : Operand T) (s t w : Shape) → multiplication_type o s t ≡ Some w → shape a.of ≡ Some s → shape b.of ≡ Some t → (multiply_operands facts o a b).faults ≡ []
+  pub multiplied-right : (o : MultiplyOperator) (a b : Operand T) (s t w : Shape) → multiplication_type o s t ≡ Some w → shape a.of ≡ Some s → shape b.of ≡ Some t → (check_product facts o a b).faults ≡ []
   multiplied-right o a b s t w e p q =
       let both = multiply-require_type o s t w e a.of b.of p q in
       none-of-both (require_type_of_both_operands facts (operand_type_of_multiplication facts.types o) a b).faults [] (both-right (operand_type_of_multiplication facts.types o) a b both.0 both.1) refl
 
-  pub related-right : (r : Relation) (a b : Operand T) (s t w : Shape) → relation_type r s t ≡ Some w → shape a.of ≡ Some s → shape b.of ≡ Some t → (relate_operands facts r a b).faults ≡ []
+  pub related-right : (r : Relation) (a b : Operand T) (s t w : Shape) → relation_type r s t ≡ Some w → shape a.of ≡ Some s → shape b.of ≡ Some t → (check_relation facts r a b).faults ≡ []
   related-right r a b s t w e p q =
       let both = relation-require_type r s t w e a.of b.of p q in
       none-of-both (require_type_of_both_operands facts (operand_type_of_relation facts.types r a.of) a b).faults [] (both-right (operand_type_of_relation facts.types r a.of) a b both.0 both.1) refl
@@ -124,7 +125,7 @@ module _ {T : Type 0} (facts : Facts T) (shape : T → Option Shape) (types : Ty
   sign-require_type sign.Minus integer_shape w e = refl
   sign-require_type _ _ w e = absurd (cc)
 
-  pub apply_sign-right : (g : Option Sign) (o : Operand T) (s w : Shape) → signed_operand_type g s ≡ Some w → shape o.of ≡ Some s → (signed_operand facts g o).faults ≡ []
+  pub apply_sign-right : (g : Option Sign) (o : Operand T) (s w : Shape) → signed_operand_type g s ≡ Some w → shape o.of ≡ Some s → (check_sign facts g o).faults ≡ []
   apply_sign-right None o s w e h = refl
   apply_sign-right (Some g) o s w e h =
       none-of-both (require_type facts facts.types.integer o).faults [] (require_type-right facts.types.integer o (apart.integer o.of (h ∙ ap Some (sign-require_type g s w e)))) refl
@@ -133,7 +134,7 @@ module _ {T : Type 0} (facts : Facts T) (shape : T → Option Shape) (types : Ty
   value_of_negation-require_type boolean_shape w e = refl
   value_of_negation-require_type _ w e = absurd (cc)
 
-  pub complemented-right : (o : Operand T) (s w : Shape) → negation_type s ≡ Some w → shape o.of ≡ Some s → (negated_operand facts o).faults ≡ []
+  pub complemented-right : (o : Operand T) (s w : Shape) → negation_type s ≡ Some w → shape o.of ≡ Some s → (check_negation facts o).faults ≡ []
   complemented-right o s w e h =
       none-of-both (require_type facts facts.types.boolean o).faults [] (require_type-right facts.types.boolean o (apart.boolean o.of (h ∙ ap Some (value_of_negation-require_type s w e)))) refl
 

@@ -19,7 +19,7 @@ use Rattle.ob0_language_values.specs.Values.{Shape, array_shape, boolean_shape, 
 use Rattle.ob0_types_check.specs.ExpressionFaults.{report_on_expression}
 use Rattle.ob0_types_check.specs.TypesAndMeanings.{Facts, Meaning, Operand, a_constant, a_procedure, a_type, a_variable}
 use Rattle.ob0_types_check.specs.TypesAndMeanings as known
-use Rattle.ob0_types_check.specs.OperandFaults.{typed_name_operand, fault_at_operand, fault_at_token, name_operand, operand_from_meaning, require_type, without_fault}
+use Rattle.ob0_types_check.specs.OperandFaults.{non_constant_name_operand, fault_at_operand, fault_at_token, name_operand, operand_from_meaning, require_type, without_fault}
 use Rattle.ob0_types_check.specs.KnownDeclarations.{CompositeType, facts_from_declarations, known_types_representation}
 use Rattle.ob0_types_check.specs.StatementFaults.{call_faults_from_meaning, require_type_of_argument, faults_of_argument, faults_of_arguments, faults_of_expression_of_type, assignment_faults, call_faults, condition_faults, else_faults, elsif_faults, sequence_faults, statement_faults, further_statement_faults, report_on_assignment_target}
 use Rattle.ob0_types_check.specs.Agreement.{FormalsAgreeWithSignature, IsKnownAndAgreesWithObject, TokensAgreeWithLabels, TypesAgreeWithShapes, shape_if_array, shape_if_record, shape_of_type_in}
@@ -67,7 +67,7 @@ module _ {T N : Type 0} (facts : Facts T) (shape : T → Option Shape) (types : 
 
   -- No fault is reported for a well-typed call.
 
-  variable-place : (x : ℕ) (t : T) (b : Bool) → (if b then record { known = typed_name_operand facts.types.unknown x; faults = fault_at_token code.NotConstant x } else without_fault (typed_name_operand t x)).known.may_be_variable ≡ true
+  variable-place : (x : ℕ) (t : T) (b : Bool) → (if b then record { known = non_constant_name_operand facts.types.unknown x; faults = fault_at_token code.NotConstant x } else without_fault (non_constant_name_operand t x)).known.may_be_variable ≡ true
   variable-place x t true = refl
   variable-place x t false = refl
 

@@ -12,12 +12,12 @@ use Rattle.ob0_language_types.specs.WellTyped.{Signature, TypeMeanings, signatur
 use Rattle.ob0_language_values.specs.Values.{Shape}
 use Rattle.ob0_types_check.specs.ExpressionFaults.{report_on_expression, report_on_selectors}
 use Rattle.ob0_types_check.specs.TypesAndMeanings.{Facts, Meaning, Operand, a_constant, a_procedure, a_type, a_variable}
-use Rattle.ob0_types_check.specs.OperandFaults.{typed_name_operand}
+use Rattle.ob0_types_check.specs.OperandFaults.{non_constant_name_operand}
 use Rattle.ob0_types_check.specs.KnownDeclarations.{facts_from_declarations}
-use Rattle.ob0_types_check.specs.StatementFaults.{target_name_type, target_type_from_meaning, report_on_assignment_target}
+use Rattle.ob0_types_check.specs.StatementFaults.{check_assigned_name, check_assigned_meaning, report_on_assignment_target}
 use Rattle.ob0_types_check.specs.Agreement.{IsKnownAndAgreesWithObject, TokensAgreeWithLabels, TypesAgreeWithShapes, shape_of_type_in}
 use Rattle.ob0_types_check.specs.ReportLaws.{OperandAgreesWithExpression}
-use Rattle.ob0_types_check.specs.WellTypedLaws.{TypedTargetsHaveNoFault}
+use Rattle.ob0_types_check.specs.WellTypedLaws.{WellTypedTargetsHaveNoFault}
 use Rattle.ob0_types_check.proofs.FittingExpressions.{FitsSelectors, selectors-fit}
 use Rattle.ob0_types_check.proofs.FittingNames.{tokens-fit}
 use Rattle.ob0_types_check.proofs.FittingStatements.{known-operand}
@@ -62,7 +62,7 @@ module _ {T N : Type 0} (facts : Facts T) (shape : T → Option Shape) (types : 
   pub no-signature : {A : Type 0} (o : Option (Object Shape Signature)) (v : Shape) (signature : Signature) → o ≡ Some (meant.a_variable v) → signature_of o ≡ Some signature → A
   no-signature o v signature e h = absurd (some-none signature (sym h ∙ ap signature_of e))
 
-  assigned-right : (x : ℕ) (m : Option (Meaning T)) (o : Option (Object Shape Signature)) (v : Shape) → IsKnownAndAgreesWithObject shape m o → o ≡ Some (meant.a_variable v) → ((target_type_from_meaning facts x m).faults ≡ []) × (shape (target_type_from_meaning facts x m).known ≡ Some v)
+  assigned-right : (x : ℕ) (m : Option (Meaning T)) (o : Option (Object Shape Signature)) (v : Shape) → IsKnownAndAgreesWithObject shape m o → o ≡ Some (meant.a_variable v) → ((check_assigned_meaning facts x m).faults ≡ []) × (shape (check_assigned_meaning facts x m).known ≡ Some v)
   assigned-right x None o v a e = absurd a
   assigned-right x (Some (a_type t)) o v (s, reported, holds) e = absurd (some-none v (sym (ap type_of_variable_or_constant e) ∙ ap type_of_variable_or_constant holds))
   assigned-right x (Some (a_constant c)) o v (w, reported, holds, scalar) e = let same : Some (meant.a_constant w) ≡ Some (meant.a_variable v) = sym holds ∙ e in absurd (cc)
@@ -78,15 +78,15 @@ module _ {T N : Type 0} (facts : Facts T) (shape : T → Option Shape) (types : 
   target-typed x path s k h =
       let (v, holds, typed) = variable-of (meaning.object_for (label x)) (λ v. type_after_selectors meaning v (here path)) s h in
       let a = assigned-right x (facts.object_for x) (meaning.object_for (label x)) v k.0 holds in
-      let o : Operand T = typed_name_operand (target_name_type facts x).known x in
+      let o : Operand T = non_constant_name_operand (check_assigned_name facts x).known x in
       let rest = selectors-right facts shape types apart label meaning o v path a.1 (all-typed path k.1) s typed in
       let fs : FitsSelectors facts shape types label meaning o v path = selectors-fit facts shape types label meaning o v path a.1 (tokens-fit facts shape types label meaning (ids path) k.1) rest in
       record {
-        none = none-of-both (target_name_type facts x).faults (report_on_selectors facts o path).faults a.0 rest;
+        none = none-of-both (check_assigned_name facts x).faults (report_on_selectors facts o path).faults a.0 rest;
         known = fs.known ∙ (sym fs.typed ∙ typed);
       }
 
-pub typed_targets_have_no_fault-holds : {N : Type 0} → TypedTargetsHaveNoFault N
-typed_targets_have_no_fault-holds p shapes label meaning x path agrees h =
+pub well_typed_targets_have_no_fault-holds : {N : Type 0} → WellTypedTargetsHaveNoFault N
+well_typed_targets_have_no_fault-holds p shapes label meaning x path agrees h =
     let (s, hs) = is-there (assignable_type meaning (Some (label x, mapped_tree label (token_value_at p.source) path))) h in
     (target-typed (facts_from_declarations p false) (shape_of_type_in shapes) agrees.types (types-apart p.made shapes) refl label meaning x path s agrees.tokens hs).none

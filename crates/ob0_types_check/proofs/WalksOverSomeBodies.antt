@@ -8,7 +8,7 @@ use Rattle.ob0_language_names.specs.BlockParts.{formal_parameter_sections, modul
 use Rattle.ob0_scope_table.specs.TokenProperty.{EachTokenSatisfies}
 use Rattle.ob0_scope_table.specs.Resolution.{IsResolution, Resolution, declaring_names}
 use Rattle.ob0_scope_table.specs.declared.faults.FaultAtTokens.{FaultAtTokens}
-use Rattle.ob0_types_check.specs.EqualExceptBodies.{BlockTokensHavePropertyExceptInBodies, IsSameTokenAt, EachTokenOfProcedureHasExceptInBodies, ProcedureTokensHavePropertyExceptInBodies, HoldsUnless}
+use Rattle.ob0_types_check.specs.EqualExceptBodies.{HoldsOutsideBodiesOfBlock, IsSameTokenAt, HoldsOutsideBodiesOfProcedure, HoldsOutsideBodiesOfProcedures, HoldsUnless}
 use Rattle.ob0_types_check.specs.DeclarationFaults.{KnownHeading, WalkProgress, body_faults, includes_every_body, report_body_if_wanted, report_on_block, report_on_constant_declarations, report_on_module, report_on_procedure, report_on_procedures, report_on_parameter_sections, report_on_type_declarations, report_on_variable_declarations, declarations_after_heading, walk_progress_at_module_start, append_body_if_faulty, walk_with_declarations}
 use Rattle.ob0_types_check.specs.TypesAndMeanings.{ResultWithFaults}
 use Rattle.ob0_types_check.specs.OperandFaults.{◌>>=◌}
@@ -176,7 +176,7 @@ module _ (old new : TextWithTokens) (os ns : List (Option ℕ)) (P : ℕ → Typ
   mutual
     unfolding report_on_block
 
-    block_one : (own : ℕ) (z : Both) (b : Tree ℕ block) → BlockTokensHavePropertyExceptInBodies P wanted own b → Were (report_on_block includes_every_body own (walked_before z) b).known
+    block_one : (own : ℕ) (z : Both) (b : Tree ℕ block) → HoldsOutsideBodiesOfBlock P wanted own b → Were (report_on_block includes_every_body own (walked_before z) b).known
         → With (report_on_block includes_every_body own (walked_before z) b) (report_on_block includes_every_body own (walked_now z) b) (report_on_block wanted own (walked_now z) b)
     block_one own z (forms_block (declares cs ts vs ps) a) h =
         one_then nothing_of Were (λ q. report_on_type_declarations q (section_types ts) >>= (λ r. report_on_variable_declarations r (section_variables vs) >>= (λ s. report_on_procedures includes_every_body (walk_with_declarations (walked_before z) s) ps >>= (λ t. report_body_if_wanted true own t a))))
@@ -197,7 +197,7 @@ module _ (old new : TextWithTokens) (os ns : List (Option ℕ)) (P : ℕ → Typ
         (λ t k. faulty_before wanted (body_faults t.so_far a) own t.bodies_with_faults k)
         (procedures_one (further z s) ps h.3) (λ y. body_with own y a h.4))))
 
-    procedures_one : (z : Both) (ps : Tree ℕ (items procedure)) → ProcedureTokensHavePropertyExceptInBodies P wanted ps → Were (report_on_procedures includes_every_body (walked_before z) ps).known
+    procedures_one : (z : Both) (ps : Tree ℕ (items procedure)) → HoldsOutsideBodiesOfProcedures P wanted ps → Were (report_on_procedures includes_every_body (walked_before z) ps).known
         → With (report_on_procedures includes_every_body (walked_before z) ps) (report_on_procedures includes_every_body (walked_now z) ps) (report_on_procedures wanted (walked_now z) ps)
     procedures_one z end h were = record { value = z; before = refl; after = refl; same = refl }
     procedures_one z (more d rest) h were =
@@ -205,7 +205,7 @@ module _ (old new : TextWithTokens) (os ns : List (Option ℕ)) (P : ℕ → Typ
         (λ v k. before_procedures wanted v rest k)
         (procedure_one z d h.0) (λ y. procedures_one y rest h.1) were
 
-    procedure_one : (z : Both) (d : Tree ℕ (item procedure)) → EachTokenOfProcedureHasExceptInBodies P wanted d → Were (report_on_procedure includes_every_body (walked_before z) d).known
+    procedure_one : (z : Both) (d : Tree ℕ (item procedure)) → HoldsOutsideBodiesOfProcedure P wanted d → Were (report_on_procedure includes_every_body (walked_before z) d).known
         → With (report_on_procedure includes_every_body (walked_before z) d) (report_on_procedure includes_every_body (walked_now z) d) (report_on_procedure wanted (walked_now z) d)
     procedure_one z (declares_procedure x fs b closing) h =
         one_then nothing_of Were (λ g. report_on_block includes_every_body closing (walk_with_declarations (walked_before z) (declarations_after_heading x g)) b) (λ g. report_on_block includes_every_body closing (walk_with_declarations (walked_now z) (declarations_after_heading x g)) b)
@@ -217,12 +217,6 @@ module _ (old new : TextWithTokens) (os ns : List (Option ℕ)) (P : ℕ → Typ
 
 abbrev pub closing_of : Tree ℕ module_text → ℕ
 closing_of (forms_module x b closing) = closing
-
--- holds if the final states in both texts come from one value
-pub record IsKnownAlike (old new : Resolution) : Type 0 where
-  pub value : KnownDeclarations
-  pub before : (report_on_module includes_every_body old).known.so_far ≡ so_over old.module_read.source old.ordinals value
-  pub after : (report_on_module includes_every_body new).known.so_far ≡ so_over new.module_read.source new.ordinals value
 
 module _ (wanted : ℕ → Bool) (r : Resolution) (is : IsResolution r) (w : IncludesChangedAndFaultyBodies wanted r) where
   abbrev old : Resolution
@@ -251,13 +245,6 @@ module _ (wanted : ℕ → Bool) (r : Resolution) (is : IsResolution r) (w : Inc
       let first : known_declarations_at_module_start r ≡ so_over r.module_read.source r.ordinals (known_declarations_at_module_start old) = ap (λ (ds : List ℕ). record { source = r.module_read.source; ordinals = r.ordinals; declared = predeclared_meanings ++ map (λ token. None) ds; made = [] }) declared in
       let own : r.module_read.closing ≡ old.module_read.closing = ap closing_of tree in
       λ i. report_on_block test (own i) (record { so_far = first i; bodies_with_faults = [] }) (module_block (tree i))
-
-  pub known_alike : IsKnownAlike old r
-  known_alike = record {
-    value = one.value.so;
-    before = ap (λ (v : WalkProgress). v.so_far) one.before;
-    after = ap (λ (t : ResultWithFaults WalkProgress). t.known.so_far) (as_read includes_every_body) ∙ ap (λ (v : WalkProgress). v.so_far) one.after;
-  }
 
 pub walking_changed_and_faulty_bodies_suffices : WalkingChangedAndFaultyBodiesSuffices
 walking_changed_and_faulty_bodies_suffices wanted r is w = as_read wanted r is w wanted ∙ (sym (one wanted r is w).same ∙ sym (as_read wanted r is w includes_every_body))

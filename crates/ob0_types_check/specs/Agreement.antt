@@ -35,8 +35,9 @@ FormAgreesWithShape shape (a_record fields) s =
 FormAgreesWithShape shape unknown_form s = ⊥
 
 -- States that types agree with the shapes that `shape` returns for them. INTEGER and BOOLEAN have
--- their own shapes, and the unknown type has none. Types that `types` calls the same have the same
--- shape. The form of a type has the parts of the type's shape.
+-- their own shapes, and the unknown type has none. Types that are the same according to
+-- `types.same` have the same shape, and INTEGER is the same as itself. If a type has a shape, its
+-- form agrees with that shape.
 pub record TypesAgreeWithShapes {T : Type 0} (types : Types T) (shape : T → Option Shape) : Type 0 where
   pub integer : shape types.integer ≡ Some integer_shape
   pub boolean : shape types.boolean ≡ Some boolean_shape
@@ -45,7 +46,8 @@ pub record TypesAgreeWithShapes {T : Type 0} (types : Types T) (shape : T → Op
   pub same : (s t : T) → types.same s t ≡ true → shape s ≡ shape t
   pub form_agrees : (t : T) (s : Shape) → shape t ≡ Some s → FormAgreesWithShape shape (types.form t) s
 
--- states that formal parameters agree one by one with the parameters of a signature, in mode and type
+-- states that formal parameters agree one by one with the parameters of a signature, in mode and
+-- type
 abbrev pub FormalsAgreeWithSignature : {T : Type 0}
     → (T → Option Shape)
     → List (KnownParameter T)
@@ -57,8 +59,9 @@ FormalsAgreeWithSignature shape (f ∷ fs) [] = ⊥
 FormalsAgreeWithSignature shape (f ∷ fs) (g ∷ gs) =
     (g.mode ≡ mode_from_flag f.by_place) × (shape f.of ≡ Some g.shape) × FormalsAgreeWithSignature shape fs gs
 
--- States that the meaning of a name agrees with the object to which the name refers. A type or variable has the
--- object's shape. A constant has the object's value, which is a scalar. A procedure has the object's parameters.
+-- States that the meaning of a name agrees with the object to which the name refers. A type or
+-- variable has the object's shape. A constant has the object's value, which is a scalar. A
+-- procedure has the object's parameters.
 abbrev pub MeaningAgreesWithObject : {T : Type 0}
     → (T → Option Shape)
     → Meaning T
@@ -98,8 +101,8 @@ abbrev pub IsKnownAndAgreesWithObject : {T : Type 0}
 IsKnownAndAgreesWithObject shape None o = ⊥
 IsKnownAndAgreesWithObject shape (Some m) o = MeaningAgreesWithObject shape m o
 
--- States that the identifier at the token `x` agrees with its label, `label x`. A label is the name
--- that replaces the identifier in another tree of the same text. The requirement depends on the
+-- States that the identifier at the token `x` agrees with its label, `label x`. The label is the
+-- name that replaces the token in another tree of the same text. The requirement depends on the
 -- identifier's role. A looked-up name must have a meaning in `facts` that agrees with the label's
 -- object. A field's label must be spelled like the token. Identifiers with other roles always
 -- agree.
@@ -155,8 +158,8 @@ shape_if_record (record_shape k fs) = Some (record_shape k fs)
 
 -- Returns the shape of a type. `shapes` has the shapes of the array and record types found so far,
 -- in the order of their indexes. The result is None for the unknown type. It is also None if
--- `shapes` has no array's shape at an array type's index, or no record's shape at a record type's
--- index.
+-- `shapes` has no entry at the type's index. The same holds if the entry isn't an array's or
+-- record's shape, as the type requires.
 abbrev pub shape_of_type_in : List Shape → TypeId → Option Shape
 shape_of_type_in shapes type.Integer = Some integer_shape
 shape_of_type_in shapes type.Boolean = Some boolean_shape
@@ -173,17 +176,18 @@ FieldsAgreeWithShapes shape (f ∷ fields) no_field_shape = ⊥
 FieldsAgreeWithShapes shape (f ∷ fields) (next_field_shape x s fs) =
     (f.name ≡ x) × (shape f.of ≡ Some s) × FieldsAgreeWithShapes shape fields fs
 
--- States that the parts of an array or record type agree with its shape. `k` is the ordinal of the type's word ARRAY or
--- RECORD: the number of such words before this one in the text.
+-- States that the parts of an array or record type agree with its shape. `k` is the type's ordinal:
+-- the number of words ARRAY and RECORD before its own in the text.
 abbrev pub PartsAgreeWithShape : (TypeId → Option Shape) → ℕ → CompositeParts → Shape → Type 0
 PartsAgreeWithShape shape k (of_elements n t) s = (u : Shape) × (s ≡ array_shape k n u) × (shape t ≡ Some u)
 PartsAgreeWithShape shape k (of_fields fields) s =
     (fs : FieldShapes) × (s ≡ record_shape k fs) × FieldsAgreeWithShapes shape fields fs
 
--- states that an array or record type has the parts, the number of scalars and the depth of its shape
+-- states that an array or record type has the parts, the number of scalars and the depth of its
+-- shape
 pub record CompositeAgreesWithShape (shape : TypeId → Option Shape) (m : CompositeType) (s : Shape) : Type 0 where
   pub parts : PartsAgreeWithShape shape m.ordinal m.parts s
-  pub scalars : m.size.scalars ≡ typing.scalars s
+  pub scalars : m.size.scalars ≡ typing.scalar_count s
   pub depth : m.size.depth ≡ typing.depth s
 
 -- States that each array or record type in the second list agrees with the shape at the same index

@@ -50,7 +50,8 @@ form_of_type_in composites (type.Array i) = an_array (entry_element_type (slice_
 form_of_type_in composites (type.Record i) = a_record (entry_field_type (slice_get composites i))
 form_of_type_in composites type.Unknown = unknown_form
 
--- returns the representation of types (`Types`) by the code's `TypeId`, given the code's list of array and record types
+-- returns the representation of types (`Types`) by the code's `TypeId`, given the code's list of
+-- array and record types
 abbrev pub type_id_representation : List TypeEntry → Types TypeId
 type_id_representation composites =
     record {
@@ -67,12 +68,13 @@ known_parameter_of f = record { by_place = f.by_place; of = f.of }
 
 -- converts the meaning of a declaration from the code to the definitions
 abbrev pub meaning_view : meaning.Meaning → Meaning TypeId
-meaning_view (declared.Named t) = a_type t
+meaning_view (declared.TypeName t) = a_type t
 meaning_view (declared.Constant v) = a_constant (option_map scalar_value v)
 meaning_view (declared.Variable t) = a_variable t
 meaning_view (declared.Procedure fs) = a_procedure (map known_parameter_of fs.items)
 
--- returns the meaning of the name at a token; None if the name is unbound or its declaration isn't known yet
+-- returns the meaning of the name at a token; None if the name is unbound or its declaration isn't
+-- known yet
 abbrev pub meaning_in_state : CheckerState → ℕ → Option meaning.Meaning
 meaning_in_state s token =
     option_and_then (λ k. slice_index_or s.meanings.items k None)
@@ -131,12 +133,13 @@ declarations_in_state s = record {
   made = map composite_type_of s.composites.items;
 }
 
--- converts the parameters of a heading, and the code's state after them, to a heading of the definitions
--- (`KnownHeading`)
+-- converts the parameters of a heading, and the code's state after them, to a heading of the
+-- definitions (`KnownHeading`)
 abbrev pub heading_in_state : CheckerState → List formal.FormalParameter → KnownHeading
 heading_in_state s formals = record { formals = map known_parameter_of formals; following = declarations_in_state s }
 
--- caps both numbers of a size at 2^64 - 1, because the code's arithmetic stops there
+-- returns the size with both numbers capped at 2^64 - 1, because the code's sums and products stop
+-- there
 abbrev pub capped_size : TypeSize → TypeSize
 capped_size z = record { scalars = min z.scalars (2 ^ 64 - 1); depth = min z.depth (2 ^ 64 - 1) }
 
@@ -148,8 +151,9 @@ pub record CodeFieldsMatchKnownFields (g : KnownFields) (s : CheckerState) (now 
   pub size : size_of now.size ≡ capped_size g.size
   pub following : declarations_in_state s ≡ g.following
 
--- States that the code has found the fields of the result `t` and reported its faults. `gathered` has these fields, and
--- `s` is the state after them. The list of faults was `before`, and `after` is this list followed by the faults of `t`.
+-- States that the code has found the fields of the result `t` and reported its faults. `gathered`
+-- has these fields, and `s` is the state after them. The list of faults was `before`, and `after`
+-- is this list followed by the faults of `t`.
 pub record CodeFindsFieldsAndReports
     (before after : List FaultAtTokens) (s : CheckerState) (gathered : gathering.KnownFields)
     (t : ResultWithFaults KnownFields) : Type 0 where
@@ -159,7 +163,7 @@ pub record CodeFindsFieldsAndReports
 -- returns the object of a declaration in the code's table; a constant without a value becomes
 -- `FaultyConstant`
 abbrev pub table_object_of_meaning : meaning.Meaning → object.Object
-table_object_of_meaning (declared.Named t) = kind.Named t
+table_object_of_meaning (declared.TypeName t) = kind.TypeName t
 table_object_of_meaning (declared.Constant (Some v)) = kind.Constant v
 table_object_of_meaning (declared.Constant None) = kind.FaultyConstant
 table_object_of_meaning (declared.Variable t) = kind.Variable t

@@ -1,9 +1,9 @@
--- The faults of a module's declarations and bodies, in the order in which they are reported: text
--- order. A declaration is known in the text after it. A procedure is known in its own block and in
--- the text after that. The statements of a block's body are walked only if the block's closing name
--- passes a test. The walk lists the closing names of the walked bodies in which a fault is
--- reported. If every closing name passes the test, all faults of the module's declarations and
--- bodies are reported.
+-- The faults of a module's declarations and bodies, in the order in which they are reported. The
+-- declarations and bodies are walked in text order. A declaration is known in the text after it. A
+-- procedure is known in its own block and after it. The statements of a block's body are walked
+-- only if the block's closing name passes a test. The walk lists the closing names of the walked
+-- bodies in which a fault is reported. If every closing name passes the test, all faults of the
+-- module's declarations and bodies are reported.
 -- Rule: docs/LANGUAGE.md, Faults of scopes and types 2 to 11.
 use Rattle.std.specs.Prelude.{ℕ, Bool, true, false, List, [], ◌∷◌, ◌++◌, map}
 use Rattle.std.specs.List.{filter}
@@ -20,15 +20,16 @@ use Rattle.ob0_types_check.specs.StatementFaults.{sequence_faults}
 use Rattle.ob0_types_check.specs.TypeFaults.{report_on_constant_expression}
 use Rattle.ob0_types_check.specs.WrittenTypeFaults.{report_on_written_type}
 
--- returns the faults of a constant's declaration, and the known declarations with this constant added
+-- returns the faults of a constant's declaration, and the known declarations with this constant
+-- added
 unfoldable pub report_on_constant_declaration : KnownDeclarations → Tree ℕ (item constant) → ResultWithFaults KnownDeclarations
 unfolding report_on_constant_expression
 report_on_constant_declaration p (declares_constant x e) = do
   v ← report_on_constant_expression (facts_from_declarations p true) e
   without_fault (define_name_at_token p (a_constant v) x)
 
--- returns the faults of constant declarations, and the known declarations with these constants added; each constant is
--- known to the declarations after it
+-- returns the faults of constant declarations, and the known declarations with these constants
+-- added; each constant is known to the declarations after it
 unfoldable pub report_on_constant_declarations : KnownDeclarations → Tree ℕ (items constant) → ResultWithFaults KnownDeclarations
 unfolding report_on_constant_declaration
 report_on_constant_declarations p end = without_fault p
@@ -43,8 +44,8 @@ report_on_type_declaration p (declares_type x t) = do
   u ← report_on_written_type 0 p t
   without_fault (define_name_at_token u.following (a_type u.of) x)
 
--- returns the faults of type declarations, and the known declarations with these types added; each type is known to the
--- declarations after it
+-- returns the faults of type declarations, and the known declarations with these types added; each
+-- type is known to the declarations after it
 unfoldable pub report_on_type_declarations : KnownDeclarations → Tree ℕ (items type_definition) → ResultWithFaults KnownDeclarations
 unfolding report_on_type_declaration
 report_on_type_declarations p end = without_fault p
@@ -52,15 +53,16 @@ report_on_type_declarations p (more d rest) = do
   q ← report_on_type_declaration p d
   report_on_type_declarations q rest
 
--- returns the faults of a group of variables with one type, and the known declarations with these variables added
+-- returns the faults of a group of variables with one type, and the known declarations with these
+-- variables added
 unfoldable pub report_on_variable_group : KnownDeclarations → Tree ℕ (item variable) → ResultWithFaults KnownDeclarations
 unfolding report_on_written_type
 report_on_variable_group p (declares_variable ns t) = do
   u ← report_on_written_type 0 p t
   without_fault (define_listed_names u.following (a_variable u.of) (names_in_list ns))
 
--- returns the faults of variable declarations, and the known declarations with these variables added; each group of
--- variables is known to the declarations after it
+-- returns the faults of variable declarations, and the known declarations with these variables
+-- added; each group of variables is known to the declarations after it
 unfoldable pub report_on_variable_declarations : KnownDeclarations → Tree ℕ (items variable) → ResultWithFaults KnownDeclarations
 unfolding report_on_variable_group
 report_on_variable_declarations p end = without_fault p
@@ -68,8 +70,8 @@ report_on_variable_declarations p (more g rest) = do
   q ← report_on_variable_group p g
   report_on_variable_declarations q rest
 
--- the parameters found so far in a procedure's heading (`formals`), and the declarations known after these parameters
--- (`following`)
+-- the parameters found so far in a procedure's heading (`formals`), and the declarations known
+-- after these parameters (`following`)
 pub record KnownHeading : Type 0 where
   pub formals : List (KnownParameter TypeId)
   pub following : KnownDeclarations
@@ -119,12 +121,14 @@ report_on_parameter_sections h (more s rest) = do
 abbrev pub declarations_after_heading : ℕ → KnownHeading → KnownDeclarations
 declarations_after_heading x h = define_name_at_token h.following (a_procedure h.formals) x
 
--- the state of a walk: the declarations found so far, and the closing names of the bodies in which a fault was reported
+-- the state of a walk: the declarations found so far, and the closing names of the bodies in which
+-- a fault was reported
 pub record WalkProgress : Type 0 where
   pub so_far : KnownDeclarations
   pub bodies_with_faults : List ℕ
 
--- returns the walk `w` with its declarations replaced by `p`, and with the same list of bodies
+-- returns the state `w` of a walk with its declarations replaced by `p`, and with the same list of
+-- bodies
 abbrev pub walk_with_declarations : WalkProgress → KnownDeclarations → WalkProgress
 walk_with_declarations w p = record { so_far = p; bodies_with_faults = w.bodies_with_faults }
 
@@ -134,14 +138,15 @@ unfolding sequence_faults
 body_faults p none = []
 body_faults p (one (begins statements)) = sequence_faults (facts_from_declarations p false) statements
 
--- appends `own`, the closing name of a body's block, to the list `bodies_with_faults` if the body's list of faults
--- isn't empty
+-- appends `own`, the closing name of a body's block, to the list `bodies_with_faults` if the body's
+-- list of faults isn't empty
 abbrev pub append_body_if_faulty : List FaultAtTokens → ℕ → List ℕ → List ℕ
 append_body_if_faulty [] own bodies_with_faults = bodies_with_faults
 append_body_if_faulty (fault ∷ faults) own bodies_with_faults = bodies_with_faults ++ own ∷ []
 
--- If the Bool is true, returns the faults of a body. If there are any, appends `own`, the closing name of the body's
--- block, to `bodies_with_faults`. If the Bool is false, returns no fault and changes nothing.
+-- If the Bool is true, returns the faults of a body. If there are any, appends `own`, the closing
+-- name of the body's block, to `bodies_with_faults`. If the Bool is false, returns no fault and
+-- changes nothing.
 abbrev pub report_body_if_wanted : Bool → ℕ → WalkProgress → Tree ℕ (maybe body) → ResultWithFaults WalkProgress
 report_body_if_wanted false own w statements = without_fault w
 report_body_if_wanted true own w statements =
@@ -160,7 +165,7 @@ unfoldable mutual
   -- Returns the state of the walk after a block, and the faults of the block. The faults of its
   -- constants, types, variables and procedures come first, and then the faults of its statements.
   -- The statements are walked only if the block's closing name `own` passes the test `wanted`. The
-  -- same holds for the blocks of the procedures.
+  -- statements of a procedure are walked only if the procedure's closing name passes it.
   pub report_on_block : (ℕ → Bool) → ℕ → WalkProgress → Tree ℕ block → ResultWithFaults WalkProgress
   report_on_block wanted own w (forms_block (declares cs ts vs ps) statements) = do
     with_constants ← report_on_constant_declarations w.so_far (section_constants cs)
@@ -169,8 +174,8 @@ unfoldable mutual
     with_procedures ← report_on_procedures wanted (walk_with_declarations w with_variables) ps
     report_body_if_wanted (wanted own) own with_procedures statements
 
-  -- returns the state after procedures, and their faults, one procedure after another; each procedure can call itself
-  -- and the procedures before it
+  -- returns the state after procedures, and their faults, one procedure after another; each
+  -- procedure can call itself and the procedures before it
   pub report_on_procedures : (ℕ → Bool) → WalkProgress → Tree ℕ (items procedure) → ResultWithFaults WalkProgress
   report_on_procedures wanted w end = without_fault w
   report_on_procedures wanted w (more d rest) = do
@@ -183,12 +188,13 @@ unfoldable mutual
     h ← report_on_parameter_sections (record { formals = []; following = w.so_far }) (formal_parameter_sections fs)
     report_on_block wanted closing (walk_with_declarations w (declarations_after_heading x h)) b
 
--- returns the walk at the beginning of a module: only the predeclared names are known, and no body has been walked
+-- returns the state of the walk at the beginning of a module: only the predeclared names have a
+-- meaning, and no body has been walked
 abbrev pub walk_progress_at_module_start : Resolution → WalkProgress
 walk_progress_at_module_start r = record { so_far = known_declarations_at_module_start r; bodies_with_faults = [] }
 
--- returns the state after a module, and the faults of its declarations and of the bodies whose closing names pass the
--- test `wanted`
+-- returns the state after a module, and the faults of its declarations and of the bodies whose
+-- closing names pass the test `wanted`
 abbrev pub report_on_module : (ℕ → Bool) → Resolution → ResultWithFaults WalkProgress
 report_on_module wanted r =
     report_on_block wanted r.module_read.closing (walk_progress_at_module_start r) (module_block (tree_of r.module_read))
@@ -197,7 +203,8 @@ report_on_module wanted r =
 abbrev pub includes_every_body : ℕ → Bool
 includes_every_body closing = true
 
--- returns the faults at the undeclared names of a module, in text order, and then the module's faults of types
+-- returns the faults at the undeclared names of a module, in text order, and then the module's type
+-- faults
 unfoldable pub undeclared_name_and_type_faults : Resolution → List FaultAtTokens
 unfolding report_on_block
 undeclared_name_and_type_faults r = filter is_undeclared_fault r.faults ++ (report_on_module includes_every_body r).faults

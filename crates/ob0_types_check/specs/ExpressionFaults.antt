@@ -1,12 +1,12 @@
 -- The faults of an expression, in the order in which they are reported. The faults of its parts
 -- come first, from left to right, and then the faults of the operation. Each function also returns
--- the operand for what it checked (`Operand`): its type, its value if it is constant, and its
--- tokens.
+-- the operand for the checked part (`Operand`): its type, its value if constants determine one, and
+-- its tokens.
 -- Rule: docs/LANGUAGE.md, Faults of scopes and types 2, 3, 5, 6.
 use Rattle.std.specs.Prelude.{ℕ}
 use Rattle.ob0_tree.specs.Tree.{Tree, addend, adds, compares, designator, end, expression, factor, field, index, integer, item, items, more, multiplier, multiplies, negation, none, one, parenthesised, product, relates, selector, simple, sum, term}
 use Rattle.ob0_types_check.specs.TypesAndMeanings.{Facts, Operand, ResultWithFaults}
-use Rattle.ob0_types_check.specs.OperandFaults.{number_operand, add_operands, negated_operand, element_operand, operand_in_parentheses, field_operand, multiply_operands, name_operand, relate_operands, without_fault, signed_operand, ◌>>=◌}
+use Rattle.ob0_types_check.specs.OperandFaults.{number_operand, check_sum, check_negation, element_operand, operand_in_parentheses, field_operand, check_product, name_operand, check_relation, without_fault, check_sign, ◌>>=◌}
 
 unfoldable mutual
   -- Returns the faults of an expression, and its operand (type, value and tokens). The faults of
@@ -16,7 +16,7 @@ unfoldable mutual
   report_on_expression facts (compares a (one (relates r b))) = do
     x ← report_on_simple_expression facts a
     y ← report_on_simple_expression facts b
-    relate_operands facts r x y
+    check_relation facts r x y
 
   -- Returns the faults of a simple expression, and its operand (type, value and tokens). The faults
   -- of the first term come first, then the fault of the sign, and then the faults of the other
@@ -24,7 +24,7 @@ unfoldable mutual
   pub report_on_simple_expression : {T : Type 0} → Facts T → Tree ℕ simple → ResultWithFaults (Operand T)
   report_on_simple_expression facts (sum s t rest) = do
     x ← report_on_term facts t
-    y ← signed_operand facts s x
+    y ← check_sign facts s x
     report_on_addends facts y rest
 
   -- Returns the faults of terms that are added to the operand `x` from left to right. Also returns
@@ -37,7 +37,7 @@ unfoldable mutual
   report_on_addends facts x end = without_fault x
   report_on_addends facts x (more (adds o t) rest) = do
     y ← report_on_term facts t
-    z ← add_operands facts o x y
+    z ← check_sum facts o x y
     report_on_addends facts z rest
 
   -- returns the faults of a term, factor by factor from left to right, and the term's operand
@@ -57,7 +57,7 @@ unfoldable mutual
   report_on_multipliers facts x end = without_fault x
   report_on_multipliers facts x (more (multiplies o f) rest) = do
     y ← report_on_factor facts f
-    z ← multiply_operands facts o x y
+    z ← check_product facts o x y
     report_on_multipliers facts z rest
 
   -- Returns the faults of a factor, and its operand (type, value and tokens). A factor is a
@@ -72,7 +72,7 @@ unfoldable mutual
     without_fault (operand_in_parentheses facts x)
   report_on_factor facts (negation f) = do
     x ← report_on_factor facts f
-    negated_operand facts x
+    check_negation facts x
 
   -- Returns the faults of selectors that are applied, one after another, to a designator with the
   -- operand `x`. Also returns the operand (type, value and tokens) for the designator with these

@@ -13,8 +13,8 @@ use Rattle.ob0_language_values.specs.Values.{truth}
 use Rattle.ob0_types_check.specs.TypesAndMeanings.{Facts, TypeForm, Meaning, ResultWithFaults, Types, a_constant, a_procedure, a_record, a_scalar, a_type, an_array, unknown_form}
 use Rattle.ob0_types_check.specs.OperandFaults.{fault_at_token, without_fault}
 
--- the size of a type: the number of INTEGER and BOOLEAN values in it (its scalars), and the depth to which its arrays
--- and records are nested
+-- The size of a type: the number of INTEGER and BOOLEAN values in it (its scalars), and its depth.
+-- The depth is the number of levels in which arrays and records are nested.
 pub record TypeSize : Type 0 where
   pub scalars : ℕ
   pub depth : ℕ
@@ -29,23 +29,25 @@ pub data CompositeParts : Type 0 where
   of_elements : ℕ → TypeId → CompositeParts
   of_fields : List KnownField → CompositeParts
 
--- An array or record type: its ordinal, its parts and its size. Such types are numbered by the
--- words ARRAY and RECORD: the ordinal is the number of these words before the type's own word.
+-- An array or record type: its ordinal, its parts and its size. The ordinal is the number of words
+-- ARRAY and RECORD before the type's own word ARRAY or RECORD.
 pub record CompositeType : Type 0 where
   pub ordinal : ℕ
   pub parts : CompositeParts
   pub size : TypeSize
 
--- The state of a walk over declarations. `ordinals` has the ordinal of each identifier's declaration, by token.
--- `declared` has the meaning of each declaration, by ordinal, or None if the meaning isn't found yet. `made` has the
--- array and record types found so far. A `TypeId` refers to such a type by its index in `made`.
+-- The state of a walk over declarations. `ordinals` has, by token, the ordinal of the declaration
+-- to which an identifier is bound, or None. `declared` has the meaning of each declaration, by
+-- ordinal, or None if the meaning isn't found yet. `made` has the array and record types found so
+-- far. A `TypeId` refers to such a type by its index in `made`.
 pub record KnownDeclarations : Type 0 where
   pub source : TextWithTokens
   pub ordinals : List (Option ℕ)
   pub declared : List (Option (Meaning TypeId))
   pub made : List CompositeType
 
--- returns whether two types are the same; two array types, or two record types, are the same if their indexes are equal
+-- returns whether two types are the same; two array types, or two record types, are the same if
+-- their indexes are equal
 abbrev pub is_same_type : TypeId → TypeId → Bool
 is_same_type type.Integer type.Integer = true
 is_same_type type.Boolean type.Boolean = true
@@ -90,7 +92,8 @@ form_of_known_type made (type.Array i) = an_array (element_type_of_composite (sl
 form_of_known_type made (type.Record i) = a_record (field_type_of_composite (slice_get made i))
 form_of_known_type made type.Unknown = unknown_form
 
--- returns the representation of types (`Types`) by `TypeId`, given the array and record types found so far
+-- returns the representation of types (`Types`) by `TypeId`, given the array and record types found
+-- so far
 abbrev pub known_types_representation : List CompositeType → Types TypeId
 known_types_representation made =
     record {
@@ -101,7 +104,8 @@ known_types_representation made =
       form = form_of_known_type made;
     }
 
--- returns the meaning of the name at a token; None if the name is unbound or its declaration isn't known yet
+-- returns the meaning of the name at a token; None if the name is unbound or its declaration isn't
+-- known yet
 abbrev pub meaning_at_token : KnownDeclarations → ℕ → Option (Meaning TypeId)
 meaning_at_token p token =
     option_and_then (λ k. slice_index_or p.declared k None) (ordinal_in p.ordinals token)
@@ -134,7 +138,8 @@ declarations_with_meaning p m (Some k) =
 abbrev pub define_name_at_token : KnownDeclarations → Meaning TypeId → ℕ → KnownDeclarations
 define_name_at_token p m token = declarations_with_meaning p m (ordinal_in p.ordinals token)
 
--- returns the known declarations `p` with the meaning of each name declared at one of these tokens set to `m`
+-- returns the known declarations `p` with the meaning of each name declared at one of these tokens
+-- set to `m`
 abbrev pub define_listed_names : KnownDeclarations → Meaning TypeId → List ℕ → KnownDeclarations
 define_listed_names p m [] = p
 define_listed_names p m (x ∷ xs) = define_listed_names (define_name_at_token p m x) m xs
@@ -152,7 +157,8 @@ abbrev pub composite_size : Option CompositeType → TypeSize
 composite_size None = scalar_size
 composite_size (Some m) = m.size
 
--- returns the size of a type, given the array and record types found so far; the unknown type has no scalars
+-- returns the size of a type, given the array and record types found so far; the unknown type has
+-- no scalars
 abbrev pub size_of_known_type : List CompositeType → TypeId → TypeSize
 size_of_known_type made type.Integer = scalar_size
 size_of_known_type made type.Boolean = scalar_size
@@ -160,7 +166,8 @@ size_of_known_type made (type.Array i) = composite_size (slice_get made i)
 size_of_known_type made (type.Record i) = composite_size (slice_get made i)
 size_of_known_type made type.Unknown = zero_size
 
--- returns whether a type of this size has at most 65,536 scalars, and arrays and records nested at most 100 deep
+-- returns whether a type of this size has at most 65,536 scalars, and arrays and records nested at
+-- most 100 deep
 abbrev pub is_within_limits : TypeSize → Bool
 is_within_limits z = nat_le z.scalars max_scalars_in_type && nat_le z.depth max_type_depth
 
@@ -170,13 +177,14 @@ pub record TypeWithFollowingDeclarations : Type 0 where
   pub of : TypeId
   pub following : KnownDeclarations
 
--- returns the `TypeId` of an array or record type that has these parts and is at index `k` of the list of such types
+-- returns the `TypeId` of an array or record type that has these parts and is at index `k` of the
+-- list of such types
 abbrev pub type_id_of_parts : CompositeParts → ℕ → TypeId
 type_id_of_parts (of_elements n t) k = type.Array k
 type_id_of_parts (of_fields fields) k = type.Record k
 
--- Appends an array or record type with this ordinal, these parts and this size to the known types `p.made`. Returns the
--- type's `TypeId` (`of`), and `p` with this type appended (`following`).
+-- Appends an array or record type with this ordinal, these parts and this size to the known types
+-- `p.made`. Returns the type's `TypeId` (`of`), and `p` with this type appended (`following`).
 abbrev pub append_composite : KnownDeclarations → ℕ → CompositeParts → TypeSize → TypeWithFollowingDeclarations
 append_composite p ordinal parts size = record {
   of = type_id_of_parts parts (length p.made);
@@ -189,8 +197,8 @@ append_composite p ordinal parts size = record {
       };
 }
 
--- reports `TypeTooLarge` at `word`, the token ARRAY or RECORD of a type; returns the unknown type, with the known
--- declarations `p` unchanged
+-- reports `TypeTooLarge` at `word`, the token ARRAY or RECORD of a type; returns the unknown type,
+-- with the known declarations `p` unchanged
 abbrev pub report_on_too_large_type : KnownDeclarations → ℕ → ResultWithFaults TypeWithFollowingDeclarations
 report_on_too_large_type p word =
     record {
@@ -199,8 +207,8 @@ report_on_too_large_type p word =
     }
 
 -- Appends an array or record type to the known types, and returns its `TypeId`. If the size exceeds
--- the limits, nothing is appended. Then `TypeTooLarge` is reported at `word`, the type's token
--- ARRAY or RECORD.
+-- the limits, nothing is appended and the result is the unknown type. In this case `TypeTooLarge`
+-- is reported at `word`, the type's token ARRAY or RECORD.
 abbrev pub make_composite_type : KnownDeclarations → ℕ → ℕ → CompositeParts → TypeSize → ResultWithFaults TypeWithFollowingDeclarations
 make_composite_type p word ordinal parts size =
     if is_within_limits size then without_fault (append_composite p ordinal parts size) else report_on_too_large_type p word
@@ -215,7 +223,8 @@ predeclared_meanings =
     ∷ Some (a_procedure (record { by_place = false; of = type.Integer } ∷ []))
     ∷ Some (a_procedure []) ∷ []
 
--- returns the known declarations at the beginning of a module, which are only the predeclared names
+-- returns the declarations known at the beginning of a module: each predeclared name has its
+-- meaning, and each declaration of the module has None
 abbrev pub known_declarations_at_module_start : Resolution → KnownDeclarations
 known_declarations_at_module_start r =
     record {

@@ -1,10 +1,10 @@
--- Laws about the reports of expressions and statements: an expression or statement is well-typed if nothing is reported
--- for it. `N` is the type of the names in a tree.
+-- Laws about the faults reported for expressions and statements. For example, expressions and
+-- statements without reported faults are well-typed. `N` is the type of the names in a tree.
 -- Rule: none; states laws about the faults that are reported for expressions and statements.
 use Rattle.std.specs.Prelude.{◌≡◌, ℕ, Bool, true, false, List, [], Option, Some, is_some}
 use Rattle.ob0_tree.specs.TokenIndexLeaves.{token_value_at}
 use Rattle.ob0_tree.specs.Tree.{Tree, expression, mapped_tree, sequence}
-use Rattle.ob0_language_types.specs.Expressions.{Meanings, evaluate}
+use Rattle.ob0_language_types.specs.Expressions.{Meanings, evaluate_expression}
 use Rattle.ob0_language_types.specs.Typing.{array_length_from_value, constant_expression_value, meanings_in_constant_expressions, lone_designator, outcome_value, type_of_expression, value_type}
 use Rattle.ob0_language_types.specs.WellTyped.{TypeMeanings, sequence_is_well_typed, assignable_type}
 use Rattle.ob0_language_values.specs.Values.{Shape, Value}
@@ -16,22 +16,23 @@ use Rattle.ob0_types_check.specs.StatementFaults.{sequence_faults}
 use Rattle.ob0_types_check.specs.TypeFaults.{length_from_operand, report_on_constant_expression}
 use Rattle.ob0_types_check.specs.Agreement.{FactsAgreeWithShapesAndLabels, TableAgreesWithShapes, TypesAgreeWithShapes, shape_of_type_in}
 
--- returns the meanings of names in `meaning`; if the Bool is true, returns only the meanings of constants
+-- returns the meanings of names in `meaning`; if the Bool is true, returns only the meanings of
+-- constants
 abbrev pub allowed_meanings : {N : Type 0} → Bool → TypeMeanings N → TypeMeanings N
 allowed_meanings true meaning = meanings_in_constant_expressions meaning
 allowed_meanings false meaning = meaning
 
 -- States that the operand `o`, the result of checking an expression, has the type and the value of
--- the expression `e`. The value is None if the expression isn't constant or its evaluation fails.
--- Otherwise the value is a scalar of the operand's type. If `may_be_variable` is true, the
--- expression is a variable or parameter with its selectors.
+-- the expression `e`. The value is the result of evaluating `e` with only the meanings of
+-- constants, or None if this evaluation fails. A value is a scalar of the operand's type. If
+-- `may_be_variable` is true, the expression is a variable or parameter with its selectors.
 pub record OperandAgreesWithExpression
     {T N P : Type 0} (shape : T → Option Shape) (meaning : Meanings N Shape P) (o : Operand T)
     (e : Tree N expression) : Type 0 where
   pub of : Shape
   pub known : shape o.of ≡ Some of
   pub typed : type_of_expression meaning e ≡ Some of
-  pub value_agrees : o.value ≡ outcome_value (evaluate {P = Unit {0}} (meanings_in_constant_expressions meaning) [] e)
+  pub value_agrees : o.value ≡ outcome_value (evaluate_expression {P = Unit {0}} (meanings_in_constant_expressions meaning) [] e)
   pub scalar : (v : Value) → o.value ≡ Some v → value_type v ≡ Some of
   pub placed : o.may_be_variable ≡ true → assignable_type meaning (lone_designator e) ≡ Some of
 
@@ -57,9 +58,9 @@ pub record ConstantAgreesWithExpression
   pub given : constant_expression_value meaning e ≡ Some value
   pub scalar : is_some (value_type value) ≡ true
 
--- States that if no fault is reported for the right side of a constant's declaration, the value found is the value of
--- the right side. The types and meanings known for the names in the right side must be correct
--- (`FactsAgreeWithShapesAndLabels`).
+-- States that if no fault is reported for the right side of a constant's declaration, the value
+-- found is the value of the right side. The types and meanings known for the names in the right
+-- side must be correct (`FactsAgreeWithShapesAndLabels`).
 abbrev pub FaultlessConstantsHaveCorrectValues : Type 0 → Type 0
 FaultlessConstantsHaveCorrectValues N =
     (p : KnownDeclarations) (shapes : List Shape) (label : ℕ → N) (meaning : TypeMeanings N) (e : Tree ℕ expression)
@@ -68,8 +69,8 @@ FaultlessConstantsHaveCorrectValues N =
     → ConstantAgreesWithExpression meaning (report_on_constant_expression (facts_from_declarations p true) e).known
     (mapped_tree label (token_value_at p.source) e)
 
--- states that the value of the expression `e`, the length in an array type, is a valid length, and that `reported` is
--- this length
+-- states that the value of the expression `e`, the length in an array type, is a valid length, and
+-- that `reported` is this length
 pub record LengthAgreesWithExpression
     {N : Type 0} (meaning : TypeMeanings N) (reported : Option ℕ) (e : Tree N expression) : Type 0 where
   pub value : Value
@@ -78,8 +79,9 @@ pub record LengthAgreesWithExpression
   pub given : constant_expression_value meaning e ≡ Some value
   pub counted : array_length_from_value value ≡ Some length
 
--- States that if no fault is reported for the length in an array type, the length found is the value of its expression.
--- The types and meanings known for the names in that expression must be correct (`FactsAgreeWithShapesAndLabels`).
+-- States that if no fault is reported for the length in an array type, the length found is the
+-- value of its expression. The types and meanings known for the names in that expression must be
+-- correct (`FactsAgreeWithShapesAndLabels`).
 abbrev pub FaultlessLengthsHaveCorrectValues : Type 0 → Type 0
 FaultlessLengthsHaveCorrectValues N =
     (p : KnownDeclarations) (shapes : List Shape) (label : ℕ → N) (meaning : TypeMeanings N) (e : Tree ℕ expression)
@@ -89,8 +91,8 @@ FaultlessLengthsHaveCorrectValues N =
     (report_on_expression (facts_from_declarations p true) e >>= length_from_operand (facts_from_declarations p false)).known
     (mapped_tree label (token_value_at p.source) e)
 
--- States that statements are well-typed if no fault is reported for them. The types and meanings known for the names in
--- the statements must be correct (`FactsAgreeWithShapesAndLabels`).
+-- States that statements are well-typed if no fault is reported for them. The types and meanings
+-- known for the names in the statements must be correct (`FactsAgreeWithShapesAndLabels`).
 abbrev pub FaultlessStatementsAreWellTyped : Type 0 → Type 0
 FaultlessStatementsAreWellTyped N =
     (p : KnownDeclarations) (shapes : List Shape) (label : ℕ → N) (meaning : TypeMeanings N)

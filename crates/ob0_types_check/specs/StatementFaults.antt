@@ -1,5 +1,5 @@
--- The faults of statements, in the order in which they are reported: statement by statement, and within a statement
--- part by part from left to right.
+-- The faults of statements, in the order in which they are reported: statement by statement, and
+-- within a statement part by part from left to right.
 -- Rule: docs/LANGUAGE.md, Types 2, 5, Faults of scopes and types 5, 7 to 9.
 use Rattle.std.specs.Prelude.{ℕ, nat_eq, ◌&&◌, not, List, [], ◌∷◌, ◌++◌, length, Option, Some, None, if◌then◌else◌}
 use Rattle.ob0_scan.specs.declared.fault.FaultCode.TheVariants as code
@@ -8,7 +8,7 @@ use Rattle.ob0_scope_table.specs.declared.faults.FaultAtTokens.{FaultAtTokens}
 use Rattle.ob0_language_types.specs.Arguments.{call_arguments}
 use Rattle.ob0_types_check.specs.TypesAndMeanings.{Facts, KnownParameter, Meaning, Operand, ResultWithFaults, a_constant, a_procedure, a_type, a_variable}
 use Rattle.ob0_types_check.specs.ExpressionFaults.{report_on_expression, report_on_selectors}
-use Rattle.ob0_types_check.specs.OperandFaults.{typed_name_operand, require_type, fault_at_operand, fault_at_token, without_fault, ◌>>=◌}
+use Rattle.ob0_types_check.specs.OperandFaults.{non_constant_name_operand, require_type, fault_at_operand, fault_at_token, without_fault, ◌>>=◌}
 
 -- returns the faults of an expression that must have the type `wanted`
 unfoldable pub faults_of_expression_of_type : {T : Type 0} → Facts T → T → Tree ℕ expression → List FaultAtTokens
@@ -19,23 +19,24 @@ faults_of_expression_of_type facts wanted e = (report_on_expression facts e >>= 
 abbrev pub condition_faults : {T : Type 0} → Facts T → Tree ℕ expression → List FaultAtTokens
 condition_faults facts e = faults_of_expression_of_type facts facts.types.boolean e
 
--- Returns the type of the name that is assigned to, given its token and its meaning. A constant's name is reported as
--- `NotVariable`, and a type's or procedure's name as `WrongKind`. An undeclared name is reported elsewhere. In all
--- these cases the type is unknown, so the right side may have any type.
-abbrev pub target_type_from_meaning : {T : Type 0} → Facts T → ℕ → Option (Meaning T) → ResultWithFaults T
-target_type_from_meaning facts token (Some (a_variable t)) = without_fault t
-target_type_from_meaning facts token (Some (a_constant v)) =
+-- Returns the type of the name that is assigned to, given its token and its meaning. A constant's
+-- name is reported as `NotVariable`, and a type's or procedure's name as `WrongKind`. An undeclared
+-- name is reported elsewhere. In all these cases the type is unknown, so the right side may have
+-- any type.
+abbrev pub check_assigned_meaning : {T : Type 0} → Facts T → ℕ → Option (Meaning T) → ResultWithFaults T
+check_assigned_meaning facts token (Some (a_variable t)) = without_fault t
+check_assigned_meaning facts token (Some (a_constant v)) =
     record { known = facts.types.unknown; faults = fault_at_token code.NotVariable token }
-target_type_from_meaning facts token (Some (a_type t)) =
+check_assigned_meaning facts token (Some (a_type t)) =
     record { known = facts.types.unknown; faults = fault_at_token code.WrongKind token }
-target_type_from_meaning facts token (Some (a_procedure fs)) =
+check_assigned_meaning facts token (Some (a_procedure fs)) =
     record { known = facts.types.unknown; faults = fault_at_token code.WrongKind token }
-target_type_from_meaning facts token None = without_fault facts.types.unknown
+check_assigned_meaning facts token None = without_fault facts.types.unknown
 
 -- Returns the type of the name at a token that is assigned to. Reports a fault if the name refers
 -- to something other than a variable or parameter.
-abbrev pub target_name_type : {T : Type 0} → Facts T → ℕ → ResultWithFaults T
-target_name_type facts token = target_type_from_meaning facts token (facts.object_for token)
+abbrev pub check_assigned_name : {T : Type 0} → Facts T → ℕ → ResultWithFaults T
+check_assigned_name facts token = check_assigned_meaning facts token (facts.object_for token)
 
 -- returns the operand (type and tokens) for an assignment's target, and the faults of the target's
 -- name and selectors
@@ -46,11 +47,11 @@ unfoldable pub report_on_assignment_target : {T : Type 0}
     → ResultWithFaults (Operand T)
 unfolding report_on_expression
 report_on_assignment_target facts x path = do
-  t ← target_name_type facts x
-  report_on_selectors facts (typed_name_operand t x) path
+  t ← check_assigned_name facts x
+  report_on_selectors facts (non_constant_name_operand t x) path
 
--- returns the faults of an assignment's target, and then of its right side, which must have the
--- type of the target
+-- Returns the faults of an assignment: first the faults of its target, then the faults of its right
+-- side `e`. The right side must have the target's type.
 abbrev pub assignment_faults : {T : Type 0}
     → Facts T
     → ResultWithFaults (Operand T)
@@ -58,10 +59,10 @@ abbrev pub assignment_faults : {T : Type 0}
     → List FaultAtTokens
 assignment_faults facts target e = target.faults ++ faults_of_expression_of_type facts target.known.of e
 
--- Returns the parameter's type if the argument `o` has this type, otherwise the unknown type. A
--- mismatch of known types is reported. An argument for a VAR parameter must also be a variable,
--- with or without selectors. If it isn't, only `NotVariable` is reported, and the result is the
--- unknown type.
+-- Returns the parameter's type if the argument `o` has this type, otherwise the unknown type.
+-- Reports `TypeMismatch` if both types are known and differ. An argument for a VAR parameter must
+-- also be a variable, with or without selectors. If it isn't, reports only `NotVariable`, and
+-- returns the unknown type.
 abbrev pub require_type_of_argument : {T : Type 0} → Facts T → KnownParameter T → Operand T → ResultWithFaults T
 require_type_of_argument facts f o =
     if f.by_place && not o.may_be_variable
@@ -77,8 +78,8 @@ unfoldable pub faults_of_argument : {T : Type 0}
 unfolding report_on_expression
 faults_of_argument facts f e = (report_on_expression facts e >>= require_type_of_argument facts f).faults
 
--- returns the faults of arguments, each checked against the parameter at the same index; surplus arguments or
--- parameters are ignored
+-- returns the faults of arguments, each checked against the parameter at the same index; surplus
+-- arguments or parameters are ignored
 abbrev pub faults_of_arguments : {T : Type 0}
     → Facts T
     → List (KnownParameter T)

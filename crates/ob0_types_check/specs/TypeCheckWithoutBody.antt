@@ -1,4 +1,4 @@
--- A module that passes the type check if the statements of one body are left out.
+-- Defines when a module passes the type check without the statements of one body.
 -- Rule: docs/LANGUAGE.md, Types 8.
 use Rattle.std.specs.Prelude.{◌≡◌, ℕ, true}
 use Rattle.ob0_language_names.specs.Names.{naming_by_spelling}
@@ -8,8 +8,8 @@ use Rattle.ob0_scope_table.specs.Resolution.{Resolution}
 use Rattle.ob0_tree.specs.ParsedModule.{tree_of}
 use Rattle.ob0_tree.specs.TokenIndexLeaves.{tree_with_names}
 
--- States that the module passes the type check if the statements of one block are left out. This is
--- the block whose closing name is the token `closing`. Nothing is required of these statements.
+-- States that the module passes the type check without the statements of the block whose closing
+-- name is the token `closing`. Nothing is required of these statements.
 pub record PassesTypeCheckWithoutBody (r : Resolution) (closing : ℕ) : Type 0 where
   pub path : PathToBody
   pub at : closing_name_at_path path (tree_of r.module_read) ≡ closing

@@ -1,5 +1,5 @@
--- The faults and values of constants and array lengths, and the faults and types of type names. An
--- operand (`Operand`) is the result of checking an expression: its type, value and tokens.
+-- The faults of constants, array lengths and type names, each with the value or type that is found.
+-- An operand (`Operand`) is the result of checking an expression: its type, value and tokens.
 -- Rule: docs/LANGUAGE.md, Faults of scopes and types 4, 6, `ConstFault`, `ArrayLength`.
 use Rattle.std.specs.Prelude.{ℕ, Option, Some, None, if◌then◌else◌}
 use Rattle.ob0_scan.specs.declared.fault.FaultCode.TheVariants as code
@@ -10,8 +10,9 @@ use Rattle.ob0_types_check.specs.ExpressionFaults.{report_on_expression}
 use Rattle.ob0_types_check.specs.TypesAndMeanings.{Facts, Meaning, Operand, ResultWithFaults, a_constant, a_procedure, a_type, a_variable}
 use Rattle.ob0_types_check.specs.OperandFaults.{require_type, fault_at_operand, fault_at_token, without_fault, ◌>>=◌}
 
--- Returns the type to which a name refers, given its token and its meaning. A name that isn't a type's is reported as
--- `WrongKind`. An undeclared name is reported elsewhere. In both cases the result is the unknown type.
+-- Returns the type to which a name refers, given its token and its meaning. A name that isn't a
+-- type's is reported as `WrongKind`. An undeclared name is reported elsewhere. In both cases the
+-- result is the unknown type.
 abbrev pub type_from_meaning : {T : Type 0} → Facts T → ℕ → Option (Meaning T) → ResultWithFaults T
 type_from_meaning facts token (Some (a_type t)) = without_fault t
 type_from_meaning facts token (Some (a_constant v)) =
@@ -22,9 +23,10 @@ type_from_meaning facts token (Some (a_procedure fs)) =
     record { known = facts.types.unknown; faults = fault_at_token code.WrongKind token }
 type_from_meaning facts token None = without_fault facts.types.unknown
 
--- returns the type to which the name at a token refers; a name that isn't a type's is reported as `WrongKind`
-abbrev pub type_named_by_token : {T : Type 0} → Facts T → ℕ → ResultWithFaults T
-type_named_by_token facts token = type_from_meaning facts token (facts.object_for token)
+-- returns the type to which the name at a token refers; a name that isn't a type's is reported as
+-- `WrongKind`
+abbrev pub check_type_name : {T : Type 0} → Facts T → ℕ → ResultWithFaults T
+check_type_name facts token = type_from_meaning facts token (facts.object_for token)
 
 -- returns the given value of a constant expression unchanged; for None, reports `ConstFault` at the
 -- tokens of the expression's operand `o`
@@ -35,17 +37,18 @@ value_or_fault o (Some v) = without_fault (Some v)
 -- Returns the value of a constant expression, given its operand `o`. If the type of `o` is unknown,
 -- the result is None, and nothing is reported. If the type is known and there is no value, the
 -- result is None, and `ConstFault` is reported.
-abbrev pub operand_value : {T : Type 0} → Facts T → Operand T → ResultWithFaults (Option Value)
-operand_value facts o =
+abbrev pub require_constant_value : {T : Type 0} → Facts T → Operand T → ResultWithFaults (Option Value)
+require_constant_value facts o =
     if facts.types.same o.of facts.types.unknown then without_fault None else value_or_fault o o.value
 
--- returns the faults and the value of a constant's right side, in which names may only refer to constants
+-- returns the faults and the value of a constant's right side, in which names may only refer to
+-- constants
 unfoldable pub report_on_constant_expression : {T : Type 0}
     → Facts T
     → Tree ℕ expression
     → ResultWithFaults (Option Value)
 unfolding report_on_expression
-report_on_constant_expression facts e = report_on_expression facts e >>= operand_value facts
+report_on_constant_expression facts e = report_on_expression facts e >>= require_constant_value facts
 
 -- returns the given length of an array unchanged; for None, reports `ArrayLength` at the tokens of
 -- `o`, the operand for the length's expression
@@ -59,9 +62,10 @@ abbrev pub length_from_value : {T : Type 0} → Operand T → Option Value → R
 length_from_value o None = record { known = None; faults = fault_at_operand code.ConstFault o }
 length_from_value o (Some v) = length_or_fault o (array_length_from_value v)
 
--- Returns the length of an array, given the operand of its length expression. Returns None if the
--- operand isn't INTEGER, has no value or isn't a valid length. Each of these is reported, unless
--- the operand's type is unknown.
+-- Returns the length of an array, given the operand of its length expression. Reports
+-- `TypeMismatch` if the operand isn't INTEGER, `ConstFault` if it has no value, and `ArrayLength`
+-- if the value isn't a valid length. In these cases, and if the operand's type is unknown, returns
+-- None. An unknown type isn't reported.
 abbrev pub length_from_operand : {T : Type 0} → Facts T → Operand T → ResultWithFaults (Option ℕ)
 length_from_operand facts o = do
   t ← require_type facts facts.types.integer o

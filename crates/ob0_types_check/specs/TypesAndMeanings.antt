@@ -1,5 +1,5 @@
--- The representations of types, of the meanings of names and of checked expressions in the definitions of faults. A
--- type may be unknown, as a whole or in parts.
+-- Defines how the definitions of faults represent types, the meanings of names, and checked
+-- expressions. A type may be unknown, as a whole or in parts.
 -- Rule: docs/LANGUAGE.md, Faults of scopes and types 2.
 use Rattle.std.specs.Prelude.{ℕ, Bool, List, Option}
 use Rattle.ob0_scan.specs.TextWithTokens.{TextWithTokens}
@@ -29,8 +29,8 @@ pub record KnownParameter (T : Type 0) : Type 0 where
   pub by_place : Bool
   pub of : T
 
--- The meaning of a name: the type of a type or variable, the value of a constant, or the parameters of a procedure. If
--- the declaration has a fault, the type is unknown or there is no value.
+-- The meaning of a name: the type of a type or variable, the value of a constant, or the parameters
+-- of a procedure. If the declaration has a fault, the type is unknown or there is no value.
 pub data Meaning (T : Type 0) : Type 0 where
   a_type : T → Meaning T
   a_constant : Option Value → Meaning T
@@ -38,17 +38,18 @@ pub data Meaning (T : Type 0) : Type 0 where
   a_procedure : List (KnownParameter T) → Meaning T
 
 -- The data with which expressions, statements and type names are checked. It has the text with its
--- tokens, the types, and the meaning of the name at each token (`object_for`). The meaning is None
--- if it isn't known. If `only_constants` is true, names may only refer to constants.
+-- tokens, the types, and the meaning of the name at each token (`object_for`), or None if the
+-- meaning isn't known. If `only_constants` is true, names may only refer to constants.
 pub record Facts (T : Type 0) : Type 0 where
   pub source : TextWithTokens
   pub types : Types T
   pub object_for : ℕ → Option (Meaning T)
   pub only_constants : Bool
 
--- The result of checking an expression: its type (`of`), its value, and its first and last token. The value is None if
--- the expression isn't constant or has a fault. `may_be_variable` is true if the expression is only a name with
--- selectors, and the name isn't a constant's.
+-- The result of checking an expression: its type (`of`), its value, and its first and last token.
+-- The value is None if constants don't determine it. In `FALSE & x` they do, even if `x` is a
+-- variable or has a fault. `may_be_variable` is true if the expression is only a name with its
+-- selectors, if any, and the name isn't a constant's.
 pub record Operand (T : Type 0) : Type 0 where
   pub of : T
   pub value : Option Value

@@ -29,18 +29,20 @@ AllClosingNamesPass test (closing ∷ others) = (test closing ≡ true) × AllCl
 
 -- returns whether the body of the block with this closing name has to be walked
 abbrev pub includes_body : BodiesToWalk → ℕ → Bool
-includes_body w closing = w.includes_every_body || is_body_in_list w.these.now closing
+includes_body w closing = w.includes_every_body || is_body_in_list w.listed_bodies.now closing
 
--- States that the module `r` has an older version (`old`), and that each faulty body of the older version passes the
--- test `wanted`. The two versions are equal except in the statements of bodies that pass this test.
+-- States that the module `r` has an older version (`old`) whose faulty bodies all pass the test
+-- `wanted`. The two versions are equal except in the bodies that pass this test.
 pub record IncludesChangedAndFaultyBodies (wanted : ℕ → Bool) (r : Resolution) : Type 0 where
   pub old : Resolution
   pub resolved : IsResolution old
   pub bodies_with_faults : AllClosingNamesPass wanted (faulty_bodies old)
   pub alike : AreEqualExceptInBodies wanted old r
 
--- States that walking only the bodies that pass the test `wanted` gives the same report as walking all bodies. Every
--- body that changed, and every body that had a fault before the change, must pass the test.
+-- States that walking only the bodies that pass the test `wanted` gives the same report as walking
+-- all bodies. The module must have an older version with the same tree, and the two may differ only
+-- in bodies that pass the test. Every body that had a fault in the older version must also pass the
+-- test.
 abbrev pub WalkingChangedAndFaultyBodiesSuffices : Type 0
 WalkingChangedAndFaultyBodiesSuffices =
     (wanted : ℕ → Bool) (r : Resolution)
@@ -48,21 +50,23 @@ WalkingChangedAndFaultyBodiesSuffices =
     → IncludesChangedAndFaultyBodies wanted r
     → report_on_module wanted r ≡ report_on_module includes_every_body r
 
--- States that a report has the faults of the module `r` and the closing names of the bodies with faults. The report has
--- a table with the objects of all declarations exactly if there are no faults.
+-- States that a report has the faults of the module `r` and the closing names of the bodies with
+-- faults. The report has a table with the objects of all declarations exactly if there are no
+-- faults.
 pub record IsReportOfModule (r : Resolution) (report : ModuleReport) : Type 0 where
   pub faults : report.faults.items ≡ undeclared_name_and_type_faults r
   pub known : MatchOption report.known (undeclared_name_and_type_faults r ≡ [] → ⊥)
       (λ t. (undeclared_name_and_type_faults r ≡ []) × TableHasDeclaredObjects (named_tree_of r.module_read) t)
   pub bodies_with_faults : report.bodies_with_faults.items ≡ faulty_bodies r
 
--- converts the state of the code's walk, with the closing names of the faulty bodies found so far, to a state of the
--- definitions
+-- converts the state of the code's walk, with the closing names of the faulty bodies found so far,
+-- to a state of the definitions
 abbrev pub walk_progress_of : CheckerState → List ℕ → WalkProgress
 walk_progress_of s bodies_with_faults = record { so_far = declarations_in_state s; bodies_with_faults = bodies_with_faults }
 
--- States that a walk has reached the end of the module `r`. The walk has found the module's faults (`found`) and the
--- closing names of its faulty bodies. The code's state `s` has the module's declarations.
+-- States that a walk has reached the end of the module `r`. The walk has found the module's faults
+-- (`found`) and the closing names of its faulty bodies. The code's state `s` has the module's
+-- declarations.
 pub record IsFinishedWalk
     (r : Resolution) (found : List FaultAtTokens) (s : CheckerState) (bodies_with_faults : List ℕ) : Type 0 where
   pub faults : found ≡ undeclared_name_and_type_faults r

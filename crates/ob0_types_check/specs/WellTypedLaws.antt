@@ -1,5 +1,5 @@
--- Laws about well-typed modules, expressions and statements: no fault of types is reported for
--- them. `N` is the type of names.
+-- Laws about well-typed modules, expressions and statements: no type fault and no undeclared name
+-- is reported for them. `N` is the type of names.
 -- Rule: docs/LANGUAGE.md, Types 8; states laws about the faults that are reported.
 use Rattle.std.specs.Prelude.{◌≡◌, ℕ, Bool, true, false, [], List, Option, Some, None, option_and_then, is_some, slice_get}
 use Rattle.std.specs.List.{filter}
@@ -20,10 +20,10 @@ use Rattle.ob0_types_check.specs.StatementFaults.{sequence_faults, report_on_ass
 use Rattle.ob0_types_check.specs.TypeFaults.{length_from_operand, report_on_constant_expression}
 use Rattle.ob0_types_check.specs.Agreement.{FactsAgreeWithShapesAndLabels, shape_of_type_in}
 
--- States that no fault is reported for an expression that has a type. The types and meanings known for the names in the
--- expression must be correct (`FactsAgreeWithShapesAndLabels`).
-abbrev pub TypedExpressionsHaveNoFault : Type 0 → Type 0
-TypedExpressionsHaveNoFault N =
+-- States that no fault is reported for an expression that has a type. The types and meanings known
+-- for the names in the expression must be correct (`FactsAgreeWithShapesAndLabels`).
+abbrev pub WellTypedExpressionsHaveNoFault : Type 0 → Type 0
+WellTypedExpressionsHaveNoFault N =
     (p : KnownDeclarations) (only_constants : Bool) (shapes : List Shape) (label : ℕ → N) (meaning : TypeMeanings N)
     (e : Tree ℕ expression)
     → FactsAgreeWithShapesAndLabels (facts_from_declarations p only_constants) (shape_of_type_in shapes) label meaning e
@@ -31,8 +31,8 @@ TypedExpressionsHaveNoFault N =
     ≡ true
     → (report_on_expression (facts_from_declarations p only_constants) e).faults ≡ []
 
--- States that no fault is reported for a constant expression that has a value. The types and meanings known for the
--- names in the expression must be correct (`FactsAgreeWithShapesAndLabels`).
+-- States that no fault is reported for a constant expression that has a value. The types and
+-- meanings known for the names in the expression must be correct (`FactsAgreeWithShapesAndLabels`).
 abbrev pub ConstantsWithValuesHaveNoFault : Type 0 → Type 0
 ConstantsWithValuesHaveNoFault N =
     (p : KnownDeclarations) (shapes : List Shape) (label : ℕ → N) (meaning : TypeMeanings N) (e : Tree ℕ expression)
@@ -40,8 +40,8 @@ ConstantsWithValuesHaveNoFault N =
     → is_some (constant_expression_value meaning (mapped_tree label (token_value_at p.source) e)) ≡ true
     → (report_on_constant_expression (facts_from_declarations p true) e).faults ≡ []
 
--- States that no fault is reported for a valid array length. The types and meanings known for the names in the length's
--- expression must be correct (`FactsAgreeWithShapesAndLabels`).
+-- States that no fault is reported for a valid array length. The types and meanings known for the
+-- names in the length's expression must be correct (`FactsAgreeWithShapesAndLabels`).
 abbrev pub ValidLengthsHaveNoFault : Type 0 → Type 0
 ValidLengthsHaveNoFault N =
     (p : KnownDeclarations) (shapes : List Shape) (label : ℕ → N) (meaning : TypeMeanings N) (e : Tree ℕ expression)
@@ -51,26 +51,27 @@ ValidLengthsHaveNoFault N =
     ≡ true
     → (report_on_expression (facts_from_declarations p true) e >>= length_from_operand (facts_from_declarations p false)).faults ≡ []
 
--- States that no fault is reported for an assignment's target that is a variable or parameter with well-typed
--- selectors. The types and meanings known for the names in the target must be correct (`FactsAgreeWithShapesAndLabels`).
-abbrev pub TypedTargetsHaveNoFault : Type 0 → Type 0
-TypedTargetsHaveNoFault N =
+-- States that no fault is reported for an assignment's target that is a variable or parameter with
+-- well-typed selectors. The types and meanings known for the names in the target must be correct
+-- (`FactsAgreeWithShapesAndLabels`).
+abbrev pub WellTypedTargetsHaveNoFault : Type 0 → Type 0
+WellTypedTargetsHaveNoFault N =
     (p : KnownDeclarations) (shapes : List Shape) (label : ℕ → N) (meaning : TypeMeanings N) (x : ℕ)
     (path : Tree ℕ (items selector))
     → FactsAgreeWithShapesAndLabels (facts_from_declarations p false) (shape_of_type_in shapes) label meaning (designator x path)
     → is_some (assignable_type meaning (Some (label x, mapped_tree label (token_value_at p.source) path))) ≡ true
     → (report_on_assignment_target (facts_from_declarations p false) x path).faults ≡ []
 
--- Returns the ordinal of the word ARRAY or RECORD that makes a type: the number of such words
--- before it in the text. The result is None for INTEGER and BOOLEAN.
+-- Returns the ordinal of an array or record type: the number of words ARRAY and RECORD before its
+-- own in the text. The result is None for INTEGER and BOOLEAN.
 abbrev pub ordinal_of_shape : Shape → Option ℕ
 ordinal_of_shape integer_shape = None
 ordinal_of_shape boolean_shape = None
 ordinal_of_shape (array_shape k n s) = Some k
 ordinal_of_shape (record_shape k fs) = Some k
 
--- States that no two array or record shapes in the list have the same ordinal. So each shape comes
--- from a different occurrence of ARRAY or RECORD in the text.
+-- States that no two array or record shapes in the list have the same ordinal. So each comes from a
+-- different word ARRAY or RECORD of the text.
 abbrev pub HaveDistinctOrdinals : List Shape → Type 0
 HaveDistinctOrdinals shapes =
     (i j k : ℕ) (s t : Shape) → slice_get shapes i ≡ Some s → slice_get shapes j ≡ Some t
@@ -96,7 +97,8 @@ TypedModulesHaveBoundNames =
     → passes_type_check naming_by_spelling (named_tree_of r.module_read) ≡ true
     → filter is_undeclared_fault r.faults ≡ []
 
--- States that no undeclared name and no fault of types is reported for a module that passes the type check.
+-- States that no undeclared name and no type fault is reported for a module that passes the type
+-- check.
 abbrev pub TypedModulesHaveNoFault : Type 0
 TypedModulesHaveNoFault =
     (r : Resolution)

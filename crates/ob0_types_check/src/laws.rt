@@ -4,7 +4,7 @@
 ghost use Rattle.ob0_types_check.specs.ModuleLaws.{WalkWithoutFaultFindsCorrectMeanings, ModulesWithoutFaultPassTypeCheck};
 ghost use Rattle.ob0_types_check.specs.ReportLaws.{FaultlessConstantsHaveCorrectValues, FaultlessExpressionsHaveCorrectTypesAndValues, FaultlessLengthsHaveCorrectValues, FaultlessStatementsAreWellTyped, TypesAgreeWithShapesIfTableDoes};
 ghost use Rattle.ob0_types_check.specs.WalksOverSomeBodies.{WalkingChangedAndFaultyBodiesSuffices};
-ghost use Rattle.ob0_types_check.specs.WellTypedLaws.{TypedModulesHaveBoundNames, ConstantsWithValuesHaveNoFault, TypedExpressionsHaveNoFault, ValidLengthsHaveNoFault, TypedModulesHaveNoFault, WellTypedStatementsHaveNoFault, TypedTargetsHaveNoFault};
+ghost use Rattle.ob0_types_check.specs.WellTypedLaws.{TypedModulesHaveBoundNames, ConstantsWithValuesHaveNoFault, WellTypedExpressionsHaveNoFault, ValidLengthsHaveNoFault, TypedModulesHaveNoFault, WellTypedStatementsHaveNoFault, WellTypedTargetsHaveNoFault};
 ghost use Rattle.ob0_language_names.specs.Names.{Name};
 
 /// Proves that if no fault is reported for an expression, the type and value found for the
@@ -42,13 +42,13 @@ pub fn types_agree_with_shapes_if_table_does()
     ensures { TypesAgreeWithShapesIfTableDoes }
 {}
 
-/// Proves that a module passes the type check if no fault of types and no undeclared name is
-/// reported for it. The type check ignores duplicate declarations and wrong closing names.
+/// Proves that a module passes the type check if no type fault and no undeclared name is reported
+/// for it. The type check ignores duplicate declarations and wrong closing names.
 pub fn modules_without_fault_pass_type_check()
     ensures { ModulesWithoutFaultPassTypeCheck }
 {}
 
-/// Proves that a walk that reports nothing finds correct meanings. If no fault of types and no
+/// Proves that a walk that reports nothing finds correct meanings. If no type fault and no
 /// undeclared name is reported for a module, the walk has found the right meaning of each
 /// declaration (`KnownDeclarationsAgreeWithModule`).
 pub fn walk_without_fault_finds_correct_meanings()
@@ -58,8 +58,8 @@ pub fn walk_without_fault_finds_correct_meanings()
 /// Proves that no fault is reported for an expression that has a type. The law assumes that the
 /// types and meanings found for the names in the expression are correct
 /// (`FactsAgreeWithShapesAndLabels`).
-pub fn typed_expressions_have_no_fault()
-    ensures { TypedExpressionsHaveNoFault Name }
+pub fn well_typed_expressions_have_no_fault()
+    ensures { WellTypedExpressionsHaveNoFault Name }
 {}
 
 /// Proves that no fault is reported for a constant expression that has a value. The law assumes
@@ -79,8 +79,8 @@ pub fn valid_lengths_have_no_fault()
 /// Proves that no fault is reported for an assignment's target if the target is a variable or
 /// parameter with well-typed selectors. The law assumes that the types and meanings found for the
 /// names in the target are correct (`FactsAgreeWithShapesAndLabels`).
-pub fn typed_targets_have_no_fault()
-    ensures { TypedTargetsHaveNoFault Name }
+pub fn well_typed_targets_have_no_fault()
+    ensures { WellTypedTargetsHaveNoFault Name }
 {}
 
 /// Proves that no fault is reported for well-typed statements. The law assumes that the types and
@@ -95,15 +95,16 @@ pub fn typed_modules_have_bound_names()
     ensures { TypedModulesHaveBoundNames }
 {}
 
-/// Proves that no fault of types and no undeclared name is reported for a module that passes the
-/// type check.
+/// Proves that no type fault and no undeclared name is reported for a module that passes the type
+/// check.
 pub fn typed_modules_have_no_fault()
     ensures { TypedModulesHaveNoFault }
 {}
 
 /// Proves that, after a change of a module's text, a walk over only some bodies gives the same
-/// report as a walk over all bodies. The walked bodies must include every body whose tokens changed
-/// and every body that had a fault before the change.
+/// report as a walk over all bodies. The change must keep the module's tree and the number of
+/// tokens. The tokens, with their bindings, may differ only in the walked bodies. These bodies must
+/// also include every body that had a fault before the change.
 pub fn walking_changed_and_faulty_bodies_suffices()
     ensures { WalkingChangedAndFaultyBodiesSuffices }
 {}

@@ -1,4 +1,4 @@
-//! Reports the type errors and undeclared names of a module, each with its span in the text
+//! Reports the type faults and undeclared names of a module, each with its first and last token
 //! (docs/LANGUAGE.md, Faults of scopes and types). If there are none, the report has the table of
 //! the module's declarations.
 //!

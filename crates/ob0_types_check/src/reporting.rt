@@ -1,8 +1,8 @@
-//! Reports the type errors of a module in one walk over its tree. If there are none, the walk has
+//! Reports the type faults of a module in one walk over its tree. If there are none, the walk has
 //! also found the meaning of each declaration.
 //!
-//! The type of an expression with a fault is unknown. A type that is written with a fault is
-//! unknown, as a whole or in parts. An unknown type causes no further fault.
+//! The type of an expression with a fault is unknown. If a written type has a fault, this type or a
+//! part of it is unknown. An unknown type causes no further fault.
 //!
 //! No other code decides whether a module passes the type check (`passes_type_check`). The laws
 //! connect this walk with the definition of the check. If no fault is reported, the module passes
@@ -12,13 +12,13 @@
 //!
 //! The definitions give the faults of each production of the grammar, in order, with codes and
 //! tokens. They also give the result of the production, for example the type of an expression. A
-//! `ResultWithFaults` is such a result with its faults. The operator `>>=` puts the faults of one step
-//! before the faults of the next step. Statements have faults but no result. The contract of a
+//! `ResultWithFaults` has this result and the faults. The operator `>>=` puts the faults of one
+//! step before the faults of the next step. Statements have faults but no result. The contract of a
 //! function that returns a value has one clause, `ReturnsAndReports before after x t`. Here `t` is
-//! the `ResultWithFaults` of the definitions. The clause states that the function returns the
-//! result `x` of `t` and appends the faults of `t` to the list `before`. One walk over an
-//! expression finds its operand: its type, its value if it is constant, whether it may be a
-//! variable, and its first and last token.
+//! the `ResultWithFaults` of the definitions, and `x` is the value that the function returns. The
+//! clause states that `x` is the result of `t`, and that the list `after` is the list `before`
+//! followed by the faults of `t`. One walk over an expression finds its `Operand`: its type, its
+//! value if constants determine one, whether it may be a variable, and its tokens.
 //!
 //! The definitions work over any representation of types that has an unknown type (`Types`). One
 //! such representation is the code's `TypeId`, which refers to array and record types by their
@@ -28,18 +28,17 @@
 //! The faults of written types, declarations and blocks depend on a state, `KnownDeclarations`.
 //! This state has the meanings of the declarations, by ordinal, and a list of the array and record
 //! types with their parts. `declarations_in_state` converts the code's `CheckerState` to a
-//! `KnownDeclarations`. So the definitions of the faults don't mention `CheckerState`. For blocks the
-//! state also has the list of the bodies with faults (`WalkProgress`).
-//! `CheckerState` and the list of faults are separate values. The functions for expressions and
-//! statements take `&self` and the list. The functions for declarations take a `ReportingWalk`,
-//! which has both.
+//! `KnownDeclarations`. So the definitions of faults don't mention `CheckerState`. For blocks the
+//! state also has the list of the bodies with faults (`WalkProgress`). `CheckerState` and the list
+//! of faults are separate values. The functions for expressions and statements take `&self` and the
+//! list. The functions for declarations take a `ReportingWalk`, which has both.
 //!
 //! The trees of the definitions don't contain the tokens ARRAY and RECORD. Definitions and code
-//! both find these tokens from their neighbors. ARRAY is the token before the array's length.
+//! both find these tokens by the tokens next to them. ARRAY is the token before the array's length.
 //! Between RECORD and the name of the first field there are only semicolons, one for each empty
-//! group of fields before that name (`record_keyword_token`). Every token has a next token, because
-//! `next_token_index` returns the end of the text unchanged. Every fault has a span, because a token
-//! that doesn't exist counts as the last token (`fault_with_span`).
+//! group of fields before that name (`record_keyword_token`). At the end of the text,
+//! `next_token_index` returns the index unchanged. A token that doesn't exist counts as the last
+//! token (`fault_with_span`), so every fault has a span.
 //!
 //! A body declares nothing. So if only the tokens of one body changed, the types and meanings known
 //! everywhere else are unchanged. Any other body that had no faults still has none
@@ -51,15 +50,15 @@
 //! without them. Then only these statements can have faults (`NewBody` of the proofs).
 //! `module_report_walking_one_body` walks the declarations and that body.
 //!
-//! The ordinal of a word ARRAY or RECORD is the number of such words before it in the text. The
-//! walk doesn't count these words. Each word makes one type, and inner types are made first. So, if
-//! nothing is reported, a word's ordinal is the number of types made so far plus the number of
-//! types around the word (`next_type_ordinal`). If this sum doesn't fit in 64 bits, the function
-//! fails as if memory had run out, so the definition needs no upper limit. No text is long enough
-//! for such a sum.
+//! The ordinal of a word ARRAY or RECORD is the number of words ARRAY and RECORD before it in the
+//! text. The walk doesn't count these words. Each word makes one type, and inner types are made
+//! first. So, if nothing is reported, a word's ordinal is the number of types made so far plus the
+//! number of types around the word (`next_type_ordinal`). If this sum doesn't fit in 64 bits, the
+//! function returns the error of a failed allocation, so the definition needs no upper limit. No
+//! text is long enough for this.
 //!
 //! The faults at undeclared names are copied from the faults that were found when the names were
-//! bound (`Resolved::faults`). The walk itself reports nothing at such a name.
+//! bound (`Resolved::faults`). The walk itself reports nothing at an undeclared name.
 
 mod checker_state;
 mod declarations;
@@ -89,24 +88,25 @@ use ob0_types_table::DeclarationTable;
 use std::alloc::{AllocError, Global};
 
 /// The report of a module: its faults, its declarations if there are no faults, and the bodies in
-/// which a fault of types is reported.
+/// which a type fault is reported.
 #[derive(Drop)]
 pub struct ModuleReport {
-    /// The faults at undeclared names, in text order, and then the faults of types.
+    /// The faults at undeclared names, in text order, and then the type faults.
     pub faults: Vec<FaultAtTokens>,
     /// The table of declarations, or None if there is a fault.
     pub known: Option<DeclarationTable>,
-    /// The bodies in which a fault of types is reported, in text order. Each body is given by the
-    /// token index of its block's closing name.
+    /// The bodies in which a type fault is reported, in text order. Each body is given by the token
+    /// index of its block's closing name.
     pub bodies_with_faults: Vec<usize>,
 }
 
-/// The bodies to walk: all bodies if `includes_every_body` is true, otherwise only the bodies in the list
-/// `these`. Each body in the list is given by the token index of its block's closing name.
+/// The bodies to walk: all bodies if `includes_every_body` is true, otherwise only the bodies in
+/// the list `listed_bodies`. Each body in the list is given by the token index of its block's
+/// closing name.
 #[derive(Clone, Copy)]
 struct BodiesToWalk<'b> {
     includes_every_body: bool,
-    these: &'b [usize],
+    listed_bodies: &'b [usize],
 }
 
 impl<'b> BodiesToWalk<'b> {
@@ -114,13 +114,13 @@ impl<'b> BodiesToWalk<'b> {
     fn includes_body(&self, closing: usize) -> bool
         ensures { result ≡ includes_body self.now closing }
     {
-        self.includes_every_body || self.these.contains(&closing)
+        self.includes_every_body || self.listed_bodies.contains(&closing)
     }
 }
 
-/// Returns the report of a module: its undeclared names in text order and then its faults of types.
-/// If there are no faults, the report has the module's declarations. Duplicate declarations and
-/// wrong closing names aren't reported here.
+/// Returns the report of a module: its undeclared names in text order and then its type faults. If
+/// there are no faults, the report has the module's declarations. Duplicate declarations and wrong
+/// closing names aren't reported here.
 pub fn module_report<'t>(
     alloc: Global,
     resolved: &'t Resolved<'t>,
@@ -130,15 +130,16 @@ pub fn module_report<'t>(
     let none = Vec::new(alloc);
     let includes_every_body = BodiesToWalk {
         includes_every_body: true,
-        these: none.as_slice(),
+        listed_bodies: none.as_slice(),
     };
     module_report_walking_wanted_bodies(alloc, resolved, &includes_every_body)
 }
 
-/// Returns the report of a module after a change. The report is the same as `module_report`
-/// returns, but only the declarations and the bodies in the list `bodies` are walked. Each body in
-/// the list is given by the token of its block's closing name. The list must include every body
-/// that changed and every body that had a fault of types before the change.
+/// Returns the same report as `module_report`, after a change of the module's text, but walks only
+/// the declarations and the bodies in the list `bodies`. Each body in the list is given by the
+/// token of its block's closing name. The change must keep the module's tree and the number of
+/// tokens. The tokens, with their bindings, may differ only in the listed bodies. The list must
+/// also include every body that had a type fault before the change.
 pub fn module_report_walking_some_bodies<'t>(
     alloc: Global,
     resolved: &'t Resolved<'t>,
@@ -150,11 +151,11 @@ pub fn module_report_walking_some_bodies<'t>(
     walking_changed_and_faulty_bodies_suffices();
     // The proof needs this call: its contract states the module's invariant.
     let _module = resolved.module();
-    let these = BodiesToWalk {
+    let wanted = BodiesToWalk {
         includes_every_body: false,
-        these: bodies,
+        listed_bodies: bodies,
     };
-    module_report_walking_wanted_bodies(alloc, resolved, &these)
+    module_report_walking_wanted_bodies(alloc, resolved, &wanted)
 }
 
 /// Returns the same report as `module_report`, but walks only the declarations and the statements
@@ -173,13 +174,13 @@ pub fn module_report_walking_one_body<'t>(
     let bodies = [closing];
     let only = BodiesToWalk {
         includes_every_body: false,
-        these: &bodies,
+        listed_bodies: &bodies,
     };
     module_report_walking_wanted_bodies(alloc, resolved, &only)
 }
 
-/// Returns the report of a module, but walks only the declarations and the bodies that `wanted`
-/// includes. All other bodies must have no faults of types.
+/// Returns the report of a module, but walks only the declarations, and the bodies that `wanted`
+/// includes. The other bodies must have no type faults.
 fn module_report_walking_wanted_bodies<'t>(
     alloc: Global,
     resolved: &'t Resolved<'t>,
@@ -201,7 +202,8 @@ fn module_report_walking_wanted_bodies<'t>(
     reporter.into_report(resolved, bodies_with_faults)
 }
 
-/// Makes the table of declarations and types from the final state of the walk.
+/// Makes the table of declarations and types from the final state of the walk. Each entry of
+/// `composites` must refer only to earlier entries, and must have the size of its shape.
 fn make_declaration_table<'t>(
     alloc: Global,
     checker_state: CheckerState<'t>,
@@ -230,7 +232,7 @@ struct ReportingWalk<'t> {
 
 impl<'t> ReportingWalk<'t> {
     /// Returns the state of the walk at the start of a module. Only the predeclared names have a
-    /// meaning, and the only faults are the undeclared names.
+    /// meaning. The list of faults has the faults at undeclared names.
     fn new(alloc: Global, resolved: &'t Resolved<'t>) -> Result<ReportingWalk<'t>, AllocError>
         ensures checker_state { IfOk result (λ t. declarations_in_state t.checker_state
             ≡ known_declarations_at_module_start resolved.now) }
@@ -238,7 +240,7 @@ impl<'t> ReportingWalk<'t> {
             (λ t. t.faults.items ≡ filter is_undeclared_fault resolved.now.faults) }
     {
         let mut meanings = predeclared_meanings(alloc)?;
-        add_unknown_meanings(&mut meanings, resolved.declaration_tokens())?;
+        add_placeholder_meanings(&mut meanings, resolved.declaration_tokens())?;
         let checker_state = CheckerState {
             resolved,
             meanings,
@@ -252,7 +254,7 @@ impl<'t> ReportingWalk<'t> {
     }
 
     /// Returns the report of a module whose walk has ended. The report has a table of declarations
-    /// only if there is no fault.
+    /// exactly if there is no fault.
     fn into_report(
         self,
         resolved: &'t Resolved<'t>,
@@ -305,9 +307,8 @@ fn undeclared_name_faults(
     Ok(faults)
 }
 
-/// Appends None, an unknown meaning, to `meanings` once for each declaration in the list
-/// `declarations`.
-fn add_unknown_meanings(
+/// Appends None (an unknown meaning) to `meanings` for each declaration in the list `declarations`.
+fn add_placeholder_meanings(
     meanings: &mut Vec<Option<Meaning>>,
     declarations: &[usize],
 ) -> Result<(), AllocError>

@@ -16,8 +16,8 @@ use Rattle.ob0_language_names.proofs.Peeling.{heads}
 use Rattle.ob0_scope_table.specs.Resolution.{ordinal_in}
 use Rattle.ob0_language_types.specs.Declarations.{constructor_count_before_procedure_block, constructor_count_before_variables, constructor_count_before_procedures, declare_constants, declare_constants_and_types, declare_types, procedure_constructor_count}
 use Rattle.ob0_language_types.specs.Environments.{meanings, outermost_environment}
-use Rattle.ob0_language_types.specs.Expressions.{Meanings, Object, a_constant, a_procedure, a_standard_procedure, a_type, a_variable, evaluate}
-use Rattle.ob0_language_types.specs.Typing.{addition_type, array_length_from_value, negation_type, value_of_constant_object, constant_expression_value, meanings_in_constant_expressions, constructor_count, denoted_type, denoted_group_fields, denoted_further_fields, element_type, outcome_value, group_constructor_count, multiplication_type, type_of_variable_or_constant, relation_type, signed_operand_type, type_after_selectors, type_of_expression, type_after_addends, type_of_factor, type_after_multipliers, type_of_simple_expression, type_of_term, value_type, prepend_fields, type_within_limits}
+use Rattle.ob0_language_types.specs.Expressions.{Meanings, Object, a_constant, a_procedure, a_standard_procedure, a_type, a_variable, evaluate_expression}
+use Rattle.ob0_language_types.specs.Typing.{addition_type, array_length_from_value, negation_type, value_of_constant_object, constant_expression_value, meanings_in_constant_expressions, constructor_count, denoted_type, denoted_group_fields, denoted_further_fields, element_type, outcome_value, group_constructor_count, multiplication_type, type_of_variable_or_constant, relation_type, signed_operand_type, type_after_selectors, type_of_expression, type_after_addends, type_of_factor, type_after_multipliers, type_of_simple_expression, type_of_term, value_type, prepend_fields, type_if_within_limits}
 use Rattle.ob0_language_types.specs.WellTyped.{Signature, TypeEnvironment, TypeMeanings, TypedParameter, WellTyped, bind_names, bind_typed_parameters, block_is_well_typed, declare_typed_variables, passes_type_check, bind_procedure, procedure_is_well_typed, procedures_and_body_are_well_typed, parameter_section_mode, typed_parameters}
 use Rattle.ob0_language_values.specs.Values.{FieldShapes, Shape, Value, array_shape, boolean_shape, elements, integer_shape, members, number, record_shape, truth}
 use Rattle.ob0_language_fields.specs.RenamedFields.{FieldRenaming, shape_after_selector, rename_selected_fields, rename_fields_in_block, rename_fields_in_formals, rename_fields_in_group, rename_fields_in_further_groups, rename_fields_in_procedure, rename_fields_in_procedure_list, rename_fields_in_parameter_section, rename_fields_in_further_parameter_sections, rename_fields_in_type, rename_fields_in_type_section, rename_fields_in_type_definitions, rename_fields_in_variable_section, rename_fields_in_variables, rename_fields_in_module}
@@ -216,7 +216,7 @@ mutual
 constant-plain : (m : TypeMeanings Name) (e : Tree Name expression) (v : Value) → constant_expression_value m e ≡ Some v → ids e ≡ marked (ids e)
 unfolding constant_expression_value
 constant-plain m e v h =
-    let (s, es, h₁) = then_some (type_of_expression (alone m) e) (λ s. outcome_value (evaluate {P = Unit {0}} (meanings_in_constant_expressions m) [] e)) v h in
+    let (s, es, h₁) = then_some (type_of_expression (alone m) e) (λ s. outcome_value (evaluate_expression {P = Unit {0}} (meanings_in_constant_expressions m) [] e)) v h in
     expression-plain m e s es
 
 constants-plain : (env : TypeEnvironment Name) (cs : Tree Name (items constant)) (after : TypeEnvironment Name) → declare_constants naming_by_spelling env cs ≡ Some after → ids cs ≡ marked (ids cs)
@@ -245,13 +245,13 @@ mutual
   type-marked : (m : TypeMeanings Name) (k : ℕ) (t : Tree Name written_type) (s : Shape) → denoted_type m k t ≡ Some s → ids (rename_fields_in_type every k t) ≡ marked (ids t)
   type-marked m k (named_type x) s h = refl
   type-marked m k (array_type e t) s h =
-      let (v, ev, h₁) = then_some (constant_expression_value m e) (λ v. option_and_then (λ n. option_and_then (λ u. type_within_limits (array_shape k n u)) (denoted_type m (suc k) t)) (array_length_from_value v)) s h in
-      let (n, en, h₂) = then_some (array_length_from_value v) (λ n. option_and_then (λ u. type_within_limits (array_shape k n u)) (denoted_type m (suc k) t)) s h₁ in
-      let (u, eu, h₃) = then_some (denoted_type m (suc k) t) (λ u. type_within_limits (array_shape k n u)) s h₂ in
+      let (v, ev, h₁) = then_some (constant_expression_value m e) (λ v. option_and_then (λ n. option_and_then (λ u. type_if_within_limits (array_shape k n u)) (denoted_type m (suc k) t)) (array_length_from_value v)) s h in
+      let (n, en, h₂) = then_some (array_length_from_value v) (λ n. option_and_then (λ u. type_if_within_limits (array_shape k n u)) (denoted_type m (suc k) t)) s h₁ in
+      let (u, eu, h₃) = then_some (denoted_type m (suc k) t) (λ u. type_if_within_limits (array_shape k n u)) s h₂ in
       both mark_at (ids e) (ids t) (constant-plain m e v ev) (type-marked m (suc k) t u eu)
   type-marked m k (record_type g rest) s h =
-      let (later, el, h₁) = then_some (denoted_further_fields m (suc k + group_constructor_count g) rest) (λ later. option_and_then (λ fs. type_within_limits (record_shape k fs)) (denoted_group_fields m (suc k) later g)) s h in
-      let (fs, ef, h₂) = then_some (denoted_group_fields m (suc k) later g) (λ fs. type_within_limits (record_shape k fs)) s h₁ in
+      let (later, el, h₁) = then_some (denoted_further_fields m (suc k + group_constructor_count g) rest) (λ later. option_and_then (λ fs. type_if_within_limits (record_shape k fs)) (denoted_group_fields m (suc k) later g)) s h in
+      let (fs, ef, h₂) = then_some (denoted_group_fields m (suc k) later g) (λ fs. type_if_within_limits (record_shape k fs)) s h₁ in
       both mark_at (ids g) (ids rest) (group-marked m k (suc k) later g fs ef) (groups-marked m k (suc k + group_constructor_count g) rest later el)
 
   group-marked : (m : TypeMeanings Name) (r k : ℕ) (later : FieldShapes) (g : Tree Name fields) (fs : FieldShapes) → denoted_group_fields m k later g ≡ Some fs → ids (rename_fields_in_group every r k g) ≡ marked (ids g)

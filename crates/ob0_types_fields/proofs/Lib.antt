@@ -5,16 +5,9 @@ pub mod DeclaredInOrder
 pub mod Selecting
 pub mod OwnedModules
 pub mod OwnedTokens
-pub mod MarkWalks
-pub mod MarkPaths
 pub mod FieldLookups
 pub mod SingleFactorFields
 pub mod WalkFindsAllFields
-pub mod GroupWalks
-pub mod DeclaredWalks
-pub mod ListedFields
-pub mod DeclaringWalks
-pub mod FieldSpans
 pub mod FieldIdentifierList
 pub mod DuplicateFields
 pub mod FieldsAreDeclared
@@ -23,10 +16,6 @@ pub mod FieldLabels
 pub mod ConstructorWalks
 pub mod DeclaredTypes
 pub mod TypedFields
-pub mod SameSelectedFields
-pub mod OwnedAround
-pub mod FieldRenamingOutside
-pub mod DeclaredMoved
-pub mod SplitAroundClosingName
-pub mod FieldsElsewhere
-mod OverwritingFields
+pub mod FieldVisits
+pub mod FieldsVisited
+pub mod WordsAreTokens

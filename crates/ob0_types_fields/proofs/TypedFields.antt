@@ -20,7 +20,7 @@ use Rattle.ob0_language_names.proofs.NameEquality.{same_name-refl}
 use Rattle.ob0_language_types.specs.Declarations.{constructor_count_before_procedure_block, constructor_count_before_variables, constructor_count_before_procedures, block_constructor_count, formals_constructor_count, procedure_constructor_count, procedure_list_constructor_count, types_constructor_count, variables_constructor_count}
 use Rattle.ob0_language_types.specs.Environments.{meanings}
 use Rattle.ob0_scope_table.specs.LabelledTrees.{tree_with_labels, label_at_token}
-use Rattle.ob0_language_types.specs.Typing.{array_length_from_value, constant_expression_value, constructor_count, denoted_type, denoted_group_fields, denoted_further_fields, depth, element_type, group_constructor_count, later_groups_constructor_count, scalars, named_field_shape, type_of_object, prepend_fields, type_within_limits}
+use Rattle.ob0_language_types.specs.Typing.{array_length_from_value, constant_expression_value, constructor_count, denoted_type, denoted_group_fields, denoted_further_fields, depth, element_type, group_constructor_count, later_groups_constructor_count, scalar_count, named_field_shape, type_of_object, prepend_fields, type_if_within_limits}
 use Rattle.ob0_language_types.specs.WellTyped.{TypeEnvironment, WellTyped}
 use Rattle.ob0_language_types.proofs.Literals.{some_inverse}
 use Rattle.ob0_language_types.proofs.TypedElsewhere.{then_some}
@@ -101,8 +101,8 @@ of_field f t = record { field = f; shape = t }
 abbrev place_in : ℕ → ℕ → FieldId
 place_in k i = record { ordinal = k; index = i }
 
-within-is : (s t : Shape) → type_within_limits s ≡ Some t → s ≡ t
-within-is s t = elim (nat_le (scalars s) 65536 && nat_le (depth s) 100) as (λ b. (if b then Some s else None) ≡ Some t → s ≡ t) [ true ↦ λ h. some_inverse h | false ↦ λ h. absurd (cc) ]
+within-is : (s t : Shape) → type_if_within_limits s ≡ Some t → s ≡ t
+within-is s t = elim (nat_le (scalar_count s) 65536 && nat_le (depth s) 100) as (λ b. (if b then Some s else None) ≡ Some t → s ≡ t) [ true ↦ λ h. some_inverse h | false ↦ λ h. absurd (cc) ]
 
 -- ---- each ARRAY and RECORD constructs one type
 
@@ -312,9 +312,9 @@ module _ (r : Resolution) where
         → (j : ℕ) → AllByRecursion (HasField (constructed_types (meaning r) (Some s) u) j) (fields_in_type j u)
     type-have env k (named_type x) s h plain once j = tt
     type-have env k (array_type e t) s h plain once j =
-        let one = then_some (constant_expression_value (meanings naming_by_label env) (tree_with_labels r e)) (λ v. option_and_then (λ n. option_and_then (λ a. type_within_limits (array_shape k n a)) (denoted_type (meanings naming_by_label env) (suc k) (tree_with_labels r t))) (array_length_from_value v)) s h in
-        let two = then_some (array_length_from_value one.0) (λ n. option_and_then (λ a. type_within_limits (array_shape k n a)) (denoted_type (meanings naming_by_label env) (suc k) (tree_with_labels r t))) s one.2 in
-        let three = then_some (denoted_type (meanings naming_by_label env) (suc k) (tree_with_labels r t)) (λ a. type_within_limits (array_shape k two.0 a)) s two.2 in
+        let one = then_some (constant_expression_value (meanings naming_by_label env) (tree_with_labels r e)) (λ v. option_and_then (λ n. option_and_then (λ a. type_if_within_limits (array_shape k n a)) (denoted_type (meanings naming_by_label env) (suc k) (tree_with_labels r t))) (array_length_from_value v)) s h in
+        let two = then_some (array_length_from_value one.0) (λ n. option_and_then (λ a. type_if_within_limits (array_shape k n a)) (denoted_type (meanings naming_by_label env) (suc k) (tree_with_labels r t))) s one.2 in
+        let three = then_some (denoted_type (meanings naming_by_label env) (suc k) (tree_with_labels r t)) (λ a. type_if_within_limits (array_shape k two.0 a)) s two.2 in
         let inner : List (Option Shape) = constructed_types (meaning r) (Some three.0) t in
         subst (λ z. AllByRecursion (HasField (constructed_types (meaning r) (Some z) (array_type e t)) j) (fields_in_type (suc j) t)) (within-is (array_shape k two.0 three.0) s three.2)
         (each-weaker (HasField inner (suc j)) (HasField (Some (array_shape k two.0 three.0) ∷ inner) j) (λ x h. has-next (Some (array_shape k two.0 three.0)) inner j x.owner (text x.token) h) (fields_in_type (suc j) t) (type-have env (suc k) t three.0 three.1 plain once (suc j)))
@@ -322,8 +322,8 @@ module _ (r : Resolution) where
         let n : ℕ = suc k + group_constructor_count (tree_with_labels r g) in
         let own : List Name = group_field_names (mapped_tree text value g) in
         let others : List Name = field_names_after_first_group (mapped_tree text value rest) in
-        let one = then_some (denoted_further_fields (meanings naming_by_label env) n (tree_with_labels r rest)) (λ later. option_and_then (λ fs. type_within_limits (record_shape k fs)) (denoted_group_fields (meanings naming_by_label env) (suc k) later (tree_with_labels r g))) s h in
-        let two = then_some (denoted_group_fields (meanings naming_by_label env) (suc k) one.0 (tree_with_labels r g)) (λ fs. type_within_limits (record_shape k fs)) s one.2 in
+        let one = then_some (denoted_further_fields (meanings naming_by_label env) n (tree_with_labels r rest)) (λ later. option_and_then (λ fs. type_if_within_limits (record_shape k fs)) (denoted_group_fields (meanings naming_by_label env) (suc k) later (tree_with_labels r g))) s h in
+        let two = then_some (denoted_group_fields (meanings naming_by_label env) (suc k) one.0 (tree_with_labels r g)) (λ fs. type_if_within_limits (record_shape k fs)) s one.2 in
         let all : FieldShapes = two.0 in
         let z : Shape = record_shape k all in
         let o1 = and_parts (are_distinct (own ++ others)) (group_has_distinct_fields (mapped_tree text value g) && later_groups_have_distinct_fields (mapped_tree text value rest)) once in

@@ -122,7 +122,7 @@ names-fields : (r : ℕ) (xs : List ℕ) → fields_with_owners (map (λ x. (x, 
 names-fields r [] = refl
 names-fields r (x ∷ xs) = ap (λ z. record { token = x; owner = r } ∷ z) (names-fields r xs)
 
-plain-fields : {sort : Sort} (t : Tree ℕ sort) → fields_with_owners (identifiers_without_owners t) ≡ []
+pub plain-fields : {sort : Sort} (t : Tree ℕ sort) → fields_with_owners (identifiers_without_owners t) ≡ []
 plain-fields t = none-among (identifiers role.DeclaringName t)
 
 -- A part without fields can be skipped.
@@ -147,7 +147,7 @@ types-fields : (k : ℕ) (ds : Tree ℕ (items type_definition)) → fields_with
 types-fields k end = refl
 types-fields k (more (declares_type x u) ds) = among-both (identifier_owners_in_type k u) (identifier_owners_in_types (k + constructor_count u) ds) (type-fields k u) (types-fields (k + constructor_count u) ds)
 
-type_section-fields : (k : ℕ) (ts : Tree ℕ (maybe type_definitions)) → fields_with_owners (identifier_owners_in_type_section k ts) ≡ fields_in_types k (section_types ts)
+pub type_section-fields : (k : ℕ) (ts : Tree ℕ (maybe type_definitions)) → fields_with_owners (identifier_owners_in_type_section k ts) ≡ fields_in_types k (section_types ts)
 type_section-fields k none = refl
 type_section-fields k (one (declares_type_section ts)) = types-fields k ts
 
@@ -156,7 +156,7 @@ variables-fields k end = refl
 variables-fields k (more (declares_variable ns u) gs) =
     among-both (identifiers_without_owners ns ++ identifier_owners_in_type k u) (identifier_owners_in_variables (k + constructor_count u) gs) (after-plain ns (identifier_owners_in_type k u) (type-fields k u)) (variables-fields (k + constructor_count u) gs)
 
-variable_section-fields : (k : ℕ) (vs : Tree ℕ (maybe variables)) → fields_with_owners (identifier_owners_in_variable_section k vs) ≡ fields_in_variables k (section_variables vs)
+pub variable_section-fields : (k : ℕ) (vs : Tree ℕ (maybe variables)) → fields_with_owners (identifier_owners_in_variable_section k vs) ≡ fields_in_variables k (section_variables vs)
 variable_section-fields k none = refl
 variable_section-fields k (one (declares_var_section vs)) = variables-fields k vs
 
@@ -168,7 +168,7 @@ sections-fields : (k : ℕ) (fs : Tree ℕ (items section_after_semicolon)) → 
 sections-fields k end = refl
 sections-fields k (more (semicolon_then_section f) fs) = among-both (identifier_owners_in_parameter_section k f) (identifier_owners_in_parameter_sections (k + constructor_count (parameter_section_type f)) fs) (section-fields k f) (sections-fields (k + constructor_count (parameter_section_type f)) fs)
 
-formals-fields : (k : ℕ) (fs : Tree ℕ (maybe formals)) → fields_with_owners (identifier_owners_in_formals k fs) ≡ fields_in_parameter_sections k (formal_parameter_sections fs)
+pub formals-fields : (k : ℕ) (fs : Tree ℕ (maybe formals)) → fields_with_owners (identifier_owners_in_formals k fs) ≡ fields_in_parameter_sections k (formal_parameter_sections fs)
 formals-fields k none = refl
 formals-fields k (one no_formals) = refl
 formals-fields k (one (some_formals f fs)) = among-both (identifier_owners_in_parameter_section k f) (identifier_owners_in_parameter_sections (k + constructor_count (parameter_section_type f)) fs) (section-fields k f) (sections-fields (k + constructor_count (parameter_section_type f)) fs)

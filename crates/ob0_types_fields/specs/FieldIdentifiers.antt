@@ -51,6 +51,17 @@ field_at_offset source offset [] = None
 field_at_offset source offset (x ∷ xs) =
     if is_in_span_or_at_end offset (token_span source x.token) then Some x else field_at_offset source offset xs
 
+-- returns the first identifier of a list that is at the token `token`; None if there is none
+abbrev pub field_at_token : ℕ → List FieldIdentifier → Option FieldIdentifier
+field_at_token token [] = None
+field_at_token token (x ∷ xs) = if x.token == token then Some x else field_at_token token xs
+
+-- Returns the first identifier of a list that is at the token `token`, if this token contains the
+-- byte offset `offset` or ends there. Otherwise the result is None.
+abbrev pub field_at_token_and_offset : TextWithTokens → ℕ → ℕ → List FieldIdentifier → Option FieldIdentifier
+field_at_token_and_offset source token offset xs =
+    if is_in_span_or_at_end offset (token_span source token) then field_at_token token xs else None
+
 -- returns the token index of each identifier in a list
 abbrev pub token_indexes : List FieldIdentifier → List ℕ
 token_indexes xs = map (λ x. x.token) xs

@@ -1,6 +1,6 @@
--- Definitions for the contracts of the walk that collects the fields of a module.
+-- Definitions for the contracts of the walks that visit the fields of a module or of a part of one.
 -- Rule: none; used in contracts of private functions.
-use Rattle.std.specs.Prelude.{ℕ, List, Option}
+use Rattle.std.specs.Prelude.{◌≡◌, ◌<◌, ◌+◌, ◌^◌, ℕ, List, [], ◌∷◌, Option}
 use Rattle.ob0_tree.specs.Tree.{Tree, field, index, item, selector}
 use Rattle.ob0_language_types.specs.Expressions.{Meanings}
 use Rattle.ob0_types_table.specs.declared.declaration_table.RecordShape.{RecordShape}
@@ -32,3 +32,17 @@ abbrev pub fields_in_selector : {P : Type 0}
     → List FieldIdentifier
 fields_in_selector m s (field x) = field_if_owned x (owner s (m.written x))
 fields_in_selector m s (index e) = fields_in_tree m e
+
+-- Returns the state of a visitor after it has visited the field identifiers of a list one after
+-- another, starting in the state `known`. `step` returns the state after one identifier, given the
+-- identifier and the state before.
+abbrev pub state_after_fields : {S : Type 0} → (FieldIdentifier → S → S) → List FieldIdentifier → S → S
+state_after_fields step [] known = known
+state_after_fields step (x ∷ xs) known = state_after_fields step xs (step x known)
+
+-- States what a walk over a part of a module's declarations does. The part has `count` words ARRAY
+-- and RECORD, and `before` such words precede it. If 64 bits can count these words, the count after
+-- the walk is right, and the visitor has visited the part's fields, which are `fields`.
+pub record VisitsDeclarations {S : Type 0} (step : FieldIdentifier → S → S) (fields : List FieldIdentifier) (count before after : ℕ) (old new : S) : Type 0 where
+  pub counted : before + count < 2 ^ 64 → after ≡ before + count
+  pub visited : before + count < 2 ^ 64 → new ≡ state_after_fields step fields old

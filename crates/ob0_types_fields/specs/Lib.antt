@@ -1,7 +1,7 @@
 pub mod OwnerTables
 pub mod IdentifierOwners
 pub mod FieldIdentifiers
-pub mod FieldLists
+pub mod FieldVisitors
 pub mod FieldWalks
 pub mod FieldTypes
 pub mod TypeConstructorSearch

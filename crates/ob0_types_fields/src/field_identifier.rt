@@ -9,6 +9,3 @@ pub struct FieldIdentifier {
     /// record's word RECORD in the text.
     pub owner: usize,
 }
-
-/// Field identifiers of one module, in text order.
-pub(crate) type FieldIdentifierList = Vec<FieldIdentifier>;

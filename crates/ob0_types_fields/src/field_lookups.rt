@@ -1,148 +1,122 @@
-//! Look-ups in a list of field identifiers: by byte offset, and by record and name.
+//! Finds fields by walks over the tree: the field at a token, the place of a field in its record, and
+//! all tokens of a field. Only `tokens_of_field` allocates memory.
 
-ghost use Rattle.std.specs.Prelude.{◌≡◌, ◌≤◌, IfOk, None, Some, false, if◌then◌else◌, length, nat_lt, true};
-ghost use Rattle.std.specs.List.{position_from};
-ghost use Rattle.std.specs.List.Sorted.{IsNonDecreasingBy, IsPartitionPoint};
-ghost use Rattle.ob0_tree.specs.TokenIndexLeaves.{token_text_at};
-ghost use Rattle.ob0_language_names.specs.Names.{same_name};
-ghost use Rattle.ob0_scope_table.specs.Resolution.{token_span};
-ghost use Rattle.ob0_scope_table.specs.Spans.{is_in_span_or_at_end};
-ghost use Rattle.ob0_types_fields.specs.FieldIdentifiers.{AreInTextOrder, field_at_offset, first_token, belongs_to_field, field_tokens_of_record, tokens_of_field};
+ghost use Rattle.std.specs.Prelude.{◌≡◌, ◌<◌, ◌^◌, IfOk, OnOk, length, option_map};
+ghost use Rattle.ob0_tree.specs.ParsedModule.{tree_of};
+ghost use Rattle.ob0_tree.specs.View.{body_of};
+ghost use Rattle.ob0_types_table.specs.DeclarationTables.{declared_object_in};
+ghost use Rattle.ob0_types_fields.specs.FieldIdentifiers.{declared_fields, field_at_token, field_declaring_token, field_index_in_record, tokens_of_field};
+ghost use Rattle.ob0_types_fields.specs.FieldVisitors.{declared_index, declared_token};
+ghost use Rattle.ob0_types_fields.specs.FieldWalks.{state_after_fields};
+ghost use Rattle.ob0_types_fields.specs.IdentifierOwners.{fields_in_module, fields_in_tree, meanings_by_token};
 
+use crate::declared_block_fields::visit_fields_declared_in_block;
 use crate::field_identifier::FieldIdentifier;
-use ob0_scan::{Span, Tokens};
-use ob0_scope_table::{has_spelling, token_span};
+use crate::field_visitors::{
+    DeclaredField, DeclaredFieldSearch, FieldSearch, FieldTokenCollector, FieldVisitor, NamedField,
+};
+use crate::field_walk::{FieldWalk, token_count};
+use ob0_scope_table::Resolved;
+use ob0_tree::Statement;
+use ob0_types_table::DeclarationTable;
 use std::alloc::{AllocError, Global};
 
-/// Returns the first identifier in the list `found` that contains the byte offset `offset` or ends
-/// there. Returns None if there is none. The list must be in text order. A binary search finds the
-/// first identifier that doesn't end before the offset. If this identifier starts after the offset,
-/// all later ones also start after it, so the result is None.
-pub(crate) fn field_at_offset(
-    tokens: &Tokens,
-    offset: usize,
-    found: &[FieldIdentifier],
+/// Returns the field that the statements of a body select at the token `token`. `table` is the
+/// table of the module's declarations. Returns None if the statements select no field there.
+pub fn selected_field_at_token<'a, 't>(
+    table: &'a DeclarationTable,
+    resolved: &'a Resolved<'t>,
+    statements: &Option<Vec<Statement>>,
+    token: usize,
 ) -> Option<FieldIdentifier>
-    ensures { AreInTextOrder tokens.now found.now → result
-        ≡ field_at_offset tokens.now offset found.now }
+    ensures { result ≡ field_at_token token
+        (fields_in_tree (meanings_by_token (declared_object_in table.now) resolved.now)
+        (body_of statements.now)) }
 {
-    // The proof uses the invariant of the tokens, which this call's contract states.
-    let _scanned = tokens.text();
-    match found.get(count_fields_ending_before_offset(tokens, offset, found)) {
-        Some(field) => field_if_at_offset(tokens, offset, *field),
-        None => None,
+    let walk = FieldWalk { table, resolved };
+    let mut search = FieldSearch { token, found: None };
+    match walk.visit_body_fields(&mut search, statements) {
+        Ok(()) => search.found,
+        Err(never) => match never {},
     }
 }
 
-/// Returns the number of identifiers in the list `found` that end before the byte offset `offset`.
-/// The list must be sorted by the ends of its identifiers.
-fn count_fields_ending_before_offset(
-    tokens: &Tokens,
-    offset: usize,
-    found: &[FieldIdentifier],
-) -> usize
-    ensures bound { result ≤ length found.now }
-    ensures point { IsNonDecreasingBy (λ x. (token_span tokens.now x.token).end) found.now
-        → IsPartitionPoint (λ x. nat_lt (token_span tokens.now x.token).end offset ≡ true)
-        (λ x. nat_lt (token_span tokens.now x.token).end offset ≡ false) found.now result }
+/// Returns the field that a record of the module declares at the token `token`. Returns None if no
+/// field is declared there.
+pub fn declared_field_at_token(resolved: &Resolved<'_>, token: usize) -> Option<FieldIdentifier>
+    ensures { result ≡ field_at_token token (declared_fields resolved.now.module_read) }
 {
-    found.partition_point(|field| (token_span(tokens, field.token).end as usize) < offset)
-}
-
-/// Returns the identifier `field` if it contains the byte offset `offset` or ends there, otherwise
-/// None.
-fn field_if_at_offset(
-    tokens: &Tokens,
-    offset: usize,
-    field: FieldIdentifier,
-) -> Option<FieldIdentifier>
-    ensures { result ≡ (if is_in_span_or_at_end offset (token_span tokens.now field.token) then Some
-        field else None) }
-{
-    if is_in_span_or_at_end(offset, token_span(tokens, field.token)) {
-        Some(field)
-    } else {
-        None
+    let mut search = FieldSearch { token, found: None };
+    match visit_declared_fields(&mut search, resolved) {
+        Ok(()) => search.found,
+        Err(never) => match never {},
     }
 }
 
-/// Returns whether the byte offset `offset` lies within the span or at the span's end.
-fn is_in_span_or_at_end(offset: usize, span: Span) -> bool
-    ensures { result ≡ is_in_span_or_at_end offset span }
+/// Returns the place of the field `name` in its record. `owner` is the record's ordinal: the
+/// number of words ARRAY and RECORD before the record in the text. Returns None if the record has
+/// no such field.
+pub fn declared_field(resolved: &Resolved<'_>, owner: usize, name: &str) -> Option<DeclaredField>
+    ensures token { option_map declared_token result
+        ≡ field_declaring_token resolved.now.module_read owner name.now }
+    ensures index { option_map declared_index result
+        ≡ field_index_in_record resolved.now.module_read owner name.now }
 {
-    span.start as usize <= offset && offset <= span.end as usize
-}
-
-/// Returns the position of the field `name` among the items of the list `fields` that belong to the
-/// record with ordinal `owner`, counted from 0. A record's ordinal is the number of words ARRAY and
-/// RECORD before the record in the text. Returns None if no such item has this name.
-pub(crate) fn field_position_in_record(
-    tokens: &Tokens,
-    fields: &[FieldIdentifier],
-    owner: usize,
-    name: &str,
-) -> Option<usize>
-    ensures { result
-        ≡ position_from (λ token. same_name (token_text_at tokens.now token) name.now) 0
-        (field_tokens_of_record owner fields.now) }
-{
-    let mut place = 0;
-    for field in fields {
-        if field.owner == owner {
-            if has_spelling(tokens, field.token, name) {
-                return Some(place);
-            }
-            place += 1;
-        }
+    let mut sought = DeclaredFieldSearch {
+        field: NamedField {
+            tokens: resolved.tokens(),
+            owner,
+            name,
+        },
+        index: 0,
+        found: None,
+    };
+    match visit_declared_fields(&mut sought, resolved) {
+        Ok(()) => sought.found,
+        Err(never) => match never {},
     }
-    None
 }
 
-/// Returns the token indexes of all identifiers in the list `fields` that belong to the field
-/// `name` of the record with ordinal `owner`. The indexes are in the order of the list. A record's
+/// Returns the tokens of all identifiers that declare or select the field `name` of the record with
+/// ordinal `owner`, in text order. `table` is the table of the module's declarations. A record's
 /// ordinal is the number of words ARRAY and RECORD before the record in the text.
-pub(crate) fn tokens_of_field(
+pub fn tokens_of_field<'a, 't>(
     alloc: Global,
-    tokens: &Tokens,
-    fields: &[FieldIdentifier],
+    table: &'a DeclarationTable,
+    resolved: &'a Resolved<'t>,
     owner: usize,
     name: &str,
 ) -> Result<Vec<usize>, AllocError>
-    ensures { IfOk result
-        (λ found. found.items ≡ tokens_of_field tokens.now owner name.now fields.now) }
+    ensures { IfOk result (λ found. found.items
+        ≡ tokens_of_field resolved.now.module_read.source owner name.now
+        (fields_in_module (meanings_by_token (declared_object_in table.now) resolved.now)
+        (tree_of resolved.now.module_read))) }
 {
-    let mut found = Vec::new(alloc);
-    for field in fields {
-        if belongs_to_field(tokens, *field, owner, name) {
-            found.push(field.token)?;
-        }
-    }
-    Ok(found)
+    let walk = FieldWalk { table, resolved };
+    let mut collector = FieldTokenCollector {
+        field: NamedField {
+            tokens: resolved.tokens(),
+            owner,
+            name,
+        },
+        collected: Vec::new(alloc),
+    };
+    walk.visit_module_fields(&mut collector)?;
+    Ok(collector.into_tokens())
 }
 
-/// Returns the token index of the first identifier in the list `fields` that belongs to the field
-/// `name` of the record with ordinal `owner`. A record's ordinal is the number of words ARRAY and
-/// RECORD before the record in the text. Returns None if there is no such identifier.
-pub(crate) fn first_token_of_field(
-    tokens: &Tokens,
-    fields: &[FieldIdentifier],
-    owner: usize,
-    name: &str,
-) -> Option<usize>
-    ensures { result ≡ first_token (tokens_of_field tokens.now owner name.now fields.now) }
+/// Visits the identifiers that declare the fields of a module, in text order. There are fewer than
+/// 2^64.
+fn visit_declared_fields<V: FieldVisitor>(
+    visitor: &mut V,
+    resolved: &Resolved<'_>,
+) -> Result<(), V::Error>
+    ensures visited { OnOk result (visitor.new ≡ state_after_fields V.state_after_one_field
+        (declared_fields resolved.now.module_read) visitor.old) }
+    ensures few { OnOk result (length (declared_fields resolved.now.module_read) < 2 ^ 64) }
 {
-    for field in fields {
-        if belongs_to_field(tokens, *field, owner, name) {
-            return Some(field.token);
-        }
-    }
-    None
-}
-
-/// Returns whether the identifier `field` has the spelling `name` and belongs to the record with
-/// ordinal `owner`.
-fn belongs_to_field(tokens: &Tokens, field: FieldIdentifier, owner: usize, name: &str) -> bool
-    ensures { result ≡ belongs_to_field tokens.now owner name.now field }
-{
-    field.owner == owner && has_spelling(tokens, field.token, name)
+    // The proof needs this call: there are no more fields, or words ARRAY and RECORD, than tokens.
+    let _count = token_count(resolved);
+    let mut word_count = 0;
+    visit_fields_declared_in_block(visitor, &mut word_count, resolved.module().block())
 }

@@ -1,5 +1,5 @@
-//! Walks a module to collect its field identifiers: the identifiers that declare or select a field
-//! of a record.
+//! Walks a module to visit its field identifiers: the identifiers that declare or select a field of
+//! a record. A visitor (`FieldVisitor`) says what is done with each of them.
 //!
 //! One loop visits the selectors of a designator from left to right. The loop carries the type of
 //! the part of the designator before the next selector. The expression in an index is visited when
@@ -10,19 +10,23 @@
 //! treated as that factor. The type of a designator without selectors isn't looked up. The name of
 //! a selected field is looked up once, which gives the field's type.
 
-ghost use Rattle.std.specs.Prelude.{◌≡◌, ◌++◌, ◌+◌, IfOk, Some, option_and_then, option_map};
+#![tactic(auto, using(std::proofs::lemmas::Grind::common_steps, crate::proofs::FieldVisits::visited_append))]
+
+ghost use Rattle.std.specs.Prelude.{◌≡◌, IfOk, OnOk, Some, length, option_and_then, option_map};
+ghost use Rattle.ob0_tree.specs.ParsedModule.{tree_of};
 ghost use Rattle.ob0_tree.specs.View.{expression_of, compound_expression_of, simple_expression_of, term_of, factor_of, designator_of, selector_of, assignment_of, call_of, arguments_of_vec, statement_of, if_of, elsifs_of_vec, sequence_of_vec, body_of, block_of, procedure_of};
 ghost use Rattle.ob0_language_types.specs.Declarations.{block_constructor_count, procedure_constructor_count};
 ghost use Rattle.ob0_types_table.specs.DeclarationTables.{shapes_of};
 ghost use Rattle.ob0_types_table.specs.DeclarationTableView.{type_shape};
 ghost use Rattle.ob0_language_types.specs.Typing.{element_type, field_type, type_of_variable_or_constant};
 ghost use Rattle.ob0_language_values.specs.Values.{integer_shape};
-ghost use Rattle.ob0_types_fields.specs.IdentifierOwners.{field_if_owned, fields_in_tree, fields_in_block, fields_in_procedure, owner, type_after_selector};
-ghost use Rattle.ob0_types_fields.specs.FieldWalks.{fields_in_selector, field_walk_meanings, record_shape_in_walk};
+ghost use Rattle.ob0_types_fields.specs.IdentifierOwners.{field_if_owned, fields_in_tree, fields_in_block, fields_in_module, fields_in_procedure, owner, type_after_selector};
+ghost use Rattle.ob0_types_fields.specs.FieldWalks.{VisitsDeclarations, fields_in_selector, field_walk_meanings, record_shape_in_walk, state_after_fields};
 
-use crate::field_identifier::{FieldIdentifier, FieldIdentifierList};
+use crate::field_identifier::FieldIdentifier;
+use crate::field_visitors::FieldVisitor;
 use crate::written_type_fields::{
-    add_parameter_type_fields, add_type_section_fields, add_variable_section_fields,
+    visit_parameter_type_fields, visit_type_section_fields, visit_variable_section_fields,
 };
 use ob0_scope_table::Resolved;
 use ob0_tree::{
@@ -30,9 +34,15 @@ use ob0_tree::{
     Procedure, Repeat, Selector, SimpleExpression, Statement, Term, While, token_text_at,
 };
 use ob0_types_table::{DeclarationTable, Object, RecordShape, TypeId, TypeWithParts, scalar_type};
-use std::alloc::AllocError;
 
-/// The module whose fields are collected, with the table of its declarations.
+/// Returns the number of a module's tokens. The proof of a caller learns that 64 bits can count them.
+pub(crate) fn token_count(resolved: &Resolved<'_>) -> usize
+    ensures { result ≡ length resolved.now.module_read.source.tokens }
+{
+    resolved.tokens().tokens().len()
+}
+
+/// The module whose fields are visited, with the table of its declarations.
 #[derive(Clone, Copy)]
 pub(crate) struct FieldWalk<'a, 't> {
     pub(crate) table: &'a DeclarationTable,
@@ -51,27 +61,25 @@ impl<'a, 't> FieldWalk<'a, 't> {
         match self.table.object(ordinal)? {
             Object::Variable(of) => Some(*of),
             Object::Constant(value) => Some(scalar_type(*value)),
-            Object::Named(_) => None,
+            Object::TypeName(_) => None,
             Object::FaultyConstant => None,
             Object::Procedure(_) => None,
             Object::StandardProcedure(_) => None,
         }
     }
 
-    /// Appends the field that the name at token `name` selects from a value of type `base`, and
-    /// returns the field's type. If there is no such field or `base` is None (unknown), appends
+    /// Visits the field that the name at token `name` selects from a value of type `base`, and
+    /// returns the field's type. If there is no such field or `base` is None (unknown), visits
     /// nothing and returns None.
-    fn add_selected_field(
+    fn visit_selected_field<V: FieldVisitor>(
         &self,
-        found: &mut FieldIdentifierList,
+        visitor: &mut V,
         base: Option<TypeId>,
         name: usize,
-    ) -> Result<Option<TypeId>, AllocError>
-        ensures found { IfOk result (λ _. found.new.items
-            ≡ found.old.items
-            ++ field_if_owned name
-            (owner (option_map (type_shape (shapes_of self.now.table.now)) base)
-            ((field_walk_meanings self.now).written name))) }
+    ) -> Result<Option<TypeId>, V::Error>
+        ensures visited { OnOk result (visitor.new ≡ state_after_fields V.state_after_one_field
+            (field_if_owned name (owner (option_map (type_shape (shapes_of self.now.table.now)) base)
+            ((field_walk_meanings self.now).written name))) visitor.old) }
         ensures following { IfOk result (λ t.
             option_map (type_shape (shapes_of self.now.table.now)) t
             ≡ option_and_then (λ z. field_type z ((field_walk_meanings self.now).written name))
@@ -81,7 +89,9 @@ impl<'a, 't> FieldWalk<'a, 't> {
             return Ok(None);
         };
         match self.table.parts(base) {
-            TypeWithParts::Record(shape) => self.add_field_selected_in_record(found, shape, name),
+            TypeWithParts::Record(shape) => self.visit_field_selected_in_record(
+                visitor, shape, name,
+            ),
             TypeWithParts::Integer => Ok(None),
             TypeWithParts::Boolean => Ok(None),
             TypeWithParts::Array(_) => Ok(None),
@@ -89,18 +99,17 @@ impl<'a, 't> FieldWalk<'a, 't> {
         }
     }
 
-    /// Appends the field that the name at token `name` selects from the record `shape`, and returns
-    /// the field's type. If the record has no such field, appends nothing and returns None.
-    fn add_field_selected_in_record(
+    /// Visits the field that the name at token `name` selects from the record `shape`, and returns
+    /// the field's type. If the record has no such field, visits nothing and returns None.
+    fn visit_field_selected_in_record<V: FieldVisitor>(
         &self,
-        found: &mut FieldIdentifierList,
+        visitor: &mut V,
         shape: &RecordShape,
         name: usize,
-    ) -> Result<Option<TypeId>, AllocError>
-        ensures found { IfOk result (λ _. found.new.items
-            ≡ found.old.items
-            ++ field_if_owned name (owner (Some (record_shape_in_walk self.now shape.now))
-            ((field_walk_meanings self.now).written name))) }
+    ) -> Result<Option<TypeId>, V::Error>
+        ensures visited { OnOk result (visitor.new ≡ state_after_fields V.state_after_one_field
+            (field_if_owned name (owner (Some (record_shape_in_walk self.now shape.now))
+            ((field_walk_meanings self.now).written name))) visitor.old) }
         ensures following { IfOk result (λ t.
             option_map (type_shape (shapes_of self.now.table.now)) t
             ≡ field_type (record_shape_in_walk self.now shape.now)
@@ -113,7 +122,7 @@ impl<'a, 't> FieldWalk<'a, 't> {
             None => Ok(None),
             Some(of) => {
                 let owner = shape.ordinal;
-                found.push(FieldIdentifier { token: name, owner })?;
+                visitor.visit_one_field(FieldIdentifier { token: name, owner })?;
                 Ok(Some(of))
             }
         }
@@ -132,298 +141,309 @@ impl<'a, 't> FieldWalk<'a, 't> {
         }
     }
 
-    /// Appends the field identifiers in an expression, in text order.
+    /// Visits the field identifiers in an expression, in text order.
     #[cycle(expressions)]
-    fn add_expression_fields(
+    fn visit_expression_fields<V: FieldVisitor>(
         &self,
-        found: &mut FieldIdentifierList,
+        visitor: &mut V,
         e: &Expression,
-    ) -> Result<(), AllocError>
-        ensures { IfOk result (λ _. found.new.items
-            ≡ found.old.items ++ fields_in_tree (field_walk_meanings self.now) (expression_of e.now)) }
+    ) -> Result<(), V::Error>
+        ensures { OnOk result (visitor.new ≡ state_after_fields V.state_after_one_field
+            (fields_in_tree (field_walk_meanings self.now) (expression_of e.now)) visitor.old) }
     {
         match e {
-            Expression::Factor(f) => self.add_factor_fields(found, f),
-            Expression::CompoundExpression(c) => self.add_compound_expression_fields(found, c),
+            Expression::Factor(f) => self.visit_factor_fields(visitor, f),
+            Expression::CompoundExpression(c) => self.visit_compound_expression_fields(visitor, c),
         }
     }
 
     #[cycle(expressions)]
-    fn add_compound_expression_fields(
+    fn visit_compound_expression_fields<V: FieldVisitor>(
         &self,
-        found: &mut FieldIdentifierList,
+        visitor: &mut V,
         c: &CompoundExpression,
-    ) -> Result<(), AllocError>
-        ensures { IfOk result (λ _. found.new.items
-            ≡ found.old.items ++ fields_in_tree (field_walk_meanings self.now) (compound_expression_of c.now)) }
+    ) -> Result<(), V::Error>
+        ensures { OnOk result (visitor.new ≡ state_after_fields V.state_after_one_field
+            (fields_in_tree (field_walk_meanings self.now) (compound_expression_of c.now)) visitor.old) }
     {
-        self.add_simple_expression_fields(found, &c.left)?;
-        if let Some(compared) = &c.compared {
-            self.add_simple_expression_fields(found, &compared.right)?;
+        self.visit_simple_expression_fields(visitor, &c.left)?;
+        match &c.compared {
+            Some(compared) => self.visit_simple_expression_fields(visitor, &compared.right),
+            None => Ok(()),
         }
-        Ok(())
     }
 
     #[cycle(expressions)]
-    fn add_simple_expression_fields(
+    fn visit_simple_expression_fields<V: FieldVisitor>(
         &self,
-        found: &mut FieldIdentifierList,
+        visitor: &mut V,
         s: &SimpleExpression,
-    ) -> Result<(), AllocError>
-        ensures { IfOk result (λ _. found.new.items
-            ≡ found.old.items ++ fields_in_tree (field_walk_meanings self.now) (simple_expression_of s.now)) }
+    ) -> Result<(), V::Error>
+        ensures { OnOk result (visitor.new ≡ state_after_fields V.state_after_one_field
+            (fields_in_tree (field_walk_meanings self.now) (simple_expression_of s.now)) visitor.old) }
     {
-        self.add_term_fields(found, &s.first)?;
+        self.visit_term_fields(visitor, &s.first)?;
         for addend in &s.more {
-            self.add_term_fields(found, &addend.term)?;
+            self.visit_term_fields(visitor, &addend.term)?;
         }
         Ok(())
     }
 
     #[cycle(expressions)]
-    fn add_term_fields(&self, found: &mut FieldIdentifierList, t: &Term) -> Result<(), AllocError>
-        ensures { IfOk result (λ _. found.new.items
-            ≡ found.old.items ++ fields_in_tree (field_walk_meanings self.now) (term_of t.now)) }
+    fn visit_term_fields<V: FieldVisitor>(&self, visitor: &mut V, t: &Term) -> Result<(), V::Error>
+        ensures { OnOk result (visitor.new ≡ state_after_fields V.state_after_one_field
+            (fields_in_tree (field_walk_meanings self.now) (term_of t.now)) visitor.old) }
     {
-        self.add_factor_fields(found, &t.first)?;
+        self.visit_factor_fields(visitor, &t.first)?;
         for multiplier in &t.more {
-            self.add_factor_fields(found, &multiplier.factor)?;
+            self.visit_factor_fields(visitor, &multiplier.factor)?;
         }
         Ok(())
     }
 
     #[cycle(expressions)]
-    fn add_factor_fields(
+    fn visit_factor_fields<V: FieldVisitor>(
         &self,
-        found: &mut FieldIdentifierList,
+        visitor: &mut V,
         f: &Factor,
-    ) -> Result<(), AllocError>
-        ensures { IfOk result (λ _. found.new.items
-            ≡ found.old.items ++ fields_in_tree (field_walk_meanings self.now) (factor_of f.now)) }
+    ) -> Result<(), V::Error>
+        ensures { OnOk result (visitor.new ≡ state_after_fields V.state_after_one_field
+            (fields_in_tree (field_walk_meanings self.now) (factor_of f.now)) visitor.old) }
     {
         match f {
-            Factor::Designator(d) => self.add_designator_fields(found, d),
+            Factor::Designator(d) => self.visit_designator_fields(visitor, d),
             Factor::Integer(_) => Ok(()),
-            Factor::Parenthesised(e) => self.add_expression_fields(found, e),
-            Factor::Not(f) => self.add_factor_fields(found, f),
+            Factor::Parenthesised(e) => self.visit_expression_fields(visitor, e),
+            Factor::Not(f) => self.visit_factor_fields(visitor, f),
         }
     }
 
     #[cycle(expressions)]
-    fn add_designator_fields(
+    fn visit_designator_fields<V: FieldVisitor>(
         &self,
-        found: &mut FieldIdentifierList,
+        visitor: &mut V,
         d: &Designator,
-    ) -> Result<(), AllocError>
-        ensures { IfOk result (λ _. found.new.items
-            ≡ found.old.items ++ fields_in_tree (field_walk_meanings self.now) (designator_of d.now)) }
+    ) -> Result<(), V::Error>
+        ensures { OnOk result (visitor.new ≡ state_after_fields V.state_after_one_field
+            (fields_in_tree (field_walk_meanings self.now) (designator_of d.now)) visitor.old) }
     {
         if d.selectors.is_empty() {
             return Ok(());
         }
         let mut at = self.value_type(d.name);
         for s in &d.selectors {
-            at = self.add_selector_fields(found, at, s)?;
+            at = self.visit_selector_fields(visitor, at, s)?;
         }
         Ok(())
     }
 
-    /// Appends the field identifiers in one selector: the selected field, or the fields in an
+    /// Visits the field identifiers in one selector: the selected field, or the fields in an
     /// index's expression. `base` is the type of the designator before this selector. Returns the
     /// type of the designator including this selector, or None if this type is unknown.
     #[cycle(expressions)]
-    fn add_selector_fields(
+    fn visit_selector_fields<V: FieldVisitor>(
         &self,
-        found: &mut FieldIdentifierList,
+        visitor: &mut V,
         base: Option<TypeId>,
         s: &Selector,
-    ) -> Result<Option<TypeId>, AllocError>
-        ensures found { IfOk result (λ _. found.new.items
-            ≡ found.old.items
-            ++ fields_in_selector (field_walk_meanings self.now)
-            (option_map (type_shape (shapes_of self.now.table.now)) base) (selector_of s.now)) }
+    ) -> Result<Option<TypeId>, V::Error>
+        ensures visited { OnOk result (visitor.new ≡ state_after_fields V.state_after_one_field
+            (fields_in_selector (field_walk_meanings self.now)
+            (option_map (type_shape (shapes_of self.now.table.now)) base) (selector_of s.now))
+            visitor.old) }
         ensures following { IfOk result (λ t.
             option_map (type_shape (shapes_of self.now.table.now)) t
             ≡ type_after_selector (field_walk_meanings self.now)
             (option_map (type_shape (shapes_of self.now.table.now)) base) (selector_of s.now)) }
     {
         match s {
-            Selector::Field(name) => self.add_selected_field(found, base, *name),
+            Selector::Field(name) => self.visit_selected_field(visitor, base, *name),
             Selector::Index(e) => {
-                self.add_expression_fields(found, e)?;
+                self.visit_expression_fields(visitor, e)?;
                 Ok(self.element_type_of(base))
             }
         }
     }
 
-    fn add_assignment_fields(
+    fn visit_assignment_fields<V: FieldVisitor>(
         &self,
-        found: &mut FieldIdentifierList,
+        visitor: &mut V,
         a: &Assignment,
-    ) -> Result<(), AllocError>
-        ensures { IfOk result (λ _. found.new.items
-            ≡ found.old.items ++ fields_in_tree (field_walk_meanings self.now) (assignment_of a.now)) }
+    ) -> Result<(), V::Error>
+        ensures { OnOk result (visitor.new ≡ state_after_fields V.state_after_one_field
+            (fields_in_tree (field_walk_meanings self.now) (assignment_of a.now)) visitor.old) }
     {
-        self.add_designator_fields(found, &a.target)?;
-        self.add_expression_fields(found, &a.value)
+        self.visit_designator_fields(visitor, &a.target)?;
+        self.visit_expression_fields(visitor, &a.value)
     }
 
-    fn add_call_fields(&self, found: &mut FieldIdentifierList, c: &Call) -> Result<(), AllocError>
-        ensures { IfOk result (λ _. found.new.items
-            ≡ found.old.items ++ fields_in_tree (field_walk_meanings self.now) (call_of c.now)) }
+    fn visit_call_fields<V: FieldVisitor>(&self, visitor: &mut V, c: &Call) -> Result<(), V::Error>
+        ensures { OnOk result (visitor.new ≡ state_after_fields V.state_after_one_field
+            (fields_in_tree (field_walk_meanings self.now) (call_of c.now)) visitor.old) }
     {
         if let Some(given) = &c.arguments {
-            self.add_argument_fields(found, given)?;
+            self.visit_argument_fields(visitor, given)?;
         }
         Ok(())
     }
 
-    fn add_argument_fields(
+    fn visit_argument_fields<V: FieldVisitor>(
         &self,
-        found: &mut FieldIdentifierList,
+        visitor: &mut V,
         given: &Vec<Expression>,
-    ) -> Result<(), AllocError>
-        ensures { IfOk result (λ _. found.new.items
-            ≡ found.old.items ++ fields_in_tree (field_walk_meanings self.now) (arguments_of_vec given.now)) }
+    ) -> Result<(), V::Error>
+        ensures { OnOk result (visitor.new ≡ state_after_fields V.state_after_one_field
+            (fields_in_tree (field_walk_meanings self.now) (arguments_of_vec given.now)) visitor.old) }
     {
         for e in given {
-            self.add_expression_fields(found, e)?;
+            self.visit_expression_fields(visitor, e)?;
         }
         Ok(())
     }
 
     #[cycle(statements)]
-    fn add_sequence_fields(
+    fn visit_sequence_fields<V: FieldVisitor>(
         &self,
-        found: &mut FieldIdentifierList,
+        visitor: &mut V,
         statements: &Vec<Statement>,
-    ) -> Result<(), AllocError>
-        ensures { IfOk result (λ _. found.new.items
-            ≡ found.old.items ++ fields_in_tree (field_walk_meanings self.now) (sequence_of_vec statements.now)) }
+    ) -> Result<(), V::Error>
+        ensures { OnOk result (visitor.new ≡ state_after_fields V.state_after_one_field
+            (fields_in_tree (field_walk_meanings self.now) (sequence_of_vec statements.now)) visitor.old) }
     {
         for s in statements {
-            self.add_statement_fields(found, s)?;
+            self.visit_statement_fields(visitor, s)?;
         }
         Ok(())
     }
 
     #[cycle(statements)]
-    fn add_statement_fields(
+    fn visit_statement_fields<V: FieldVisitor>(
         &self,
-        found: &mut FieldIdentifierList,
+        visitor: &mut V,
         s: &Statement,
-    ) -> Result<(), AllocError>
-        ensures { IfOk result (λ _. found.new.items
-            ≡ found.old.items ++ fields_in_tree (field_walk_meanings self.now) (statement_of s.now)) }
+    ) -> Result<(), V::Error>
+        ensures { OnOk result (visitor.new ≡ state_after_fields V.state_after_one_field
+            (fields_in_tree (field_walk_meanings self.now) (statement_of s.now)) visitor.old) }
     {
         match s {
             Statement::Empty => Ok(()),
-            Statement::Assign(a) => self.add_assignment_fields(found, a),
-            Statement::Call(c) => self.add_call_fields(found, c),
-            Statement::If(i) => self.add_if_fields(found, i),
+            Statement::Assign(a) => self.visit_assignment_fields(visitor, a),
+            Statement::Call(c) => self.visit_call_fields(visitor, c),
+            Statement::If(i) => self.visit_if_fields(visitor, i),
             Statement::While(w) => {
                 let w: &While = w;
-                self.add_expression_fields(found, &w.condition)?;
-                self.add_sequence_fields(found, &w.body)
+                self.visit_expression_fields(visitor, &w.condition)?;
+                self.visit_sequence_fields(visitor, &w.body)
             }
             Statement::Repeat(r) => {
                 let r: &Repeat = r;
-                self.add_sequence_fields(found, &r.body)?;
-                self.add_expression_fields(found, &r.condition)
+                self.visit_sequence_fields(visitor, &r.body)?;
+                self.visit_expression_fields(visitor, &r.condition)
             }
         }
     }
 
     #[cycle(statements)]
-    fn add_if_fields(&self, found: &mut FieldIdentifierList, i: &If) -> Result<(), AllocError>
-        ensures { IfOk result
-            (λ _. found.new.items
-            ≡ found.old.items ++ fields_in_tree (field_walk_meanings self.now) (if_of i.now)) }
+    fn visit_if_fields<V: FieldVisitor>(&self, visitor: &mut V, i: &If) -> Result<(), V::Error>
+        ensures { OnOk result (visitor.new ≡ state_after_fields V.state_after_one_field
+            (fields_in_tree (field_walk_meanings self.now) (if_of i.now)) visitor.old) }
     {
-        self.add_expression_fields(found, &i.condition)?;
-        self.add_sequence_fields(found, &i.then)?;
-        self.add_elsif_fields(found, &i.elsifs)?;
+        self.visit_expression_fields(visitor, &i.condition)?;
+        self.visit_sequence_fields(visitor, &i.then)?;
+        self.visit_elsif_fields(visitor, &i.elsifs)?;
         match &i.otherwise {
-            Some(statements) => self.add_sequence_fields(found, statements),
+            Some(statements) => self.visit_sequence_fields(visitor, statements),
             None => Ok(()),
         }
     }
 
     #[cycle(statements)]
-    fn add_elsif_fields(
+    fn visit_elsif_fields<V: FieldVisitor>(
         &self,
-        found: &mut FieldIdentifierList,
+        visitor: &mut V,
         parts: &Vec<Elsif>,
-    ) -> Result<(), AllocError>
-        ensures { IfOk result (λ _. found.new.items
-            ≡ found.old.items ++ fields_in_tree (field_walk_meanings self.now) (elsifs_of_vec parts.now)) }
+    ) -> Result<(), V::Error>
+        ensures { OnOk result (visitor.new ≡ state_after_fields V.state_after_one_field
+            (fields_in_tree (field_walk_meanings self.now) (elsifs_of_vec parts.now)) visitor.old) }
     {
         for e in parts {
-            self.add_expression_fields(found, &e.condition)?;
-            self.add_sequence_fields(found, &e.then)?;
+            self.visit_expression_fields(visitor, &e.condition)?;
+            self.visit_sequence_fields(visitor, &e.then)?;
         }
         Ok(())
     }
 
-    /// Appends the fields that the statements of a block select, in text order. Appends nothing if
+    /// Visits the fields that the statements of a block select, in text order. Visits nothing if
     /// there are no statements.
-    pub(crate) fn add_body_fields(
+    pub(crate) fn visit_body_fields<V: FieldVisitor>(
         &self,
-        found: &mut FieldIdentifierList,
+        visitor: &mut V,
         statements: &Option<Vec<Statement>>,
-    ) -> Result<(), AllocError>
-        ensures { IfOk result (λ _. found.new.items
-            ≡ found.old.items ++ fields_in_tree (field_walk_meanings self.now) (body_of statements.now)) }
+    ) -> Result<(), V::Error>
+        ensures { OnOk result (visitor.new ≡ state_after_fields V.state_after_one_field
+            (fields_in_tree (field_walk_meanings self.now) (body_of statements.now)) visitor.old) }
     {
         match statements {
-            Some(statements) => self.add_sequence_fields(found, statements),
+            Some(statements) => self.visit_sequence_fields(visitor, statements),
             None => Ok(()),
         }
     }
 
-    /// Appends the field identifiers in a block: first the identifiers in its declarations and
+    /// Visits the field identifiers in a block: first the identifiers in its declarations and
     /// procedures, then the identifiers in its statements. `word_count` counts the words ARRAY and
     /// RECORD that precede the block in the module. This count gives records their ordinals. On
     /// return, `word_count` also counts the words in the block.
     #[cycle(blocks)]
-    pub(crate) fn add_block_fields(
+    pub(crate) fn visit_block_fields<V: FieldVisitor>(
         &self,
-        found: &mut FieldIdentifierList,
+        visitor: &mut V,
         word_count: &mut usize,
         b: &Block,
-    ) -> Result<(), AllocError>
-        ensures found { IfOk result (λ _. found.new.items
-            ≡ found.old.items
-            ++ fields_in_block (field_walk_meanings self.now) word_count.old (block_of b.now)) }
-        ensures word_count { IfOk result (λ _. word_count.new
-            ≡ word_count.old + block_constructor_count (block_of b.now)) }
+    ) -> Result<(), V::Error>
+        ensures { OnOk result (VisitsDeclarations V.state_after_one_field
+            (fields_in_block (field_walk_meanings self.now) word_count.old (block_of b.now))
+            (block_constructor_count (block_of b.now))
+            word_count.old word_count.new visitor.old visitor.new) }
     {
-        add_type_section_fields(found, word_count, &b.types)?;
-        add_variable_section_fields(found, word_count, &b.variables)?;
+        visit_type_section_fields(visitor, word_count, &b.types)?;
+        visit_variable_section_fields(visitor, word_count, &b.variables)?;
         for p in &b.procedures {
-            self.add_procedure_fields(found, word_count, p)?;
+            self.visit_procedure_fields(visitor, word_count, p)?;
         }
-        self.add_body_fields(found, &b.body)
+        self.visit_body_fields(visitor, &b.body)
     }
 
-    /// Appends the fields that a procedure declares and selects. `word_count` counts the words
+    /// Visits the fields that a procedure declares and selects. `word_count` counts the words
     /// ARRAY and RECORD that precede the procedure in the module. This count gives records their
     /// ordinals. On return, `word_count` also counts the words in the procedure.
     #[cycle(blocks)]
-    fn add_procedure_fields(
+    fn visit_procedure_fields<V: FieldVisitor>(
         &self,
-        found: &mut FieldIdentifierList,
+        visitor: &mut V,
         word_count: &mut usize,
         p: &Procedure,
-    ) -> Result<(), AllocError>
-        ensures found { IfOk result (λ _. found.new.items
-            ≡ found.old.items
-            ++ fields_in_procedure (field_walk_meanings self.now) word_count.old
-            (procedure_of p.now)) }
-        ensures word_count { IfOk result (λ _. word_count.new
-            ≡ word_count.old + procedure_constructor_count (procedure_of p.now)) }
+    ) -> Result<(), V::Error>
+        ensures { OnOk result (VisitsDeclarations V.state_after_one_field
+            (fields_in_procedure (field_walk_meanings self.now) word_count.old (procedure_of p.now))
+            (procedure_constructor_count (procedure_of p.now))
+            word_count.old word_count.new visitor.old visitor.new) }
     {
-        add_parameter_type_fields(found, word_count, &p.formals)?;
-        self.add_block_fields(found, word_count, &p.block)
+        visit_parameter_type_fields(visitor, word_count, &p.formals)?;
+        self.visit_block_fields(visitor, word_count, &p.block)
+    }
+
+    /// Visits all field identifiers of the module, in text order.
+    pub(crate) fn visit_module_fields<V: FieldVisitor>(
+        &self,
+        visitor: &mut V,
+    ) -> Result<(), V::Error>
+        ensures { OnOk result (visitor.new ≡ state_after_fields V.state_after_one_field
+            (fields_in_module (field_walk_meanings self.now)
+            (tree_of self.now.resolved.now.module_read)) visitor.old) }
+    {
+        // The proof needs this call: there are no more words ARRAY and RECORD than tokens.
+        let _count = token_count(self.resolved);
+        let mut word_count = 0;
+        self.visit_block_fields(visitor, &mut word_count, self.resolved.module().block())
     }
 }

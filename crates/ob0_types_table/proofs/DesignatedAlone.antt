@@ -1,4 +1,4 @@
--- The designator of an expression that is only a designator is found through its parts.
+-- If an expression is only a designator, its designator is found through its parts.
 use Rattle.std.proofs.Common.{◌≡◌, ℕ, ◌<◌, List, [], ◌∷◌, length, Some, None, Option, option_map, refl, sym, ap, ◌∙◌, arith}
 use Rattle.ob0_tree.specs.Tree.{Tree, addend, comparison, compares, designator, end, expression, factor, integer, item, items, more, negation, none, one, parenthesised, product, selector, simple, sum, term}
 use Rattle.ob0_tree.specs.View.{addend_of, factor_of, items_of, multiplier_of}
@@ -9,11 +9,11 @@ use Rattle.ob0_tree.specs.declared.tree.Sign.{Sign}
 use Rattle.ob0_language_names.specs.Names.{Label}
 use Rattle.ob0_scope_table.specs.Resolution.{Resolution}
 use Rattle.ob0_language_types.specs.Typing.{lone_designator}
-use Rattle.ob0_types_table.specs.Designators.{designator_of_factor, designator_of_simple, designator_of_term}
+use Rattle.ob0_types_table.specs.Designators.{designator_of_factor, designator_of_simple_expression, designator_of_term}
 use Rattle.ob0_scope_table.specs.LabelledTrees.{tree_with_labels, label_at_token}
 
 module _ {N : Type 0} where
-  pub alone_designated : (a : Tree N simple) → lone_designator (compares a none) ≡ designator_of_simple a
+  pub alone_designated : (a : Tree N simple) → lone_designator (compares a none) ≡ designator_of_simple_expression a
   alone_designated (sum (Some s) t rest) = refl
   alone_designated (sum None (product (designator x path) end) end) = refl
   alone_designated (sum None (product (designator x path) end) (more a rest)) = refl
@@ -48,16 +48,16 @@ module _ {N : Type 0} where
   compared_designated (sum None (product (negation f) ms) rest) c = refl
 
 -- The code's tests decide whether an expression is only a designator.
-pub signed_designated : (s : Option Sign) (t : Tree ℕ term) (rest : Tree ℕ (items addend)) (g : Sign) → s ≡ Some g → designator_of_simple (sum s t rest) ≡ None
-signed_designated s t rest g h = ap (λ s. designator_of_simple (sum s t rest)) h
+pub signed_designated : (s : Option Sign) (t : Tree ℕ term) (rest : Tree ℕ (items addend)) (g : Sign) → s ≡ Some g → designator_of_simple_expression (sum s t rest) ≡ None
+signed_designated s t rest g h = ap (λ s. designator_of_simple_expression (sum s t rest)) h
 
-pub term_designated : (s : Option Sign) (t : Tree ℕ term) (xs : List Addend) → s ≡ None → length xs ≡ 0 → designator_of_simple (sum s t (items_of addend_of xs)) ≡ designator_of_term t
-term_designated s t [] h empty = ap (λ s. designator_of_simple (sum s t end)) h
+pub term_designated : (s : Option Sign) (t : Tree ℕ term) (xs : List Addend) → s ≡ None → length xs ≡ 0 → designator_of_simple_expression (sum s t (items_of addend_of xs)) ≡ designator_of_term t
+term_designated s t [] h empty = ap (λ s. designator_of_simple_expression (sum s t end)) h
 term_designated s t (x ∷ xs) h empty = absurd (omega arith)
 
-pub added_designated : (s : Option Sign) (t : Tree ℕ term) (xs : List Addend) → s ≡ None → 0 < length xs → designator_of_simple (sum s t (items_of addend_of xs)) ≡ None
+pub added_designated : (s : Option Sign) (t : Tree ℕ term) (xs : List Addend) → s ≡ None → 0 < length xs → designator_of_simple_expression (sum s t (items_of addend_of xs)) ≡ None
 added_designated s t [] h some = absurd (omega arith)
-added_designated s t (x ∷ xs) h some = ap (λ s. designator_of_simple (sum s t (items_of addend_of (x ∷ xs)))) h
+added_designated s t (x ∷ xs) h some = ap (λ s. designator_of_simple_expression (sum s t (items_of addend_of (x ∷ xs)))) h
 
 pub factor_designated : (f : Factor) (xs : List Multiplier) → length xs ≡ 0 → designator_of_term (product (factor_of f) (items_of multiplier_of xs)) ≡ designator_of_factor (factor_of f)
 factor_designated f [] empty = refl
@@ -71,7 +71,7 @@ multiplied_designated f (x ∷ xs) some = refl
 abbrev pub parts_in : Resolution → ℕ × Tree ℕ (items selector) → Label × Tree Label (items selector)
 parts_in r p = (label_at_token r p.0, tree_with_labels r p.1)
 
-labelled_simple : (r : Resolution) (a : Tree ℕ simple) → designator_of_simple (tree_with_labels r a) ≡ option_map (parts_in r) (designator_of_simple a)
+labelled_simple : (r : Resolution) (a : Tree ℕ simple) → designator_of_simple_expression (tree_with_labels r a) ≡ option_map (parts_in r) (designator_of_simple_expression a)
 labelled_simple r (sum (Some s) t rest) = refl
 labelled_simple r (sum None (product f ms) (more a rest)) = refl
 labelled_simple r (sum None (product f (more m ms)) end) = refl

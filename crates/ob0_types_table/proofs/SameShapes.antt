@@ -1,4 +1,4 @@
--- A shape is accepted as the same type as itself.
+-- Each shape is the same as itself (`same_shape`).
 use Rattle.std.proofs.Common.{◌≡◌, true, ◌&&◌, ◌==◌, refl, eq-eqb}
 use Rattle.std.proofs.lemmas.Cmp.{nat_list_eq_equiv}
 use Rattle.std.proofs.lemmas.Bool.{and_from}

@@ -1,5 +1,5 @@
--- Converts the checker's table of types and declarations to the definitions: its types to shapes, and its declarations
--- to objects.
+-- Converts the checker's table of types and declarations to values of the definitions: its types to
+-- shapes, and its declarations to objects.
 -- Rule: none; used in contracts about the checker's tables.
 use Rattle.std.specs.Prelude.{◌≡◌, ℕ, ◌<◌, Bool, true, false, List, [], ◌∷◌, ◌++◌, map, length, slice_index_or, All, Some, None, Option, string_bytes}
 use Rattle.ob0_language_values.specs.Scalars.{scalar_value}
@@ -16,7 +16,7 @@ use Rattle.ob0_types_table.specs.declared.declaration_table.StandardProcedure.Th
 use Rattle.ob0_types_table.specs.declared.declaration_table.Object as declaration
 use Rattle.ob0_types_table.specs.declared.declaration_table.Object.TheVariants as kind
 use Rattle.ob0_language_types.specs.Expressions.{Object, StandardProcedure, a_constant, a_procedure, a_standard_procedure, a_type, a_variable, read_procedure, write_procedure, write_line_procedure}
-use Rattle.ob0_language_types.specs.Typing.{depth, scalars}
+use Rattle.ob0_language_types.specs.Typing.{depth, scalar_count}
 use Rattle.ob0_language_types.specs.WellTyped.{FormalParameter, ParameterMode, Signature, by_place, by_value}
 
 -- Returns the shape of a faulty type: a record without fields, whose ordinal is the greatest length of a text in bytes.
@@ -59,8 +59,8 @@ abbrev pub type_id_of_entry : code.TypeEntry → ℕ → TypeId
 type_id_of_entry (made.Array a) place = type.Array place
 type_id_of_entry (made.Record r) place = type.Record place
 
--- returns the shapes `known` of a table's first entries, followed by the shapes of the further entries in the list;
--- each entry may refer only to entries before it
+-- returns the list `known`, which has the shapes of a table's first entries, followed by the shapes
+-- of the further entries in the given list; each entry may refer only to entries before it
 abbrev pub append_shapes_of_entries : List Shape → List code.TypeEntry → List Shape
 append_shapes_of_entries known [] = known
 append_shapes_of_entries known (m ∷ ms) = append_shapes_of_entries (known ++ entry_shape known m ∷ []) ms
@@ -79,8 +79,8 @@ PartsReferOnlyToFirstEntries n (made.Record r) = All (λ f. RefersOnlyToFirstEnt
 
 -- states that an entry has the number of scalars and the depth of the shape `s`
 abbrev pub HasSizeOfShape : code.TypeEntry → Shape → Type 0
-HasSizeOfShape (made.Array a) s = (a.scalars ≡ scalars s) × (a.depth ≡ depth s)
-HasSizeOfShape (made.Record r) s = (r.scalars ≡ scalars s) × (r.depth ≡ depth s)
+HasSizeOfShape (made.Array a) s = (a.scalars ≡ scalar_count s) × (a.depth ≡ depth s)
+HasSizeOfShape (made.Record r) s = (r.scalars ≡ scalar_count s) × (r.depth ≡ depth s)
 
 -- States that an entry refers only to the entries before it, and has the number of scalars and the depth of its shape.
 -- The entries before it have the shapes `shapes`.
@@ -114,7 +114,7 @@ standard_procedure_of standards.WriteLn = write_line_procedure
 -- converts an object of the table to an object of the definitions; returns None for a constant with
 -- a fault
 abbrev pub object_view : List Shape → declaration.Object → Option (Object Shape Signature)
-object_view shapes (kind.Named t) = Some (a_type (type_shape shapes t))
+object_view shapes (kind.TypeName t) = Some (a_type (type_shape shapes t))
 object_view shapes (kind.Constant v) = Some (a_constant (scalar_value v))
 object_view shapes kind.FaultyConstant = None
 object_view shapes (kind.Variable t) = Some (a_variable (type_shape shapes t))

@@ -1,4 +1,5 @@
--- The table of a module's declarations: the module's array and record types, and the objects of its declarations.
+-- Defines the value of a `DeclarationTable` in contracts: the module's array and record types, and
+-- the objects of its declarations.
 -- Rule: none; used in contracts of the table of types and declarations (`DeclarationTable`).
 use Rattle.std.specs.Prelude.{ℕ, List, [], None, Option, option_and_then, slice_index_or}
 use Rattle.ob0_language_values.specs.Values.{Shape}

@@ -1,4 +1,4 @@
--- Finds the designator of a factor, term or expression that is only a designator. Converts
+-- Finds the designator of a factor, term or simple expression that is only a designator. Converts
 -- expressions to trees with labels.
 -- Rule: none; used in contracts about designators and labelled trees.
 use Rattle.std.specs.Prelude.{ℕ, List, map, Some, None, Option}
@@ -29,11 +29,11 @@ designator_of_term _ = None
 
 -- returns the name and the selectors of a simple expression that is only a designator, without sign and operator; None
 -- for any other simple expression
-abbrev pub designator_of_simple : {N : Type 0}
+abbrev pub designator_of_simple_expression : {N : Type 0}
     → Tree N simple
     → Option (N × Tree N (items selector))
-designator_of_simple (sum None t end) = designator_of_term t
-designator_of_simple _ = None
+designator_of_simple_expression (sum None t end) = designator_of_term t
+designator_of_simple_expression _ = None
 
 -- returns the trees of the expressions in a list, in order; in these trees each name is replaced by its label: the
 -- ordinal of its declaration, or the name itself if it isn't bound

@@ -1,4 +1,4 @@
--- The field that a name selects in a type, by its record and its position.
+-- Finds the field that a name selects in a type: its record and its position.
 -- Rule: none; used in contracts of functions that find a field by its name.
 use Rattle.std.specs.Prelude.{ℕ, suc, Some, None, Option, option_map, if◌then◌else◌}
 use Rattle.ob0_language_names.specs.Names.{Name, same_name}

@@ -1,4 +1,5 @@
--- A type with its parts (`TypeWithParts`): the type's shape, its size, and whether it is a type of the module.
+-- Defines the shape and the size of a type with its parts (`TypeWithParts`), and whether it is a
+-- type of the module.
 -- Rule: none; used in contracts about `TypeWithParts`.
 use Rattle.std.specs.Prelude.{Bool, true, false, List, Option, Some, None, slice_get}
 use Rattle.ob0_types_table.specs.DeclarationTables.{DeclarationTableView}

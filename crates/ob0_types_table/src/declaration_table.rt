@@ -20,7 +20,8 @@ use std::marker::Model;
 /// values) in a type.
 pub const MAX_SCALARS: usize = 65536;
 
-/// The greatest depth of nested arrays and records. A named type counts as if it were written out.
+/// The greatest number of arrays and records inside one another in a type. A named type counts as
+/// if it were written out.
 pub const MAX_TYPE_DEPTH: usize = 100;
 
 /// A field of a record, with its name and type.
@@ -30,18 +31,17 @@ pub struct Field {
     pub of: TypeId,
 }
 
-/// Identifies a field. Array and record types are numbered in text order: `ordinal` counts the
-/// words ARRAY and RECORD before the word RECORD of the field's record. `index` is the field's
-/// position among the record's fields, counted from 0.
+/// Identifies a field. `ordinal` is the number of words ARRAY and RECORD before the word RECORD of
+/// the field's record. `index` is the field's position among the record's fields, counted from 0.
 #[derive(Clone, Copy, PartialEq, Eq)]
 pub struct FieldId {
     pub ordinal: usize,
     pub index: usize,
 }
 
-/// The type `ARRAY length OF element`. Array and record types are numbered in text order: `ordinal`
-/// counts the words ARRAY and RECORD before this word ARRAY. `scalars` is the number of scalars in
-/// the whole type, and `depth` is the depth to which its arrays and records are nested.
+/// The type `ARRAY length OF element`. `ordinal` is the number of words ARRAY and RECORD before
+/// this word ARRAY. `scalars` is the number of scalars in the whole type. `depth` is how many
+/// levels of arrays and records it has.
 #[derive(Clone, Copy)]
 pub struct ArrayShape {
     pub ordinal: usize,
@@ -51,9 +51,9 @@ pub struct ArrayShape {
     pub depth: usize,
 }
 
-/// The type `RECORD fields END`. Array and record types are numbered in text order: `ordinal`
-/// counts the words ARRAY and RECORD before this word RECORD. `scalars` is the number of scalars in
-/// the whole type, and `depth` is the depth to which its arrays and records are nested.
+/// The type `RECORD fields END`. `ordinal` is the number of words ARRAY and RECORD before this word
+/// RECORD. `scalars` is the number of scalars in the whole type. `depth` is how many levels of
+/// arrays and records it has.
 #[derive(Drop)]
 pub struct RecordShape {
     pub ordinal: usize,
@@ -89,7 +89,7 @@ pub enum StandardProcedure {
 #[derive(Drop)]
 pub enum Object {
     /// A type's name, with the type to which the name refers.
-    Named(TypeId),
+    TypeName(TypeId),
     Constant(Scalar),
     /// A constant whose right side has a fault.
     FaultyConstant,
@@ -147,7 +147,8 @@ impl DeclarationTable {
     ghost use Rattle.ob0_language_values.specs.Values.{integer_shape};
 
     /// Makes the table of a module from the entries of its array and record types and from the
-    /// objects of its declarations.
+    /// objects of its declarations, by ordinal. Each entry must refer only to earlier ones, and
+    /// must have the size of its shape.
     pub fn new(shapes: Vec<TypeEntry>, objects: Vec<Option<Object>>) -> DeclarationTable
         requires { AreValidEntries [] shapes.items }
         ensures { result ≡ record { shapes = shapes.items; objects = objects.items } }
@@ -156,7 +157,7 @@ impl DeclarationTable {
     }
 
     /// Returns the number of declarations in the table, including the predeclared names. The
-    /// ordinals of the declarations are the numbers from 0 up to, but not including, this number.
+    /// ordinals of the declarations are the numbers below this number.
     pub fn declaration_count(&self) -> usize
         ensures { result ≡ length self.now.objects }
     {
@@ -193,7 +194,7 @@ impl DeclarationTable {
     {
         match self.object(ordinal)? {
             Object::Constant(value) => Some(*value),
-            Object::Named(_) => None,
+            Object::TypeName(_) => None,
             Object::FaultyConstant => None,
             Object::Variable(_) => None,
             Object::Procedure(_) => None,
@@ -202,13 +203,13 @@ impl DeclarationTable {
     }
 
     /// Returns the type of the declaration with this ordinal if it is a type, a variable, a
-    /// parameter or a constant. Otherwise returns None.
+    /// parameter or a constant with a value. Otherwise returns None.
     pub fn declared_type(&self, ordinal: usize) -> Option<TypeId>
         ensures { option_map (type_shape (shapes_of self.now)) result
             ≡ type_of_object (declared_object_in self.now ordinal) }
     {
         match self.object(ordinal)? {
-            Object::Named(of) => Some(*of),
+            Object::TypeName(of) => Some(*of),
             Object::Variable(of) => Some(*of),
             Object::Constant(value) => Some(scalar_type(*value)),
             Object::FaultyConstant => None,

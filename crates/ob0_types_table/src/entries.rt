@@ -8,7 +8,7 @@ use crate::types::TypeId;
 use std::alloc::AllocError;
 
 /// Appends the entry of an array or record type and returns the `TypeId` that refers to this entry.
-/// If the allocation fails, the table is unchanged.
+/// If the allocation fails, `entries` is unchanged.
 pub fn add_entry(entries: &mut Vec<TypeEntry>, entry: TypeEntry) -> Result<TypeId, AllocError>
     ensures made { IfOk result (λ of. of ≡ type_id_of_entry entry (length entries.old.items)) }
     ensures added { OnOk result (entries.new.items ≡ entries.old.items ++ entry ∷ []) }

@@ -1,4 +1,4 @@
-//! The fields of a record, found by name in logarithmic time.
+//! Defines the table of a record's fields, which finds a field by its name in logarithmic time.
 //!
 //! In contracts, the value of a table is only the list of its fields. The map isn't part of this
 //! value, because the table's invariant (`IsFirstFieldMap`) determines the map. The map has, for
@@ -68,7 +68,7 @@ fn first_fields_by_name(
 }
 
 impl FieldTable {
-    /// Makes the table of these fields. Fails only if an allocation fails.
+    /// Makes the table of these fields. If an allocation fails, returns an error.
     pub fn new(fields: Vec<Field>) -> Result<FieldTable, AllocError>
         ensures { IfOk result (λ t. t ≡ fields.items) }
     {

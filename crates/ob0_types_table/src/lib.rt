@@ -1,5 +1,5 @@
-//! The table of a module's types and declarations, the operators of constant expressions, and the
-//! expressions that are only a designator.
+//! Defines the table of a module's types and declarations, the operators of constant expressions,
+//! and the expressions that are only a designator.
 #![tactic(auto)]
 
 mod declaration_table;

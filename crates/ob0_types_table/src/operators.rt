@@ -1,6 +1,6 @@
-//! Operations on the values of constants. An operand has no value (None) if it isn't constant or
-//! its evaluation failed. If the left operand of OR or `&` already decides the result, the right
-//! operand needs no value.
+//! Computes the values that constants give to operations. An operand has no value (None) if
+//! constants don't determine it or its evaluation failed. If the left operand of OR or `&` already
+//! decides the result, the right operand needs no value.
 
 ghost use Rattle.std.specs.Prelude.{◌≡◌, Some, option_and_then, option_map};
 ghost use Rattle.ob0_language_values.specs.Scalars.{scalar_value};
@@ -11,8 +11,8 @@ ghost use Rattle.ob0_language_types.specs.Typing.{outcome_value};
 
 use ob0_language_values::Scalar;
 use ob0_language_values::scalar::{
-    add, add_operator_short_circuits, apply_relation, apply_sign, multiply,
-    multiply_operator_short_circuits, negate,
+    add_operator_short_circuits, apply_add_operator, apply_multiply_operator, apply_not,
+    apply_relation, apply_sign, multiply_operator_short_circuits,
 };
 use ob0_tree::{AddOperator, MultiplyOperator, Relation, Sign};
 
@@ -53,11 +53,11 @@ pub fn signed_value(sign: Option<Sign>, operand: Option<Scalar>) -> Option<Scala
 /// isn't a truth value.
 pub fn value_of_negation(operand: Option<Scalar>) -> Option<Scalar>
     ensures { option_map scalar_value result
-        ≡ option_and_then (λ x. outcome_value (values.negate x)) (option_map scalar_value operand) }
+        ≡ option_and_then (λ x. outcome_value (values.apply_not x)) (option_map scalar_value operand) }
 {
     match operand {
         None => None,
-        Some(operand) => negate(operand).ok(),
+        Some(operand) => apply_not(operand).ok(),
     }
 }
 
@@ -81,7 +81,7 @@ pub fn value_of_sum(
             }
             match right {
                 None => None,
-                Some(right) => add(operator, left, right).ok(),
+                Some(right) => apply_add_operator(operator, left, right).ok(),
             }
         }
     }
@@ -107,7 +107,7 @@ pub fn value_of_product(
             }
             match right {
                 None => None,
-                Some(right) => multiply(operator, left, right).ok(),
+                Some(right) => apply_multiply_operator(operator, left, right).ok(),
             }
         }
     }

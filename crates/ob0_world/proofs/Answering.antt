@@ -1,8 +1,10 @@
--- Proves that the replies of a session, by its contract, are the replies of the model's server. The main lemma is
--- `served`. `request_served` has a case for each request with edits, which uses `about_document` and a lemma for a text
--- in step: `formatted`, `renamed` or `inlined`. Answers are stated in the session's own words (`AreRequestedEdits`, `RefusesAsk`
--- by cases of the ask), so they are passed on unchanged. Both asks to inline send the same request. The editor reads
--- the action with the title that it asked for (`actions_read_back`), if that is offered.
+-- Proves that the replies of a session, according to its contract, are the replies of the model's
+-- server. The main lemma is `served`. `request_served` has a case for each kind of ask. Each case
+-- uses `about_document` and a lemma for a document in step: `formatted`, `renamed` or `inlined`.
+-- The model states answers by the session's definitions (`AreRequestedEdits` and `ServerRefusesAsk`, by
+-- cases of the ask), so the proof uses them unchanged. Both asks to inline send the same request.
+-- The editor reads the action with the title that it asked for (`actions_read_back`), if the
+-- session offers that action.
 use Rattle.std.proofs.Common.{◌≡◌, ◌∙◌, ℕ, Bool, true, false, cond, List, [], ◌∷◌, length, refl, sym, ap, subst, inl, inr, arith, ◌<◌}
 use Rattle.std.specs.Prelude.{◌⊎◌, ◌&&◌, min, ℤ, Vec, All, Option, Some, None, is_some, map, fold, filter_map, option_map, option_and_then, unwrap_or, codes, Ok}
 use Rattle.std.specs.List.{cons_option}
@@ -33,7 +35,7 @@ use Rattle.ob0_rpc.specs.declared.client_capabilities.ClientFeatures.{ClientFeat
 use Rattle.ob0_edits.specs.InliningEdits.{IsInlineResultInText}
 use Rattle.ob0_session_answers.specs.Actions.{VersionedActionsRequest, ListsActions, requested_kinds_include_inlining, wants_inlining, first_offset_in_range, actions_array}
 use Rattle.ob0_session_server.specs.Answers as answers_of
-use Rattle.ob0_session_server.specs.Answers.{ServerState, Reply, AreContentsOfReply, SendsMessage, Reaction, react_to_message, apply_notification, react_to_notification, react_to_allowed_request, react_to_request as requested_in, react_to_parsed_request, react_to_document_request, formatting_reply, rename_reply, actions_reply, publication_reply, Answers, AnswersInPhase, AnswersBeforeSessionEnd, fixed_reply}
+use Rattle.ob0_session_server.specs.Answers.{ServerState, Reply, AreContentsOfReply, SendsMessage, Reaction, react_to_message, apply_notification, react_to_notification, react_to_allowed_request, react_to_request as requested_in, react_to_parsed_request, react_to_document_request, formatting_reply, rename_reply, actions_reply, publication_reply, Answers, AnswersInPhase, AnswersInActivePhase, fixed_reply}
 use Rattle.ob0_analysis.specs.ReportedErrors.{ReportedDiagnosis, IsWellTypedModule, ReportsErrorsOf, ReportsErrorsOfInvalidText, reported_diagnosis_of_fault}
 use Rattle.ob0_session_answers.specs.Diagnostics.{AreDiagnosticsOf, diagnostic_of}
 use Rattle.ob0_analysis.specs.TextBytes.{utf8}
@@ -45,17 +47,17 @@ use Rattle.ob0_session_server.specs.declared.session.Phase.TheVariants.{Running}
 use Rattle.ob0_world_editor.specs.MessagesToServer as heard_as
 use Rattle.ob0_world_editor.specs.MessagesToServer.{request_number_from_id, notification_for_event, HasVersionInRange, SentRequestAsksForEdits, client_request_for_ask}
 use Rattle.ob0_world_editor.specs.Shapes.{method_of_ask, empty_range_at}
-use Rattle.ob0_world_editor.specs.MessagesToEditor.{answer_to_ask, message_to_editor_of_value, message_to_editor_by_id_conversion, edits_of_items, workspace_edit_items, edits_in_answer, has_no_items}
+use Rattle.ob0_world_editor.specs.MessagesToEditor.{answer_to_ask, message_to_editor_of_value, message_to_editor_given_numbering, edits_of_items, text_edits_in_workspace_edit, edits_in_answer, has_no_items}
 use Rattle.ob0_world_editor.proofs.Hearing.{read_as}
 use Rattle.ob0_world_rules.specs.TextEdits.{Replacement, replacement_of_edit, replacements_of_edits}
 use Rattle.ob0_world_rules.specs.Asks.{Ask, rename, inline_here, inline_all, format, clamped_indent}
 use Rattle.ob0_world_rules.specs.Answers.{position_offset, IsAnswerForText, IsAnswerForDocument, NoDiagnosticsExactlyIfWellTyped}
 use Rattle.ob0_world_rules.specs.ClientAndServer.{SentAsk, MessageToServer, notifies, requests, MessageToEditor, publishes, answers, documents_after_message}
-use Rattle.ob0_world_rules.specs.ServerReplies.{SendsDiagnostics, RepliesToMessage}
+use Rattle.ob0_world_rules.specs.ServerReplies.{ServerSendsDiagnostics, ServerRepliesToMessage}
 use Rattle.ob0_world_rules.proofs.ModuleTexts.{well_typed_text, well_typed_module}
 use Rattle.ob0_world_rules.proofs.UriLaws.{get_put, uri_itself}
 use Rattle.ob0_world.specs.Queues.{RunsWithModelEditor, publication_with_text, publication_in_first_message}
-use Rattle.ob0_world.specs.Exchanges.{IsCodeActionRequest, AcceptsLiteralActions, AcceptsEditsForAsk}
+use Rattle.ob0_world.specs.Exchanges.{IsCodeActionRequest, ClientAcceptsLiteralActions, ClientAcceptsEditsForAsk}
 use Rattle.ob0_world.proofs.Places.{place_of_range}
 
 -- ---- contents that are read
@@ -65,11 +67,11 @@ same_json content (Some e) d one other = sym one.1 ∙ other.1
 same_json content None d one other = sym (one other.0) ∙ other.1
 
 -- A running session answers by its reaction.
-pub going_on : (before after : ServerState) (content : List ℕ) (sent : List (List ℕ)) → before.phase ≡ Running → Answers before content sent after → AnswersBeforeSessionEnd before content sent after
+pub going_on : (before after : ServerState) (content : List ℕ) (sent : List (List ℕ)) → before.phase ≡ Running → Answers before content sent after → AnswersInActivePhase before content sent after
 going_on before after content sent running h = subst (λ phase. AnswersInPhase phase before content sent after) running h
 
 -- A content with this meaning has the reaction to that meaning.
-pub reacts_so : (before after : ServerState) (content : List ℕ) (sent : List (List ℕ)) (d : Data) → AnswersBeforeSessionEnd before content sent after → IsJsonOfContent content (Some d) → (after ≡ (react_to_message before (meaning_of_message d)).after) × AreContentsOfReply (react_to_message before (meaning_of_message d)).reply sent
+pub reacts_so : (before after : ServerState) (content : List ℕ) (sent : List (List ℕ)) (d : Data) → AnswersInActivePhase before content sent after → IsJsonOfContent content (Some d) → (after ≡ (react_to_message before (meaning_of_message d)).after) × AreContentsOfReply (react_to_message before (meaning_of_message d)).reply sent
 reacts_so before after content sent d (json, reads, answer) known =
     subst (λ j. (after ≡ (react_to_message before (meaning_of_content j)).after) × AreContentsOfReply (react_to_message before (meaning_of_content j)).reply sent) (same_json content json d reads known) answer
 
@@ -138,11 +140,11 @@ own_member : (key : List ℕ) (d : Data) → get key (object (member key d no_me
 own_member key d = ap (λ o. match_ordering o None (Some d) None) (tied_itself nat_list_cmp_total key)
 
 -- The edits of a document are read back from the WorkspaceEdit that has them, with a version or without.
-workspace_read_back : (client : ClientFeatures) (uri : List ℕ) (version : ℤ) (edits : List Edit) → option_and_then edits_of_items (workspace_edit_items uri (workspace_edit_value client uri version edits)) ≡ Some (replacements_of_edits edits)
+workspace_read_back : (client : ClientFeatures) (uri : List ℕ) (version : ℤ) (edits : List Edit) → option_and_then edits_of_items (text_edits_in_workspace_edit uri (workspace_edit_value client uri version edits)) ≡ Some (replacements_of_edits edits)
 workspace_read_back client uri version edits = go client.accepts_document_changes
   where
     go : (b : Bool)
-        → option_and_then edits_of_items (workspace_edit_items uri (cond b (object (member (codes "documentChanges") (array (item (document_edit_value uri version edits) no_items)) no_members)) (object (member (codes "changes") (object (member uri (edit_list_value edits) no_members)) no_members))))
+        → option_and_then edits_of_items (text_edits_in_workspace_edit uri (cond b (object (member (codes "documentChanges") (array (item (document_edit_value uri version edits) no_items)) no_members)) (object (member (codes "changes") (object (member uri (edit_list_value edits) no_members)) no_members))))
         ≡ Some (replacements_of_edits edits)
     go true = edits_read_back edits
     go false = ap (λ o. option_and_then edits_of_items (option_and_then as_array o)) (own_member uri (edit_list_value edits)) ∙ edits_read_back edits
@@ -238,20 +240,20 @@ request_reaction id uri ask before after content sent running is h =
 module _ (number_of : Data → Option ℕ) (requested : List SentAsk) where
   -- states that the editor understands all these contents, and that these are their messages
   pub record MessagesToServer (sent : List (List ℕ)) (said : List MessageToEditor) : Type 0 where
-    pub each : All (λ content. (m : MessageToEditor) × (message_to_editor_by_id_conversion number_of requested content ≡ Some m)) sent
-    pub all : filter_map (message_to_editor_by_id_conversion number_of requested) sent ≡ said
+    pub each : All (λ content. (m : MessageToEditor) × (message_to_editor_given_numbering number_of requested content ≡ Some m)) sent
+    pub all : filter_map (message_to_editor_given_numbering number_of requested) sent ≡ said
     pub count : length sent ≡ length said
 
   heard_none : (sent : List (List ℕ)) → sent ≡ [] → MessagesToServer sent []
   heard_none sent none =
-      subst (λ s. MessagesToServer s []) (sym none) (record { each = All-nil (λ content. (m : MessageToEditor) × (message_to_editor_by_id_conversion number_of requested content ≡ Some m)); all = refl; count = refl })
+      subst (λ s. MessagesToServer s []) (sym none) (record { each = All-nil (λ content. (m : MessageToEditor) × (message_to_editor_given_numbering number_of requested content ≡ Some m)); all = refl; count = refl })
 
   heard_one : (sent : List (List ℕ)) (message : Data) (m : MessageToEditor) → SendsMessage message sent → message_to_editor_of_value number_of requested message ≡ Some m → MessagesToServer sent (m ∷ [])
   heard_one sent message m (content, is, writes) means =
-      let said : message_to_editor_by_id_conversion number_of requested content ≡ Some m = read_as number_of requested content message writes.reads ∙ means in
+      let said : message_to_editor_given_numbering number_of requested content ≡ Some m = read_as number_of requested content message writes.reads ∙ means in
       subst (λ s. MessagesToServer s (m ∷ [])) (sym is)
       (record {
-        each = All-push (λ c. (m : MessageToEditor) × (message_to_editor_by_id_conversion number_of requested c ≡ Some m)) [] content (All-nil (λ c. (m : MessageToEditor) × (message_to_editor_by_id_conversion number_of requested c ≡ Some m))) (m, said);
+        each = All-push (λ c. (m : MessageToEditor) × (message_to_editor_given_numbering number_of requested c ≡ Some m)) [] content (All-nil (λ c. (m : MessageToEditor) × (message_to_editor_given_numbering number_of requested c ≡ Some m))) (m, said);
         all = ap (λ o. cons_option o []) said;
         count = refl;
       })
@@ -262,7 +264,7 @@ module _ (number_of : Data → Option ℕ) (requested : List SentAsk) where
   pub record Noted (held : OpenDocuments) (uri : List ℕ) (o : Option Document) (sent : List (List ℕ)) : Type 0 where
     pub said : List MessageToEditor
     pub message_to_server_in_content : MessagesToServer sent said
-    pub replies : SendsDiagnostics uri o said (option_to_list (publication_in_first_message held said))
+    pub replies : ServerSendsDiagnostics uri o said (option_to_list (publication_in_first_message held said))
 
   publishes_step : (held : OpenDocuments) (uri : List ℕ) (version : ℤ) (text : List ℕ) (sent : List (List ℕ)) → document_at held uri ≡ Some (InStep version text) → as_i64 (of_integer version) ≡ Some version
       → AreContentsOfReply (publication_reply held.unit uri (Some (InStep version text))) sent → Noted held uri (Some (InStep version text)) sent
@@ -294,7 +296,7 @@ module _ (number_of : Data → Option ℕ) (requested : List SentAsk) where
     pub held : after.held ≡ documents_after_message before.held m
     pub said : List MessageToEditor
     pub message_to_server_in_content : MessagesToServer sent said
-    pub replies : RepliesToMessage before.held m said (option_to_list (publication_in_first_message after.held said))
+    pub replies : ServerRepliesToMessage before.held m said (option_to_list (publication_in_first_message after.held said))
 
   -- The reaction to a notification sends the replies of the model's server.
   note_served : (note : DocumentEvent) (before after : ServerState) (sent : List (List ℕ)) → before.phase ≡ Running → HasVersionInRange note → after ≡ (apply_notification before (notification_for_event note)).after → AreContentsOfReply (apply_notification before (notification_for_event note)).reply sent
@@ -454,7 +456,7 @@ module _ (number_of : Data → Option ℕ) (requested : List SentAsk) where
       asks_served k uri ask before after sent running same (subst (λ o. Answered k ask before.held.unit o sent) (sym at) (in_step version text saying))
 
   -- A running session replies to a request of this editor as the model's server does.
-  request_served : (id : Data) (k : ℕ) (uri : List ℕ) (ask : Ask) (params : Data) (before after : ServerState) (sent : List (List ℕ)) → before.phase ≡ Running → AcceptsEditsForAsk before.client ask → Asks id k uri ask → request_by_method (method_of_ask ask) params ≡ Ok (client_request_for_ask uri ask)
+  request_served : (id : Data) (k : ℕ) (uri : List ℕ) (ask : Ask) (params : Data) (before after : ServerState) (sent : List (List ℕ)) → before.phase ≡ Running → ClientAcceptsEditsForAsk before.client ask → Asks id k uri ask → request_by_method (method_of_ask ask) params ≡ Ok (client_request_for_ask uri ask)
       → after ≡ (react_to_allowed_request before id (method_of_ask ask) params).after → AreContentsOfReply (react_to_allowed_request before id (method_of_ask ask) params).reply sent → Served (requests k uri ask) before after sent
   request_served id k uri (rename position name) params before after sent running takes of call is saying =
       let say : ℤ → List ℕ → Reply = λ version. rename_reply before.held.unit (rename_requested before.client id uri position name version) in
@@ -482,7 +484,7 @@ module _ (number_of : Data → Option ℕ) (requested : List SentAsk) where
       (is ∙ ap (λ (x : Reaction). x.after) so) (subst (λ (x : Reaction). AreContentsOfReply x.reply sent) so saying)
 
   -- A request for the actions in a range is answered as an inlining if the range and the position have the same offset.
-  inline_served : (how : InliningKind) (id : Data) (k : ℕ) (uri : List ℕ) (position : Position) (range : Range) (only : Option (List (List ℕ))) (params : Data) (before after : ServerState) (sent : List (List ℕ)) → before.phase ≡ Running → AcceptsLiteralActions before.client
+  inline_served : (how : InliningKind) (id : Data) (k : ℕ) (uri : List ℕ) (position : Position) (range : Range) (only : Option (List (List ℕ))) (params : Data) (before after : ServerState) (sent : List (List ℕ)) → before.phase ≡ Running → ClientAcceptsLiteralActions before.client
       → Asks id k uri (inlining_at how position) → requested_kinds_include_inlining only ≡ true → ((unit : Unit) (text : List ℕ) → first_offset_in_range unit text range ≡ position_offset unit text position) → request_by_method (codes "textDocument/codeAction") params ≡ Ok (code_action uri range only)
       → after ≡ (react_to_allowed_request before id (codes "textDocument/codeAction") params).after → AreContentsOfReply (react_to_allowed_request before id (codes "textDocument/codeAction") params).reply sent
       → Served (requests k uri (inlining_at how position)) before after sent
@@ -504,14 +506,14 @@ module _ (number_of : Data → Option ℕ) (requested : List SentAsk) where
       note_served note before after sent running is.fits (answer.0 ∙ ap (λ (x : Reaction). x.after) so) (subst (λ (x : Reaction). AreContentsOfReply x.reply sent) so answer.1)
 
   -- A running session replies to an ask as the model's server does.
-  pub ask_answered : (id : Data) (k : ℕ) (uri : List ℕ) (ask : Ask) (before after : ServerState) (content : List ℕ) (sent : List (List ℕ)) → before.phase ≡ Running → AcceptsEditsForAsk before.client ask → number_of id ≡ Some k → SentRequestAsksForEdits requested k uri ask
+  pub ask_answered : (id : Data) (k : ℕ) (uri : List ℕ) (ask : Ask) (before after : ServerState) (content : List ℕ) (sent : List (List ℕ)) → before.phase ≡ Running → ClientAcceptsEditsForAsk before.client ask → number_of id ≡ Some k → SentRequestAsksForEdits requested k uri ask
       → heard_as.IsRequestWithId id uri ask content → Answers before content sent after → Served (requests k uri ask) before after sent
   ask_answered id k uri ask before after content sent running takes numbered of is h =
       let reaction = request_reaction id uri ask before after content sent running is h in
       request_served id k uri ask is.params before after sent running takes (record { numbered = numbered; is = of }) is.calls reaction.0 reaction.1
 
   -- A running session replies to a request for the actions in a range as the model's server does to an inlining.
-  pub actions_answered : (how : InliningKind) (id : Data) (k : ℕ) (uri : List ℕ) (position : Position) (before after : ServerState) (content : List ℕ) (sent : List (List ℕ)) → before.phase ≡ Running → AcceptsLiteralActions before.client → number_of id ≡ Some k
+  pub actions_answered : (how : InliningKind) (id : Data) (k : ℕ) (uri : List ℕ) (position : Position) (before after : ServerState) (content : List ℕ) (sent : List (List ℕ)) → before.phase ≡ Running → ClientAcceptsLiteralActions before.client → number_of id ≡ Some k
       → SentRequestAsksForEdits requested k uri (inlining_at how position) → IsCodeActionRequest id uri position content → Answers before content sent after → Served (requests k uri (inlining_at how position)) before after sent
   actions_answered how id k uri position before after content sent running takes numbered of is h =
       let answer = reacts_so before after content sent is.json (going_on before after content sent running h) is.reads in
@@ -523,7 +525,7 @@ module _ (number_of : Data → Option ℕ) (requested : List SentAsk) where
 -- ---- the model's editor
 
 -- A session that runs with this editor has a client that accepts the edits of each ask.
-takes_all : (s : ServerState) (ask : Ask) → RunsWithModelEditor s → AcceptsEditsForAsk s.client ask
+takes_all : (s : ServerState) (ask : Ask) → RunsWithModelEditor s → ClientAcceptsEditsForAsk s.client ask
 takes_all s (rename position name) running = tt
 takes_all s (inline_here position) running = running.2
 takes_all s (inline_all position) running = running.2

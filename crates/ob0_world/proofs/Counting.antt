@@ -1,4 +1,4 @@
--- Proves that a step raises each count of the editor by one at most.
+-- Proves that a step raises each count of the editor by at most one.
 use Rattle.std.proofs.Common.{◌≡◌, ◌∙◌, ◌≤◌, ◌<◌, ◌+◌, ◌-◌, ◌^◌, ℕ, List, [], ◌∷◌, ◌++◌, length, Some, sym, ap, subst, arith}
 use Rattle.std.specs.Prelude.{pos}
 use Rattle.std.specs.FinMap as map_of
@@ -10,7 +10,7 @@ use Rattle.ob0_text.specs.OpenDocuments.{TextChange}
 use Rattle.ob0_text.specs.declared.position_types.Unit.{Unit}
 use Rattle.ob0_world_rules.specs.TextEdits.{whole_text_change}
 use Rattle.ob0_world_rules.specs.Asks.{Ask}
-use Rattle.ob0_world_rules.specs.ClientAndServer.{OpenDocument, SentAsk, Editor, editor_document_with_uri, MessageToServer, MessageToEditor, publishes, answers, Applied, ClientAndServer, new_editor}
+use Rattle.ob0_world_rules.specs.ClientAndServer.{OpenDocument, SentAsk, Editor, editor_document_with_uri, MessageToServer, MessageToEditor, publishes, answers, AppliedEdit, ClientAndServer, new_editor}
 use Rattle.ob0_world_rules.specs.EditorActs.{EditorAct, version_as_natural, next_version, result_of_opening_document, result_of_changing_text, result_of_closing_document, result_of_sending_ask, editor_without_answer, act_result, editor_after_message}
 use Rattle.ob0_world_rules.specs.Events.{Event, editor_acts, serve, take_message, state_after_editor_takes_message, ServerTakesFirstMessage, EventLeadsTo}
 use Rattle.ob0_world_rules.proofs.PerformsAct.{edit_of, of_each}
@@ -47,7 +47,7 @@ put n e uri new openings within version few_openings =
           (λ was. let a : version_as_natural d.version ≤ n = within.versions q d was in omega arith);
     }
 
-rewritten_within : (n : ℕ) (e : Editor) (uri : List ℕ) (d : OpenDocument) (text : List ℕ) (how : List TextChange) (applied : List Applied) → editor_document_with_uri e uri ≡ Some d → CountsAreAtMost n e → CountsAreAtMost (n + 1) (result_of_changing_text e uri d text how applied).editor
+rewritten_within : (n : ℕ) (e : Editor) (uri : List ℕ) (d : OpenDocument) (text : List ℕ) (how : List TextChange) (applied : List AppliedEdit) → editor_document_with_uri e uri ≡ Some d → CountsAreAtMost n e → CountsAreAtMost (n + 1) (result_of_changing_text e uri d text how applied).editor
 rewritten_within n e uri d text how applied at within =
     let a : version_as_natural d.version ≤ n = within.versions uri d at in
     let b : e.openings ≤ n = within.openings in

@@ -1,11 +1,12 @@
--- Proves that a session that takes `shutdown` and then `exit` answers `shutdown`, and has ended with status 0.
+-- Proves that a session that takes `shutdown` and then `exit` answers `shutdown`, and then ends
+-- with status 0.
 use Rattle.std.proofs.Common.{◌≡◌, ◌∙◌, ℕ, List, [], ◌∷◌, ◌++◌, append-nil, sym, ap, subst}
 use Rattle.std.specs.Prelude.{codes}
 use Rattle.serde_json.specs.Data.{Data, null}
 use Rattle.ob0_rpc.specs.Messages.{meaning_of_message}
 use Rattle.ob0_rpc.specs.JsonShapes.{result_message}
 use Rattle.ob0_session_server.specs.declared.session.Phase.TheVariants.{Running, ShutDown, Ended}
-use Rattle.ob0_session_server.specs.Answers.{ServerState, AreContentsOfReply, SendsMessage, Reaction, react_to_message, react_to_request, react_to_notification, react_to_allowed_request, exit_status_in_phase, react_to_exit, Answers, AnswersInPhase, AnswersBeforeSessionEnd, IsConversation}
+use Rattle.ob0_session_server.specs.Answers.{ServerState, AreContentsOfReply, SendsMessage, Reaction, react_to_message, react_to_request, react_to_notification, react_to_allowed_request, exit_status_in_phase, react_to_exit, Answers, AnswersInPhase, AnswersInActivePhase, IsConversation}
 use Rattle.ob0_world.specs.Exchanges.{IsShutdownRequest, IsExitNotification, EndsAfterShutdown}
 use Rattle.ob0_world.proofs.Answering.{going_on, reacts_so}
 
@@ -29,7 +30,7 @@ shuts id before after content sent running is h =
 
 exits : (before after : ServerState) (content : List ℕ) (sent : List (List ℕ)) → before.phase ≡ ShutDown → IsExitNotification content → Answers before content sent after → (sent ≡ []) × (after ≡ record before { phase = Ended 0 })
 exits before after content sent shut is h =
-    let going : AnswersBeforeSessionEnd before content sent after = subst (λ phase. AnswersInPhase phase before content sent after) shut h in
+    let going : AnswersInActivePhase before content sent after = subst (λ phase. AnswersInPhase phase before content sent after) shut h in
     let answer = reacts_so before after content sent is.json going is.reads in
     let so : react_to_message before (meaning_of_message is.json) ≡ react_to_exit before =
     ap (react_to_message before) is.means ∙ ap (λ phase. react_to_notification phase before (codes "exit") is.params) shut in

@@ -1,4 +1,5 @@
--- Proves that the model's editor and a session exchange messages as an editor that keeps ob0's rules does.
+-- Proves that each course of the model's editor and a session is also an exchange of an editor that
+-- keeps ob0's rules.
 use Rattle.std.proofs.Common.{◌≡◌, ◌∙◌, ℕ, zero, suc, ◌+◌, ◌≤◌, Bool, true, false, cond, arith, List, [], ◌∷◌, ◌++◌, map, length, append-nil, get_or, refl, sym, ap, subst, inl, inr}
 use Rattle.std.specs.Prelude.{◌==◌, Some, None, Ok, codes, option_and_then, slice_get}
 use Rattle.std.specs.Option.{option_to_list}
@@ -15,16 +16,16 @@ use Rattle.ob0_session_server.specs.ClientUnits.{unit_for_client}
 use Rattle.ob0_world_editor.specs.InitializeRequest.{client_features_for_unit}
 use Rattle.ob0_world_editor.specs.MessagesToServer.{request_number_from_id, client_request_for_ask, IsRequestWithId, IsMessageToServer}
 use Rattle.ob0_world_editor.specs.Shapes.{method_of_ask, empty_range_at}
-use Rattle.ob0_world_editor.specs.MessagesToEditor.{message_to_editor_in_content, message_to_editor_by_id_conversion}
+use Rattle.ob0_world_editor.specs.MessagesToEditor.{message_to_editor_in_content, message_to_editor_given_numbering}
 use Rattle.ob0_world_rules.specs.Asks.{Ask, rename, inline_here, inline_all, format}
-use Rattle.ob0_world_rules.specs.ClientAndServer.{SentAsk, Editor, sent_ask_with_number, MessageToServer, notifies, requests, MessageToEditor, publishes, answers, Applied, ClientAndServer, start}
+use Rattle.ob0_world_rules.specs.ClientAndServer.{SentAsk, Editor, sent_ask_with_number, MessageToServer, notifies, requests, MessageToEditor, publishes, answers, AppliedEdit, ClientAndServer, initial_client_and_server}
 use Rattle.ob0_world_rules.specs.EditorActs.{EditorAct, ActResult, result_without_messages, act_result, editor_after_message}
 use Rattle.ob0_world_rules.specs.Events.{Event, editor_acts, serve, take_message, state_after_editor_takes_message, ServerTakesFirstMessage}
 use Rattle.ob0_world_rules.specs.EveryEditor.{ExchangeTurn, editor_moves, server_takes_message, editor_takes_message}
 use Rattle.ob0_world_rules.specs.PublicationsAreInOrder.{AnnouncedDocument, documents_announced_by_sent_messages}
 use Rattle.ob0_world_rules.proofs.ModelEditor.{IsMove, act_may, knows_event}
-use Rattle.ob0_world.specs.Worlds.{Wire, Connection, SessionTakesFirstContent, EditorTakesFirstContent, ChangesWire, AreMessagesToServer, ConnectionSteps, IsConnectionCourse}
-use Rattle.ob0_world.specs.Exchanges.{SentRequestId, number_id, ask_number_of_request_id, ask_number_of_json_id, AssignsAskIds, Exchange, IsInitialExchange, IsCodeActionRequest, IsRequestForAsk, AcceptsLiteralActions, AcceptsEditsForAsk, IsMessageToSession, AreMessagesToSession, message_to_editor_by_request_ids, editor_after_optional_message, EditorReadsFirstContent, wire_with_queued_contents, IsExchangeCourse, EveryConnectionCourseIsExchange}
+use Rattle.ob0_world.specs.Worlds.{Wire, Connection, SessionTakesFirstContent, EditorTakesFirstContent, EventChangesWire, AreMessagesToServer, ConnectionSteps, IsConnectionCourse}
+use Rattle.ob0_world.specs.Exchanges.{SentRequestId, number_id, ask_number_of_request_id, ask_number_of_json_id, AssignsAskIds, Exchange, IsInitialExchange, IsCodeActionRequest, IsRequestForAsk, ClientAcceptsLiteralActions, ClientAcceptsEditsForAsk, IsMessageToSession, AreMessagesToSession, message_to_editor_given_ids, editor_after_optional_message, EditorReadsFirstContent, wire_with_queued_contents, IsExchangeCourse, EveryConnectionCourseIsExchange}
 use Rattle.ob0_world.proofs.Conversing.{answered_once}
 use Rattle.std.proofs.lemmas.Bool.{eqb-true, eqb-false}
 use Rattle.std.proofs.lemmas.Option.{same_Some, none-some}
@@ -94,7 +95,7 @@ named_so requested (array ds) k a h is = absurd (none-some k is)
 named_so requested (object ms) k a h is = absurd (none-some k is)
 
 -- states that some turns may lead from x to this editor, this wire and these applied edits
-record ComesTo (x : Exchange) (editor : Editor) (wire : Wire) (applied : List Applied) : Type 0 where
+record ComesTo (x : Exchange) (editor : Editor) (wire : Wire) (applied : List AppliedEdit) : Type 0 where
   turns : List ExchangeTurn
   announced : List AnnouncedDocument
   leads : IsExchangeCourse x turns (record { editor = editor; ids = ids_from 1 editor.requested; wire = wire; announced = announced; applied = applied })
@@ -138,8 +139,8 @@ request_said id uri (inline_here position) content is = inline_said id uri posit
 request_said id uri (inline_all position) content is = inline_said id uri position (inline_all position) content refl refl is
 request_said id uri (format indent) content is = is
 
-module _ (client : ClientFeatures) (takes : AcceptsLiteralActions client) where
-  takes_ask : (ask : Ask) → AcceptsEditsForAsk client ask
+module _ (client : ClientFeatures) (takes : ClientAcceptsLiteralActions client) where
+  takes_ask : (ask : Ask) → ClientAcceptsEditsForAsk client ask
   takes_ask (rename position name) = tt
   takes_ask (inline_here position) = takes
   takes_ask (inline_all position) = takes
@@ -195,7 +196,7 @@ got_running : (contents : List (List ℕ)) (old new : Wire) → EditorTakesFirst
 got_running [] old new is running = subst (λ (v : Wire). RunsWithModelEditor v.session) (sym is) running
 got_running (c ∷ rest) old new is running = subst (λ (v : Wire). RunsWithModelEditor v.session) (sym is) running
 
-event_running : (event : Event) (old new : Connection) → Goes old → ChangesWire event old.wire new.wire → RunsWithModelEditor new.wire.session
+event_running : (event : Event) (old new : Connection) → Goes old → EventChangesWire event old.wire new.wire → RunsWithModelEditor new.wire.session
 event_running (editor_acts act) old new goes (content, is) = subst (λ (v : Wire). RunsWithModelEditor v.session) (sym is) goes.running
 event_running serve old new goes takes = taken_running old.model.editor.requested old.model.to_server old.wire.to_server old.wire new.wire goes.says takes goes.running
 event_running take_message old new goes gets = got_running old.wire.to_editor old.wire new.wire gets goes.running
@@ -207,7 +208,7 @@ event_goes event old new goes step =
 -- ---- each event
 
 module _ (c : Connection) (announced : List AnnouncedDocument) (goes : Goes c) where
-  abbrev Comes : Editor → Wire → List Applied → Type 0
+  abbrev Comes : Editor → Wire → List AppliedEdit → Type 0
   Comes editor wire applied = ComesTo (exchange_of c announced) editor wire applied
 
   still : (contents : List (List ℕ)) (done : ActResult) → done ≡ result_without_messages c.model.editor → AreMessagesToServer done.editor.requested done.sent contents → Comes done.editor (wire_with_queued_contents c.wire contents) (c.model.applied ++ done.applied)
@@ -265,8 +266,8 @@ reads_asks e (answers k []) = refl
 reads_asks e (answers k (edit ∷ edits)) = refl
 
 -- An answer is read the same if the ids of asks are their numbers.
-read_so_too : (requested : List SentAsk) (content : List ℕ) (m : MessageToEditor) → message_to_editor_in_content requested content ≡ Some m → message_to_editor_by_request_ids (ids_from 1 requested) requested content ≡ Some m
-read_so_too requested content m h = subst (λ asks. message_to_editor_by_id_conversion (ask_number_of_json_id (ids_from 1 requested)) asks content ≡ Some m) (append-nil requested) (read_still request_number_from_id (ask_number_of_json_id (ids_from 1 requested)) requested [] (named_so requested) content m h)
+read_so_too : (requested : List SentAsk) (content : List ℕ) (m : MessageToEditor) → message_to_editor_in_content requested content ≡ Some m → message_to_editor_given_ids (ids_from 1 requested) requested content ≡ Some m
+read_so_too requested content m h = subst (λ asks. message_to_editor_given_numbering (ask_number_of_json_id (ids_from 1 requested)) asks content ≡ Some m) (append-nil requested) (read_still request_number_from_id (ask_number_of_json_id (ids_from 1 requested)) requested [] (named_so requested) content m h)
 
 take_comes : (c : Connection) (announced : List AnnouncedDocument) (wire : Wire) (queue : List MessageToEditor) (contents : List (List ℕ)) → c.wire.to_editor ≡ contents
     → map (message_to_editor_in_content c.model.editor.requested) contents ≡ map Some queue → EditorTakesFirstContent contents c.wire wire
@@ -275,7 +276,7 @@ take_comes c announced wire [] [] waits means is = record { turns = []; announce
 take_comes c announced wire (m ∷ queue) (content ∷ rest) waits means is =
     let e : Editor = c.model.editor in
     let first : message_to_editor_in_content e.requested content ≡ Some m = ap (λ os. get_or os 0 None) means in
-    let so : message_to_editor_by_request_ids (ids_from 1 e.requested) e.requested content ≡ Some m = read_so_too e.requested content m first in
+    let so : message_to_editor_given_ids (ids_from 1 e.requested) e.requested content ≡ Some m = read_so_too e.requested content m first in
     let x : Exchange = exchange_of c announced in
     let y : Exchange = record { editor = editor_after_message e m; ids = ids_from 1 (editor_after_message e m).requested; wire = wire; announced = announced; applied = c.model.applied } in
     let gets : EditorReadsFirstContent (content ∷ rest) x y = λ i. record x { editor = editor_after_optional_message x.editor (sym so i); ids = ids_from 1 (reads_asks e m i); wire = is i } in
@@ -334,7 +335,7 @@ same_unit Utf8 = refl
 pub every_connection_course_is_exchange : EveryConnectionCourseIsExchange
 every_connection_course_is_exchange unit begin end events b course =
     let wire : Wire = record { session = state_after_initialize (client_features_for_unit unit); taken = b.content ∷ []; to_server = []; got = b.replies; to_editor = [] } in
-    let first_goes : Goes (record { model = start unit; wire = wire }) = record { says = tt; means = refl; running = (refl, refl, refl); knows = knows_first unit } in
+    let first_goes : Goes (record { model = initial_client_and_server unit; wire = wire }) = record { says = tt; means = refl; running = (refl, refl, refl); knows = knows_first unit } in
     let goes : Goes begin = subst Goes (λ i. record { model = sym b.model i; wire = sym b.wire i }) first_goes in
     let c : ComesTo (exchange_of begin []) end.model.editor end.wire end.model.applied = course_comes events begin end [] goes course in
     let last : Exchange = exchange_of end c.announced in
@@ -344,7 +345,7 @@ every_connection_course_is_exchange unit begin end events b course =
       counts = same_unit unit;
       taken = b.content ∷ [];
       got = b.replies;
-      initialized = answered_once server.start b.content b.replies (state_after_initialize (client_features_for_unit unit)) b.answers;
+      initialized = answered_once server.initial_server_state b.content b.replies (state_after_initialize (client_features_for_unit unit)) b.answers;
       is = λ i. record { editor = (b.model i).editor; ids = ids_from 1 (b.model i).editor.requested; wire = b.wire i; announced = []; applied = (b.model i).applied };
     } in
     (exchange_of begin [], c.turns, last, first, c.leads, refl, refl, refl)

@@ -27,7 +27,7 @@ use Rattle.ob0_session_answers.specs.Actions.{VersionedActionsRequest}
 use Rattle.ob0_session_json.specs.JsonShapes.{edit_list_value, workspace_edit_value}
 use Rattle.ob0_session_server.specs.Answers.{ServerState, Reply, AreContentsOfReply, SendsMessage, Reaction, react_to_message, react_to_request, react_to_notification, apply_notification, react_to_parsed_request, react_to_allowed_request, react_to_document_request, question_reply, react_to_question, rename_reply, actions_reply, formatting_reply, react_with_error, Answers}
 use Rattle.ob0_world_editor.specs.MessagesToServer.{request_number_from_id, message_of_sent_ask, message_of_notification, message_to_server_of_meaning, message_to_server_in_content}
-use Rattle.ob0_world_editor.specs.MessagesToEditor.{message_to_editor_in_content, publication_of_notification, answer_of_response, message_to_editor_of_value, message_to_editor_by_id_conversion, answer_to_ask, edits_in_answer}
+use Rattle.ob0_world_editor.specs.MessagesToEditor.{message_to_editor_in_content, publication_of_notification, answer_of_response, message_to_editor_of_value, message_to_editor_given_numbering, answer_to_ask, edits_in_answer}
 use Rattle.ob0_world_editor.proofs.Hearing.{said, says_heard, read_as}
 use Rattle.ob0_world_rules.specs.Asks.{Ask, rename, inline_here, inline_all, format}
 use Rattle.ob0_world_rules.specs.ClientAndServer.{OpenDocument, SentAsk, Editor, sent_ask_with_number, MessageToServer, notifies, requests, MessageToEditor, publishes, answers, PublicationWithText, documents_after_message}
@@ -35,7 +35,7 @@ use Rattle.ob0_world_rules.specs.EditorActs.{ActResult, editor_after_message, ed
 use Rattle.ob0_world_rules.specs.EditorMoves.{Revision, EditorMove, editor_opens, editor_revises, editor_closes, editor_asks, editor_applies, editor_discards, revised_document, editor_with_document, RevisesDocument, IsAllowedMove}
 use Rattle.ob0_world_rules.specs.EveryEditor.{EditorAndServer, initial_editor_and_server, modeled_messages, notifications_in_queue, ExchangeTurn, editor_moves, editor_sends_unmodeled_message, server_takes_message, editor_takes_message, TurnMayLeadTo, IsCourseOfTurns, GuaranteesHoldForEditorAndServer}
 use Rattle.ob0_world_rules.specs.Answers.{OneUse, Everywhere, NoDiagnosticsExactlyIfWellTyped}
-use Rattle.ob0_world_rules.specs.ServerReplies.{SendsDiagnostics, RepliesToMessage}
+use Rattle.ob0_world_rules.specs.ServerReplies.{ServerSendsDiagnostics, ServerRepliesToMessage}
 use Rattle.ob0_world_rules.specs.Headline.{IsCorrectPublication, last_publication}
 use Rattle.ob0_world_rules.specs.PublicationsAreInOrder.{AnnouncedDocument, AreMadeForDocumentsInOrder, uri_and_version_announced_by_message, uris_and_versions_announced_in_queue}
 use Rattle.ob0_world_rules.proofs.UriLaws.{mapped_choice}
@@ -43,7 +43,7 @@ use Rattle.ob0_world_rules.proofs.EveryEditor.{guarantees_hold_for_every_editor}
 use Rattle.ob0_world.specs.Worlds.{Wire, SessionTakesFirstContent}
 use Rattle.ob0_session_server.specs.declared.session.Phase.TheVariants.{Running}
 use Rattle.ob0_world.specs.Queues.{publication_in_first_message}
-use Rattle.ob0_world.specs.Exchanges.{RequestId, id_of_value, is_same_id, SentRequestId, ask_number_of_request_id, ask_number_of_json_id, AssignsAskIds, ids_with_non_ask_id, IsNonAskId, Exchange, IsInitialExchange, IsMessageToSession, IsRequestForAsk, IsReadOnlyRequest, IsUnmodeledMessage, IsUnmodeledContent, message_to_editor_by_request_ids, editor_after_optional_message, EditorReadsFirstContent, wire_with_queued_contents, ExchangeTakesTurn, IsExchangeCourse, AreMessagesToSession, AreMessagesToEditor, EveryExchangeFollowsModel, VersionedPublication, versioned_publications_in_message, versioned_publications_in_contents, AreCorrectForDocuments, last_versioned_publication, notifications_in_contents, GuaranteesHoldForEveryExchange}
+use Rattle.ob0_world.specs.Exchanges.{RequestId, id_of_value, is_same_id, SentRequestId, ask_number_of_request_id, ask_number_of_json_id, AssignsAskIds, ids_with_non_ask_id, IsNonAskId, Exchange, IsInitialExchange, IsMessageToSession, IsRequestForAsk, IsReadOnlyRequest, IsUnmodeledMessage, IsUnmodeledContent, message_to_editor_given_ids, editor_after_optional_message, EditorReadsFirstContent, wire_with_queued_contents, ExchangeTakesTurn, IsExchangeCourse, AreMessagesToSession, AreMessagesToEditor, EveryExchangeFollowsModel, VersionedPublication, versioned_publications_in_message, versioned_publications_in_contents, AreCorrectForDocuments, last_versioned_publication, notifications_in_contents, GuaranteesHoldForEveryExchange}
 use Rattle.ob0_world.proofs.Answering.{Served, note_answered, ask_answered, actions_answered, going_on, reacts_so}
 use Rattle.ob0_world.proofs.Waiting.{read_still}
 use Rattle.ob0_world.proofs.Ending.{ends_well}
@@ -112,7 +112,7 @@ module _ (client : ClientFeatures) (ids later : List SentRequestId) (requested m
   means_on : (r : List (Option MessageToEditor)) (contents : List (List ℕ)) → AreMessagesToEditor ids requested r contents → AreMessagesToEditor (ids ++ later) (requested ++ more) r contents
   means_on [] [] h = tt
   means_on (Some m ∷ r) (c ∷ contents) h = (read_still (ask_number_of_json_id ids) (ask_number_of_json_id (ids ++ later)) requested more (λ d k a is named. ask_with_still ids later d k named) c m h.0, means_on r contents h.1)
-  means_on (None ∷ r) (c ∷ contents) h = (λ further all. subst (λ more. message_to_editor_by_request_ids more all c ≡ None) (sym (append_assoc ids later further)) (h.0 (later ++ further) all), means_on r contents h.1)
+  means_on (None ∷ r) (c ∷ contents) h = (λ further all. subst (λ more. message_to_editor_given_ids more all c ≡ None) (sym (append_assoc ids later further)) (h.0 (later ++ further) all), means_on r contents h.1)
   means_on [] (c ∷ contents) h = absurd h
   means_on (Some m ∷ r) [] h = absurd h
   means_on (None ∷ r) [] h = absurd h
@@ -134,12 +134,12 @@ module _ (client : ClientFeatures) (ids : List SentRequestId) (requested : List 
   means_append (Some m ∷ r) p [] others h k = absurd h
   means_append (None ∷ r) p [] others h k = absurd h
 
-  each_means : (sent : List (List ℕ)) → All (λ content. (m : MessageToEditor) × (message_to_editor_by_request_ids ids requested content ≡ Some m)) sent → AreMessagesToEditor ids requested (map Some (filter_map (message_to_editor_by_request_ids ids requested) sent)) sent
+  each_means : (sent : List (List ℕ)) → All (λ content. (m : MessageToEditor) × (message_to_editor_given_ids ids requested content ≡ Some m)) sent → AreMessagesToEditor ids requested (map Some (filter_map (message_to_editor_given_ids ids requested) sent)) sent
   each_means [] all = tt
   each_means (c ∷ sent) all =
-      let first : (m : MessageToEditor) × (message_to_editor_by_request_ids ids requested c ≡ Some m) = All-head (λ content. (m : MessageToEditor) × (message_to_editor_by_request_ids ids requested content ≡ Some m)) c sent all in
-      subst (λ o. AreMessagesToEditor ids requested (map Some (cons_option o (filter_map (message_to_editor_by_request_ids ids requested) sent))) (c ∷ sent)) (sym first.1)
-      (first.1, each_means sent (All-tail (λ content. (m : MessageToEditor) × (message_to_editor_by_request_ids ids requested content ≡ Some m)) c sent all))
+      let first : (m : MessageToEditor) × (message_to_editor_given_ids ids requested c ≡ Some m) = All-head (λ content. (m : MessageToEditor) × (message_to_editor_given_ids ids requested content ≡ Some m)) c sent all in
+      subst (λ o. AreMessagesToEditor ids requested (map Some (cons_option o (filter_map (message_to_editor_given_ids ids requested) sent))) (c ∷ sent)) (sym first.1)
+      (first.1, each_means sent (All-tail (λ content. (m : MessageToEditor) × (message_to_editor_given_ids ids requested content ≡ Some m)) c sent all))
 
 -- ---- what a move asks
 
@@ -297,8 +297,8 @@ answer_published number_of requested d = go (option_and_then number_of (get (cod
     go None = refl
     go (Some k) = at k (sent_ask_with_number requested k)
 
-any_published : (number_of : Data → Option ℕ) (requested : List SentAsk) (content : List ℕ) → versioned_publications_in_message (message_to_editor_by_id_conversion number_of requested content) ≡ versioned_publications_in_message (message_to_editor_in_content [] content)
-unfolding message_to_editor_by_id_conversion
+any_published : (number_of : Data → Option ℕ) (requested : List SentAsk) (content : List ℕ) → versioned_publications_in_message (message_to_editor_given_numbering number_of requested content) ≡ versioned_publications_in_message (message_to_editor_in_content [] content)
+unfolding message_to_editor_given_numbering
 any_published number_of requested content = go (is_utf8 content) (read content)
   where
     value : (d : Data) (b : Bool) → versioned_publications_in_message (cond b (publication_of_notification d) (answer_of_response number_of requested d)) ≡ versioned_publications_in_message (cond b (publication_of_notification d) (answer_of_response request_number_from_id [] d))
@@ -336,12 +336,12 @@ others_published (Some m ∷ said) none = absurd (cc)
 abbrev named : PublicationWithText → VersionedPublication
 named m = record { uri = m.uri; version = m.version; no_diagnostics = m.no_diagnostics }
 
-publishes_named : (uri : List ℕ) (o : Option Document) (said : List MessageToEditor) (made : List PublicationWithText) → SendsDiagnostics uri o said made → versions (map Some said) ≡ map named made
+publishes_named : (uri : List ℕ) (o : Option Document) (said : List MessageToEditor) (made : List PublicationWithText) → ServerSendsDiagnostics uri o said made → versions (map Some said) ≡ map named made
 publishes_named uri (Some (InStep version text)) said made (empty, right, is_said, is_made) = ap (λ ms. versions (map Some ms)) is_said ∙ sym (ap (map named) is_made)
 publishes_named uri (Some OutOfStep) said made h = ap (λ ms. versions (map Some ms)) h.0 ∙ sym (ap (map named) h.1)
 publishes_named uri None said made h = ap (λ ms. versions (map Some ms)) h.0 ∙ sym (ap (map named) h.1)
 
-replies_named : (held : OpenDocuments) (m : MessageToServer) (said : List MessageToEditor) (made : List PublicationWithText) → RepliesToMessage held m said made → versions (map Some said) ≡ map named made
+replies_named : (held : OpenDocuments) (m : MessageToServer) (said : List MessageToEditor) (made : List PublicationWithText) → ServerRepliesToMessage held m said made → versions (map Some said) ≡ map named made
 replies_named held (notifies (Opened uri version text)) said made h = publishes_named uri (document_at (documents_after_event held (Opened uri version text)) uri) said made h
 replies_named held (notifies (Changed uri version how)) said made h = publishes_named uri (document_at (documents_after_event held (Changed uri version how)) uri) said made h
 replies_named held (notifies (Lost uri)) said made h = ap (λ ms. versions (map Some ms)) h.0 ∙ sym (ap (map named) h.1)
@@ -555,7 +555,7 @@ module _ (got : List (List ℕ)) (x : Exchange) (made : List PublicationWithText
   get_step q (None ∷ r) (c ∷ rest) y waits tied is =
       let means : AreMessagesToEditor x.ids x.editor.requested (None ∷ r) (c ∷ rest) = subst (AreMessagesToEditor x.ids x.editor.requested (None ∷ r)) waits tied.means in
       let now : Wire = record x.wire { got = x.wire.got ++ c ∷ []; to_editor = rest } in
-      let none : message_to_editor_by_request_ids x.ids x.editor.requested c ≡ None = subst (λ all. message_to_editor_by_request_ids all x.editor.requested c ≡ None) (append-nil x.ids) (means.0 [] x.editor.requested) in
+      let none : message_to_editor_given_ids x.ids x.editor.requested c ≡ None = subst (λ all. message_to_editor_given_ids all x.editor.requested c ≡ None) (append-nil x.ids) (means.0 [] x.editor.requested) in
       subst (Step got (model_of x q (None ∷ r) made) editor_takes_message) (sym (is ∙ (λ i. record x { editor = editor_after_optional_message x.editor (none i); wire = now })))
       (record { q = q; r = r; made = made; happens = refl; tied = got_so q (None ∷ r) r c rest x.editor waits tied refl means.1 })
   get_step q [] (c ∷ rest) y waits tied is = absurd (subst (AreMessagesToEditor x.ids x.editor.requested []) waits tied.means)

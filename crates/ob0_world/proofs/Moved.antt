@@ -22,10 +22,10 @@ use Rattle.ob0_world_rules.specs.Events.{editor_acts, take_message, state_after_
 use Rattle.ob0_world_rules.proofs.PerformsAct.{of_each}
 use Rattle.ob0_world.specs.declared.events.Seen as seen
 use Rattle.ob0_world.specs.declared.play_results.Made as made
-use Rattle.ob0_world.specs.Seen.{Seen, nothing, applies, drops, report_if_nonempty, report_on_sending, report_on_act, report_on_take, model_report_of, EventLeadsToWithReport}
-use Rattle.ob0_world.specs.Seen as seen_as
-use Rattle.ob0_world.specs.Queues.{Contents, bytes_of_contents, messages_to_server_in_contents, messages_to_editor_in_contents, MeansMessageToServer, MeansMessageToEditor, ConnectionInvariant, model_from_fields, wire_from_fields, QueuesContent, MovesFirstContent}
-use Rattle.ob0_world.specs.Worlds.{QueuesAtMostOneContent}
+use Rattle.ob0_world.specs.EventReport.{EventReport, nothing, applies, drops, report_if_nonempty, report_on_sending, report_on_act, report_on_take, model_report_of, EventLeadsToWithReport}
+use Rattle.ob0_world.specs.EventReport as seen_as
+use Rattle.ob0_world.specs.Queues.{Contents, bytes_of_contents, messages_to_server_in_contents, messages_to_editor_in_contents, MeansMessageToServer, MeansMessageToEditor, ConnectionInvariant, model_from_fields, wire_from_fields, AppendsContentToQueue, MovesFirstContent}
+use Rattle.ob0_world.specs.Worlds.{AppendsAtMostOneContent}
 use Rattle.ob0_world.proofs.Waiting.{all_heard_still, all_understood_still, heard_still, understood_same, said_push, said_first}
 
 -- ---- the asks of an editor only grow
@@ -99,14 +99,14 @@ acted e new done content q q' r s ap_list ap_new md grows acts is more sound =
 -- ---- an act that applies nothing
 
 -- The content of an act, if there is one, was put at the end of the queue.
-pub put : (q q' : Contents) (content : Option (Vec ℕ Global)) (shown : seen.Seen) → QueuesContent q content shown q' → q' ≡ q ++ option_to_list content
+pub put : (q q' : Contents) (content : Option (Vec ℕ Global)) (shown : seen.Seen) → AppendsContentToQueue q content shown q' → q' ≡ q ++ option_to_list content
 put q q' None shown sent = sent.1 ∙ sym (append-nil q)
 put q q' (Some c) shown sent = sent.1
 
-seen_sent : (done : ActResult) (requested : List SentAsk) (q q' : Contents) (content : Option (Vec ℕ Global)) (shown : seen.Seen) → IsSentContent requested done.sent content → QueuesContent q content shown q' → model_report_of shown ≡ report_on_sending done
+seen_sent : (done : ActResult) (requested : List SentAsk) (q q' : Contents) (content : Option (Vec ℕ Global)) (shown : seen.Seen) → IsSentContent requested done.sent content → AppendsContentToQueue q content shown q' → model_report_of shown ≡ report_on_sending done
 seen_sent done requested q q' content shown says sent = go done.sent content says sent
   where
-    go : (ms : List MessageToServer) (content : Option (Vec ℕ Global)) → IsSentContent requested ms content → QueuesContent q content shown q' → model_report_of shown ≡ report_if_nonempty ms seen_as.sent seen_as.nothing
+    go : (ms : List MessageToServer) (content : Option (Vec ℕ Global)) → IsSentContent requested ms content → AppendsContentToQueue q content shown q' → model_report_of shown ≡ report_if_nonempty ms seen_as.sent seen_as.nothing
     go [] None says sent = sent.0
     go [] (Some c) says sent = absurd says
     go (m ∷ more) None says sent = absurd says
@@ -149,13 +149,13 @@ change_applies e uri how = go (editor_document_with_uri e uri)
     go (Some d) = of_text d (text_after_changes e.unit (Some d.text) how)
 
 pub sent_sound : {X : Type 0} (act : EditorAct) (e new : Editor) (content : Option (Vec ℕ Global)) (q q' r : Contents) (s : ServerState) (result : Result seen.Seen X) → PerformsAct (act_result e act) content new
-    → IfOk result (λ shown. QueuesContent q content shown q') → OnErr result (q' ≡ q) → ConnectionInvariant e.requested q r s → ConnectionInvariant new.requested q' r s
+    → IfOk result (λ shown. AppendsContentToQueue q content shown q') → OnErr result (q' ≡ q) → ConnectionInvariant e.requested q r s → ConnectionInvariant new.requested q' r s
 sent_sound act e new content q q' r s (Ok shown) acts sent none sound = acted_sound e new (act_result e act) content q q' r s (act_grows e act) acts (put q q' content shown sent) sound
 sent_sound act e new content q q' r s (Err x) acts sent none sound =
     subst (λ x. ConnectionInvariant new.requested x r s) (sym none) (grown_sound e new q r s (grown e new (act_result e act) (act_grows e act) acts.0) sound)
 
 pub sent_shows : {X : Type 0} (act : EditorAct) (old : ClientAndServer) (e new : Editor) (content : Option (Vec ℕ Global)) (q q' r : Contents) (s : ServerState) (ap_list : List applied.Applied) (md : List made.Made) (result : Result seen.Seen X)
-    → model_from_fields e q s r ap_list md ≡ old → (act_result e act).applied ≡ [] → report_on_act e act ≡ report_on_sending (act_result e act) → PerformsAct (act_result e act) content new → IfOk result (λ shown. QueuesContent q content shown q') → ConnectionInvariant e.requested q r s
+    → model_from_fields e q s r ap_list md ≡ old → (act_result e act).applied ≡ [] → report_on_act e act ≡ report_on_sending (act_result e act) → PerformsAct (act_result e act) content new → IfOk result (λ shown. AppendsContentToQueue q content shown q') → ConnectionInvariant e.requested q r s
     → IfOk result (λ shown. EventLeadsToWithReport old (editor_acts act) (model_report_of shown) (model_from_fields new q' s r ap_list md))
 sent_shows act old e new content q q' r s ap_list md (Ok shown) was none as_sent acts sent sound =
     subst (λ (w : ClientAndServer). EventLeadsToWithReport w (editor_acts act) (model_report_of shown) (model_from_fields new q' s r ap_list md)) was (
@@ -176,41 +176,41 @@ silent_shows act e new q r s ap_list md silent sound =
     acted e new (act_result e act) None q q r s ap_list ap_list md (act_grows e act) (silent_acts (act_result e act) new silent) (sym (append-nil q)) (sym (append-nil (map model_applied_edit_of ap_list)) ∙ ap (λ x. map model_applied_edit_of ap_list ++ x) (sym silent.2)) sound
 
 -- returns the report on an answer that was to be applied
-abbrev pub apply_seen : (e new : Editor) (k : ℕ) (outcome : applying.ApplyOutcome) → IsApplyOutcome (act_result e (apply k)) (is_some (edits_of_answer_to_request k e.answers)) outcome new → Seen
+abbrev pub apply_seen : (e new : Editor) (k : ℕ) (outcome : applying.ApplyOutcome) → IsApplyOutcome (act_result e (apply k)) (is_some (edits_of_answer_to_request k e.answers)) outcome new → EventReport
 apply_seen e new k applying.TheVariants.NoSuchAnswer comes = nothing
 apply_seen e new k applying.TheVariants.Dropped comes = drops k
-apply_seen e new k (applying.TheVariants.Made a c) comes = applies k
+apply_seen e new k (applying.TheVariants.EditsMade a c) comes = applies k
 
 pub apply_seen_so : (e new : Editor) (k : ℕ) (outcome : applying.ApplyOutcome) (comes : IsApplyOutcome (act_result e (apply k)) (is_some (edits_of_answer_to_request k e.answers)) outcome new) → apply_seen e new k outcome comes ≡ report_on_act e (apply k)
 apply_seen_so e new k applying.TheVariants.NoSuchAnswer comes = sym (ap (λ b. cond b (report_if_nonempty (act_result e (apply k)).applied (applies k) (drops k)) nothing) comes.1)
 apply_seen_so e new k applying.TheVariants.Dropped comes =
     sym (ap (λ b. cond b (report_if_nonempty (act_result e (apply k)).applied (applies k) (drops k)) nothing) comes.1 ∙ ap (λ xs. report_if_nonempty xs (applies k) (drops k)) comes.0.2)
-apply_seen_so e new k (applying.TheVariants.Made a c) comes =
+apply_seen_so e new k (applying.TheVariants.EditsMade a c) comes =
     sym (ap (λ b. cond b (report_if_nonempty (act_result e (apply k)).applied (applies k) (drops k)) nothing) comes.2 ∙ ap (λ xs. report_if_nonempty xs (applies k) (drops k)) comes.1)
 
 pub apply_requested : (e new : Editor) (k : ℕ) (outcome : applying.ApplyOutcome) → IsApplyOutcome (act_result e (apply k)) (is_some (edits_of_answer_to_request k e.answers)) outcome new → new ≡ (act_result e (apply k)).editor
 apply_requested e new k applying.TheVariants.NoSuchAnswer comes = comes.0.0
 apply_requested e new k applying.TheVariants.Dropped comes = comes.0.0
-apply_requested e new k (applying.TheVariants.Made a c) comes = comes.0.0
+apply_requested e new k (applying.TheVariants.EditsMade a c) comes = comes.0.0
 
 -- After an answer was applied or dropped, the waiting contents are still messages.
 pub applied_sound : (e new : Editor) (k : ℕ) (outcome : applying.ApplyOutcome) (q r : Contents) (s : ServerState) → IsApplyOutcome (act_result e (apply k)) (is_some (edits_of_answer_to_request k e.answers)) outcome new → ConnectionInvariant e.requested q r s → ConnectionInvariant new.requested q r s
 applied_sound e new k outcome q r s comes sound = grown_sound e new q r s (grown e new (act_result e (apply k)) (act_grows e (apply k)) (apply_requested e new k outcome comes)) sound
 
 -- The content that tells of an applied edit is a message to the server.
-pub made_says : (e new : Editor) (k : ℕ) (a : applied.Applied) (c : Vec ℕ Global) → IsApplyOutcome (act_result e (apply k)) (is_some (edits_of_answer_to_request k e.answers)) (applying.TheVariants.Made a c) new → MeansMessageToServer new.requested c
+pub made_says : (e new : Editor) (k : ℕ) (a : applied.Applied) (c : Vec ℕ Global) → IsApplyOutcome (act_result e (apply k)) (is_some (edits_of_answer_to_request k e.answers)) (applying.TheVariants.EditsMade a c) new → MeansMessageToServer new.requested c
 made_says e new k a c comes = go (act_result e (apply k)).sent comes.0.1
   where
     go : (sent : List MessageToServer) → IsSentContent new.requested sent (Some c) → MeansMessageToServer new.requested c
     go [] says = absurd says
     go (m ∷ more) says = (m, says.0)
 
-pub made_happens : (e new : Editor) (k : ℕ) (a : applied.Applied) (c : Vec ℕ Global) (q q' r : Contents) (s : ServerState) (ap_list ap_new : List applied.Applied) (md : List made.Made) → IsApplyOutcome (act_result e (apply k)) (is_some (edits_of_answer_to_request k e.answers)) (applying.TheVariants.Made a c) new
+pub made_happens : (e new : Editor) (k : ℕ) (a : applied.Applied) (c : Vec ℕ Global) (q q' r : Contents) (s : ServerState) (ap_list ap_new : List applied.Applied) (md : List made.Made) → IsApplyOutcome (act_result e (apply k)) (is_some (edits_of_answer_to_request k e.answers)) (applying.TheVariants.EditsMade a c) new
     → q' ≡ q ++ c ∷ [] → ap_new ≡ ap_list ++ a ∷ [] → ConnectionInvariant e.requested q r s → EventLeadsToWithReport (model_from_fields e q s r ap_list md) (editor_acts (apply k)) (applies k) (model_from_fields new q' s r ap_new md)
 made_happens e new k a c q q' r s ap_list ap_new md comes is_q is_ap sound = (
   acted e new (act_result e (apply k)) (Some c) q q' r s ap_list ap_new md (act_grows e (apply k)) comes.0 is_q
       (ap (map model_applied_edit_of) is_ap ∙ map-append model_applied_edit_of ap_list (a ∷ []) ∙ ap (λ x. map model_applied_edit_of ap_list ++ x) (sym comes.1)) sound,
-  apply_seen_so e new k (applying.TheVariants.Made a c) comes,
+  apply_seen_so e new k (applying.TheVariants.EditsMade a c) comes,
 )
 
 pub dropped_happens : (e new : Editor) (k : ℕ) (q r : Contents) (s : ServerState) (ap_list : List applied.Applied) (md : List made.Made) → IsApplyOutcome (act_result e (apply k)) (is_some (edits_of_answer_to_request k e.answers)) applying.TheVariants.Dropped new → ConnectionInvariant e.requested q r s
@@ -249,15 +249,15 @@ taken_happens e new q r rest s ap_list md c m first means is =
 -- ---- waiting contents
 
 module _ (s : ServerState) (tk q gt r : Contents) where
-  pub writes_none : QueuesAtMostOneContent (wire_from_fields s tk q gt r) (wire_from_fields s tk q gt r)
+  pub writes_none : AppendsAtMostOneContent (wire_from_fields s tk q gt r) (wire_from_fields s tk q gt r)
   writes_none = (None, λ i. record (wire_from_fields s tk q gt r) { to_server = sym (append-nil (bytes_of_contents q)) i })
 
-  pub writes_one : (q' : Contents) (c : Vec ℕ Global) → q' ≡ q ++ c ∷ [] → QueuesAtMostOneContent (wire_from_fields s tk q gt r) (wire_from_fields s tk q' gt r)
+  pub writes_one : (q' : Contents) (c : Vec ℕ Global) → q' ≡ q ++ c ∷ [] → AppendsAtMostOneContent (wire_from_fields s tk q gt r) (wire_from_fields s tk q' gt r)
   writes_one q' c is = (Some c.items, λ i. record (wire_from_fields s tk q gt r) { to_server = (ap bytes_of_contents is ∙ map-append (λ v. v.items) q (c ∷ [])) i })
 
-  pub writes_sent : {X : Type 0} (q' : Contents) (content : Option (Vec ℕ Global)) (result : Result seen.Seen X) → IfOk result (λ shown. QueuesContent q content shown q') → OnOk result (QueuesAtMostOneContent (wire_from_fields s tk q gt r) (wire_from_fields s tk q' gt r))
+  pub writes_sent : {X : Type 0} (q' : Contents) (content : Option (Vec ℕ Global)) (result : Result seen.Seen X) → IfOk result (λ shown. AppendsContentToQueue q content shown q') → OnOk result (AppendsAtMostOneContent (wire_from_fields s tk q gt r) (wire_from_fields s tk q' gt r))
   writes_sent q' content (Err x) sent = tt
-  writes_sent q' None (Ok shown) sent = subst (λ x. QueuesAtMostOneContent (wire_from_fields s tk q gt r) (wire_from_fields s tk x gt r)) (sym sent.1) writes_none
+  writes_sent q' None (Ok shown) sent = subst (λ x. AppendsAtMostOneContent (wire_from_fields s tk q gt r) (wire_from_fields s tk x gt r)) (sym sent.1) writes_none
   writes_sent q' (Some c) (Ok shown) sent = writes_one q' c sent.1
 
 pub taken_sound : (requested : List SentAsk) (q r rest : Contents) (s : ServerState) (c : Vec ℕ Global) → r ≡ c ∷ rest → ConnectionInvariant requested q r s → ConnectionInvariant requested q rest s

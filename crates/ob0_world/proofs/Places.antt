@@ -1,4 +1,5 @@
--- Proves that positions in order have offsets in order: if p isn't after q, neither is its offset.
+-- Proves that offsets have the order of their positions: if p isn't after q, the offset of p is at
+-- most the offset of q.
 use Rattle.std.proofs.Common.{◌≡◌, ◌∙◌, ℕ, zero, suc, ◌+◌, ◌-◌, ◌<◌, ◌≤◌, Bool, true, false, List, [], ◌∷◌, ◌++◌, length, take, refl, sym, ap, arith, inl, inr, cond, append_assoc}
 use Rattle.std.specs.Prelude.{◌⊎◌, min, nat_le, encode_utf8_all}
 use Rattle.std.proofs.lemmas.Str.{encodes-append}

@@ -13,8 +13,8 @@ use Rattle.ob0_world_editor.specs.declared.applied_edits.Applied as applied
 use Rattle.ob0_world_editor.proofs.Hearing.{says_heard}
 use Rattle.ob0_world_rules.specs.ClientAndServer.{SentAsk, Editor, MessageToServer, MessageToEditor, PublicationWithText, ClientAndServer}
 use Rattle.ob0_world_rules.specs.Events.{serve, ServerTakesFirstMessage}
-use Rattle.ob0_world.specs.Seen as seen
-use Rattle.ob0_world.specs.Seen.{report_on_serve, EventLeadsToWithReport}
+use Rattle.ob0_world.specs.EventReport as seen
+use Rattle.ob0_world.specs.EventReport.{report_on_serve, EventLeadsToWithReport}
 use Rattle.ob0_world.specs.declared.play_results.Made as made
 use Rattle.ob0_world.specs.ModelValues.{model_publication_of}
 use Rattle.ob0_world.specs.Queues.{Contents, bytes_of_contents, messages_to_server_in_contents, messages_to_editor_in_contents, MeansMessageToServer, MeansMessageToEditor, ConnectionInvariant, RunsWithModelEditor, RunsWithModelEditorOrFailed, model_from_fields, wire_from_fields, publication_in_first_message, publication_in_message, publication_in_first_content}

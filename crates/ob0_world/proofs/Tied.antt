@@ -1,4 +1,4 @@
--- Proves that the waiting contents are the messages in the model's queues.
+-- Proves that the waiting contents are the messages that wait in the model.
 use Rattle.std.proofs.Common.{◌≡◌, ◌∙◌, List, [], ◌∷◌, Some, refl, sym, ap, subst}
 use Rattle.std.specs.Prelude.{All, map}
 use Rattle.std.proofs.lemmas.List.Elements.{All-head, All-tail}

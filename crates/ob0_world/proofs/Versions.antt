@@ -1,6 +1,6 @@
--- Proves that an answer with edits mentions the document that was asked about. When the server takes a request, its
--- document has the version that the editor had when it sent the request (`AsksHeld`). A session writes the version that
--- it has.
+-- Proves that an answer with edits mentions the document that was asked about. When the server
+-- takes a request, its document has the version that the editor's document had when the request was
+-- sent (`AsksHeld`). The session writes this version into the answer.
 use Rattle.std.proofs.Common.{◌≡◌, ◌∙◌, ℕ, suc, Bool, true, false, cond, List, [], ◌∷◌, ◌++◌, length, append-nil, refl, sym, ap, subst, inl, inr, ◌+◌, ◌&&◌}
 use Rattle.std.specs.Prelude.{◌⊎◌, ⊤, ℤ, pos, negsuc, Vec, All, Option, Some, None, is_some, fold, option_map, option_and_then, codes, Ok, ◌==◌}
 use Rattle.std.specs.declared.alloc.Global.{Global}
@@ -27,7 +27,7 @@ use Rattle.ob0_session_answers.specs.FormattingAnswers.{AnswersFormattingRequest
 use Rattle.ob0_session_answers.specs.RenamingAnswers.{VersionedRenameRequest, AnswersRenameRequest}
 use Rattle.ob0_session_json.specs.JsonShapes.{document_edit_value, edit_list_value, workspace_edit_value, publication}
 use Rattle.ob0_session_server.specs.Answers as answers_of
-use Rattle.ob0_session_server.specs.Answers.{ServerState, Reply, AreContentsOfReply, SendsMessage, Reaction, state_after_initialize, react_to_message, apply_notification, react_to_notification, react_to_allowed_request, react_to_parsed_request, react_to_document_request, formatting_reply, rename_reply, actions_reply, publication_reply, Answers, AnswersInPhase, AnswersBeforeSessionEnd, fixed_reply}
+use Rattle.ob0_session_server.specs.Answers.{ServerState, Reply, AreContentsOfReply, SendsMessage, Reaction, state_after_initialize, react_to_message, apply_notification, react_to_notification, react_to_allowed_request, react_to_parsed_request, react_to_document_request, formatting_reply, rename_reply, actions_reply, publication_reply, Answers, AnswersInPhase, AnswersInActivePhase, fixed_reply}
 use Rattle.ob0_session_server.specs.ClientUnits.{unit_for_client}
 use Rattle.ob0_world_editor.specs.InitializeRequest.{client_features_for_unit}
 use Rattle.ob0_world_editor.specs.MessagesToServer.{IsMessageToServer, SentRequestAsksForEdits, notification_for_event, client_request_for_ask, request_number_from_id}
@@ -37,7 +37,7 @@ use Rattle.ob0_world_rules.specs.Answers.{InliningKind, OneUse, Everywhere}
 use Rattle.ob0_world_rules.specs.Asks.{Ask, rename, inline_here, inline_all, format, clamped_indent}
 use Rattle.ob0_world_rules.specs.TextEdits.{text_after_edits, whole_text_change}
 use Rattle.ob0_world_rules.specs.EditorActs.{EditorAct, ActResult, next_version, is_same_version, act_result, result_of_changing_text, document_if_unchanged_since_ask}
-use Rattle.ob0_world_rules.specs.ClientAndServer.{OpenDocument, SentAsk, sent_ask_with_number, editor_document_with_uri, MessageToServer, notifies, requests, MessageToEditor, publishes, answers, ClientAndServer, start, documents_after_message}
+use Rattle.ob0_world_rules.specs.ClientAndServer.{OpenDocument, SentAsk, sent_ask_with_number, editor_document_with_uri, MessageToServer, notifies, requests, MessageToEditor, publishes, answers, ClientAndServer, initial_client_and_server, documents_after_message}
 use Rattle.ob0_world_rules.specs.Events.{Event, editor_acts, serve, take_message, state_after_editor_takes_message, ServerTakesFirstMessage}
 use Rattle.ob0_world_rules.specs.MirroredDocuments.{in_step_document, ServerWillMirrorEditor}
 use Rattle.ob0_world_rules.proofs.PerformsAct.{of_each}
@@ -270,7 +270,7 @@ module _ (requested : List SentAsk) (k : ℕ) (uri : List ℕ) (sent : List (Lis
 -- `ContentMentionsAskedDocument` holds of the replies to each message.
 content_names : (requested : List SentAsk) (m : MessageToServer) (before after : ServerState) (content : List ℕ) (sent : List (List ℕ)) → RunsWithModelEditor before → IsMessageToServer requested m content → Answers before content sent after → AsksHeld requested before.held (m ∷ []) → All (ContentMentionsAskedDocument requested) sent
 content_names requested (notifies note) before after content sent running is h meets =
-    let going : AnswersBeforeSessionEnd before content sent after = subst (λ phase. AnswersInPhase phase before content sent after) running.0 h in
+    let going : AnswersInActivePhase before content sent after = subst (λ phase. AnswersInPhase phase before content sent after) running.0 h in
     let answer = reacts_so before after content sent is.json going is.reads in
     let so : react_to_message before (meaning_of_message is.json) ≡ apply_notification before (notification_for_event note) =
     ap (react_to_message before) is.means ∙ ap (λ phase. react_to_notification phase before is.method is.params) running.0 ∙ ap (apply_notification before) is.reported in
@@ -370,14 +370,14 @@ begin_known unit begin b = subst Known (λ i. record { model = sym b.model i; wi
   where
     this : Connection
     this = record {
-      model = start unit;
+      model = initial_client_and_server unit;
       wire = record { session = state_after_initialize (client_features_for_unit unit); taken = b.content ∷ []; to_server = []; got = b.replies; to_editor = [] };
     }
 
     first : Known this
     first = record {
       reached = reached_start unit;
-      tied = record { says = tt; means = refl; documents = ap (λ u. (start u).held) (unit_back unit) };
+      tied = record { says = tt; means = refl; documents = ap (λ u. (initial_client_and_server u).held) (unit_back unit) };
       running = (refl, refl, refl);
       asks = tt;
       named = All-nil (ContentMentionsAskedDocument []);

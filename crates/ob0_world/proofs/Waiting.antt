@@ -12,7 +12,7 @@ use Rattle.serde_json.specs.Data.{Data}
 use Rattle.serde_json.specs.Find.{get}
 use Rattle.serde_json.specs.Read.{read}
 use Rattle.ob0_world_editor.specs.MessagesToServer.{message_to_server_in_content, IsMessageToServer, request_number_from_id}
-use Rattle.ob0_world_editor.specs.MessagesToEditor.{message_to_editor_in_content, publication_of_notification, answer_of_response, message_to_editor_of_value, message_to_editor_by_id_conversion, answer_to_ask, edits_in_answer}
+use Rattle.ob0_world_editor.specs.MessagesToEditor.{message_to_editor_in_content, publication_of_notification, answer_of_response, message_to_editor_of_value, message_to_editor_given_numbering, answer_to_ask, edits_in_answer}
 use Rattle.ob0_world_editor.proofs.Hearing.{says_heard}
 use Rattle.ob0_world_rules.specs.ClientAndServer.{SentAsk, sent_ask_with_number, MessageToServer, notifies, requests, MessageToEditor, answers}
 use Rattle.ob0_world_rules.proofs.Asked.{numbered_push}
@@ -40,8 +40,8 @@ module _ (f g : Data → Option ℕ) (requested more : List SentAsk) (grows : (d
   value_still d true m h = h
   value_still d false m h = answer_still d (get (codes "id") d) m h
 
-  pub read_still : (content : List ℕ) (m : MessageToEditor) → message_to_editor_by_id_conversion f requested content ≡ Some m → message_to_editor_by_id_conversion g (requested ++ more) content ≡ Some m
-  unfolding message_to_editor_by_id_conversion
+  pub read_still : (content : List ℕ) (m : MessageToEditor) → message_to_editor_given_numbering f requested content ≡ Some m → message_to_editor_given_numbering g (requested ++ more) content ≡ Some m
+  unfolding message_to_editor_given_numbering
   read_still content m h = go (is_utf8 content) (read content) h
     where
       go : (b : Bool) (o : Option Data) → cond b (option_and_then (message_to_editor_of_value f requested) o) None ≡ Some m → cond b (option_and_then (message_to_editor_of_value g (requested ++ more)) o) None ≡ Some m

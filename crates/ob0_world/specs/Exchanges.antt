@@ -1,8 +1,8 @@
 -- Defines the exchanges between a session and an editor that keeps ob0's rules, and states the
--- guarantees for them. An exchange is like a state of the model (`EditorAndServer`), with a session
--- instead of the model's server and contents instead of messages. A content is the bytes of one
--- message. The session may be any that the protocol (`Answers`) allows. An ask is a request whose
--- answer the editor may apply: a rename, an inlining or a formatting.
+-- guarantees for exchanges. An exchange is like a state of the model (`EditorAndServer`), with a
+-- session instead of the model's server and contents instead of messages. A content is the bytes of
+-- one message. The session may be any session that the protocol (`Answers`) allows. An ask is a
+-- request for edits, which the editor may apply: a rename, an inlining or a formatting.
 use Rattle.std.specs.Prelude.{◌≡◌, ◌⊎◌, ◌<◌, ◌≤◌, ◌==◌, map, filter_map, ⊤, ℕ, ℤ, List, [], ◌∷◌, ◌++◌, All, fold, Bool, true, false, Option, Some, None, MatchOption, option_map, option_and_then, Result, Ok, Err, if◌then◌else◌, codes}
 use Rattle.std.specs.Str.{bytes_eq}
 use Rattle.serde_json.specs.Data.{Data, null, boolean, number, string, array, object, unsigned, negative, float}
@@ -23,9 +23,9 @@ use Rattle.ob0_session_server.specs.Answers.{ServerState, state_after_initialize
 use Rattle.ob0_session_server.specs.declared.session.Phase.TheVariants.{Ended}
 use Rattle.ob0_session_server.specs.ClientUnits.{unit_for_client}
 use Rattle.ob0_world_editor.specs.MessagesToServer.{message_to_server_in_content, IsNotificationOfEvent, IsRequestWithId, SentRequestAsksForEdits}
-use Rattle.ob0_world_editor.specs.MessagesToEditor.{message_to_editor_in_content, message_to_editor_by_id_conversion}
+use Rattle.ob0_world_editor.specs.MessagesToEditor.{message_to_editor_in_content, message_to_editor_given_numbering}
 use Rattle.ob0_world_rules.specs.Asks.{Ask, rename, inline_here, inline_all, format}
-use Rattle.ob0_world_rules.specs.ClientAndServer.{OpenDocument, SentAsk, Editor, new_editor, editor_document_with_uri, MessageToServer, notifies, requests, MessageToEditor, publishes, answers, Applied, documents_after_message}
+use Rattle.ob0_world_rules.specs.ClientAndServer.{OpenDocument, SentAsk, Editor, new_editor, editor_document_with_uri, MessageToServer, notifies, requests, MessageToEditor, publishes, answers, AppliedEdit, documents_after_message}
 use Rattle.ob0_world_rules.specs.EditorActs.{ActResult, editor_after_message}
 use Rattle.ob0_world_rules.specs.EditorMoves.{IsAllowedMove}
 use Rattle.ob0_world_rules.specs.EveryEditor.{EditorAndServer, initial_editor_and_server, ExchangeTurn, editor_moves, editor_sends_unmodeled_message, server_takes_message, editor_takes_message, IsCourseOfTurns, GuaranteesHoldForEditorAndServer}
@@ -106,25 +106,25 @@ IsNonAskId ids (Some id) = ask_number_of_request_id ids id ≡ Some None
 
 -- ---- an editor and a session
 
--- An editor and a session with the contents of the messages between them. `ids` are the ids of the
--- requests that the editor sent. `announced` are the documents that it announced to the session.
--- `applied` are the edits that it applied.
+-- An editor and a session, with the contents of the messages between them. `ids` lists the ids of
+-- the requests that the editor sent. `announced` lists the documents that the editor announced to
+-- the session, and `applied` lists the edits that it applied.
 pub record Exchange : Type 0 where
   pub editor : Editor
   pub ids : List SentRequestId
   pub wire : Wire
   pub announced : List AnnouncedDocument
-  pub applied : List Applied
+  pub applied : List AppliedEdit
 
--- States that no turn has been made in `x`: a client that counts positions in `unit` has
--- initialized the session. No document is open and no content waits. The list of ids is empty, so
--- the ids of the initialization may be used again.
+-- States that neither the editor nor the session has made a step in `x` since a client that counts
+-- positions in `unit` initialized the session. No document is open and no content waits. The list
+-- of ids is empty, so the ids of the initialization may be used again.
 pub record IsInitialExchange (unit : Unit) (x : Exchange) : Type 0 where
   pub client : ClientFeatures
   pub counts : unit_for_client client ≡ unit
   pub taken : List (List ℕ)
   pub got : List (List ℕ)
-  pub initialized : IsConversation server.start taken got (state_after_initialize client)
+  pub initialized : IsConversation server.initial_server_state taken got (state_after_initialize client)
   pub is : x
       ≡ record {
         editor = new_editor unit;
@@ -157,10 +157,10 @@ IsReadOnlyRequest (Ok (asked.code_action uri range only)) = ⊤
 IsReadOnlyRequest (Ok (asked.formatting uri indent)) = ⊤
 IsReadOnlyRequest (Err fault) = ⊤
 
--- States that the message is outside the model. It opens, changes and closes no document, and
--- requests no edits that the editor applies. It may be a response, JSON that isn't a message, or a
--- notification that the server ignores. It may also be a request that changes nothing in the
--- session, unless it has the id of a request for edits.
+-- States that the message is outside the model: a response, JSON that isn't a message, a
+-- notification that the server ignores, or a request that changes nothing in the session. A request
+-- must have a method other than `initialize`, and its id mustn't be the id of a request for edits
+-- (`IsNonAskId`).
 abbrev pub IsUnmodeledMessage : List SentRequestId → MessageMeaning → Type 0
 IsUnmodeledMessage ids not_json = ⊥
 IsUnmodeledMessage ids not_a_message = ⊤
@@ -210,17 +210,17 @@ IsRequestForAsk id uri (inline_all position) content = IsCodeActionRequest id ur
 IsRequestForAsk id uri (format indent) content = IsRequestWithId id uri (format indent) content
 
 -- states that the client accepts literal code actions, which contain their edits
-abbrev pub AcceptsLiteralActions : ClientFeatures → Type 0
-AcceptsLiteralActions client = client.accepts_literal_actions ≡ true
+abbrev pub ClientAcceptsLiteralActions : ClientFeatures → Type 0
+ClientAcceptsLiteralActions client = client.accepts_literal_actions ≡ true
 
 -- States that the client accepts the edits that answer this ask (request for edits). For an
--- inlining, it must accept literal code actions (`AcceptsLiteralActions`). For any other ask there
+-- inlining, it must accept literal code actions (`ClientAcceptsLiteralActions`). For any other ask there
 -- is no condition.
-abbrev pub AcceptsEditsForAsk : ClientFeatures → Ask → Type 0
-AcceptsEditsForAsk client (rename position name) = ⊤
-AcceptsEditsForAsk client (inline_here position) = AcceptsLiteralActions client
-AcceptsEditsForAsk client (inline_all position) = AcceptsLiteralActions client
-AcceptsEditsForAsk client (format indent) = ⊤
+abbrev pub ClientAcceptsEditsForAsk : ClientFeatures → Ask → Type 0
+ClientAcceptsEditsForAsk client (rename position name) = ⊤
+ClientAcceptsEditsForAsk client (inline_here position) = ClientAcceptsLiteralActions client
+ClientAcceptsEditsForAsk client (inline_all position) = ClientAcceptsLiteralActions client
+ClientAcceptsEditsForAsk client (format indent) = ⊤
 
 -- states that the sent request with number `k` asks for these edits (`ask`) of the document with
 -- this uri, and that it has this id
@@ -230,7 +230,7 @@ pub record IsAskWithId (ids : List SentRequestId) (requested : List SentAsk) (id
   pub is : SentRequestAsksForEdits requested k uri ask
 
 -- States that the content is this message, sent to a session whose client has these features. If
--- the message is a request for edits, the client must accept the edits (`AcceptsEditsForAsk`).
+-- the message is a request for edits, the client must accept the edits (`ClientAcceptsEditsForAsk`).
 abbrev pub IsMessageToSession : ClientFeatures
     → List SentRequestId
     → List SentAsk
@@ -242,7 +242,7 @@ IsMessageToSession client ids requested (requests k uri ask) content =
     (id : Data)
     × IsRequestForAsk id uri ask content
     × IsAskWithId ids requested id k uri ask
-    × AcceptsEditsForAsk client ask
+    × ClientAcceptsEditsForAsk client ask
 
 -- States that there are as many contents as messages, and that the n-th content is the n-th
 -- message. If the n-th message is None, the n-th content is a message outside the model.
@@ -265,9 +265,9 @@ AreMessagesToSession client ids requested (None ∷ messages) [] = ⊥
 -- ---- turns, and the exchanges to which they lead
 
 -- Returns the message that the editor reads in a content, or None if the content isn't a message to
--- the editor. The ids of the sent requests (`ids`) decide which request is answered.
-abbrev pub message_to_editor_by_request_ids : List SentRequestId → List SentAsk → List ℕ → Option MessageToEditor
-message_to_editor_by_request_ids ids requested content = message_to_editor_by_id_conversion (ask_number_of_json_id ids) requested content
+-- the editor. `ids` maps the id in an answer to the number of the request that it answers.
+abbrev pub message_to_editor_given_ids : List SentRequestId → List SentAsk → List ℕ → Option MessageToEditor
+message_to_editor_given_ids ids requested content = message_to_editor_given_numbering (ask_number_of_json_id ids) requested content
 
 -- Returns the editor after it has read this message, or the unchanged editor for None (no message).
 -- The editor stores each answer that has edits, and nothing else.
@@ -275,14 +275,14 @@ abbrev pub editor_after_optional_message : Editor → Option MessageToEditor →
 editor_after_optional_message e None = e
 editor_after_optional_message e (Some message) = editor_after_message e message
 
--- States that the editor takes the first waiting content, and reads the message in it if there is
+-- States that the editor takes the first waiting content, and reads the content's message if it has
 -- one. If no content waits for the editor, nothing changes.
 abbrev pub EditorReadsFirstContent : List (List ℕ) → Exchange → Exchange → Type 0
 EditorReadsFirstContent [] old new = new ≡ old
 EditorReadsFirstContent (content ∷ rest) old new =
     new
     ≡ record old {
-      editor = editor_after_optional_message old.editor (message_to_editor_by_request_ids old.ids old.editor.requested content);
+      editor = editor_after_optional_message old.editor (message_to_editor_given_ids old.ids old.editor.requested content);
       wire = record old.wire { got = old.wire.got ++ content ∷ []; to_editor = rest };
     }
 
@@ -337,7 +337,7 @@ IsExchangeCourse old (turn ∷ turns) new =
 abbrev pub NeverMeansMessageToEditor : List SentRequestId → List ℕ → Type 0
 NeverMeansMessageToEditor ids content =
     (later : List SentRequestId) (requested : List SentAsk)
-    → message_to_editor_by_request_ids (ids ++ later) requested content ≡ None
+    → message_to_editor_given_ids (ids ++ later) requested content ≡ None
 
 -- States that there are as many contents as messages, and that the editor reads the n-th message in
 -- the n-th content. If the n-th message is None, the editor never reads a message in the n-th
@@ -349,7 +349,7 @@ abbrev pub AreMessagesToEditor : List SentRequestId
     → Type 0
 AreMessagesToEditor ids requested [] [] = ⊤
 AreMessagesToEditor ids requested (Some m ∷ messages) (content ∷ contents) =
-    (message_to_editor_by_request_ids ids requested content ≡ Some m) × AreMessagesToEditor ids requested messages contents
+    (message_to_editor_given_ids ids requested content ≡ Some m) × AreMessagesToEditor ids requested messages contents
 AreMessagesToEditor ids requested (None ∷ messages) (content ∷ contents) =
     NeverMeansMessageToEditor ids content × AreMessagesToEditor ids requested messages contents
 AreMessagesToEditor ids requested [] (content ∷ contents) = ⊥
@@ -357,9 +357,9 @@ AreMessagesToEditor ids requested (Some m ∷ messages) [] = ⊥
 AreMessagesToEditor ids requested (None ∷ messages) [] = ⊥
 
 -- States that these turns may lead the model (`EditorAndServer`) to a state that matches the
--- exchange `x`. Both have the same editor, and the session has the documents of the model's server.
--- The waiting contents are the messages that wait in the model. So the model's guarantees hold for
--- the exchange (`GuaranteesHoldForEditorAndServer`).
+-- exchange `x`. The state and the exchange have the same editor, and the session has the documents
+-- of the model's server. The waiting contents are the messages that wait in the model. The
+-- guarantees (`GuaranteesHoldForEditorAndServer`) hold for this state.
 pub record FollowsModel (unit : Unit) (turns : List ExchangeTurn) (x : Exchange) : Type 0 where
   pub model : EditorAndServer
   pub leads : IsCourseOfTurns (initial_editor_and_server unit) turns model
@@ -372,7 +372,7 @@ pub record FollowsModel (unit : Unit) (turns : List ExchangeTurn) (x : Exchange)
   pub means : AreMessagesToEditor x.ids x.editor.requested model.to_editor x.wire.to_editor
   pub holds : GuaranteesHoldForEditorAndServer model
   -- the session has taken and sent these contents in one conversation, from the session's start
-  pub conversation : IsConversation server.start x.wire.taken (x.wire.got ++ x.wire.to_editor)
+  pub conversation : IsConversation server.initial_server_state x.wire.taken (x.wire.got ++ x.wire.to_editor)
       x.wire.session
 
 -- states that every exchange of a session and an editor that keeps ob0's rules follows the model
@@ -460,17 +460,17 @@ notifications_in_contents contents = filter_map (message_to_server_in_content []
 pub record GuaranteesHoldForExchange (begin now : Exchange) : Type 0 where
   -- each edit that the editor applied keeps the module's run
   pub applied : All PreservesRun now.applied
-  -- `since` are the contents that the session has sent after `begin`. The n-th list of diagnostics
-  -- with a version in `since` is correct for the n-th document in `published_documents`. The
-  -- announced documents begin with this list.
+  -- `since` lists the contents that the session has sent after `begin`. The n-th list of
+  -- diagnostics with a version in `since` is correct for the n-th document in
+  -- `published_documents`. The announced documents are `published_documents`, followed by
+  -- `unpublished_documents`.
   pub since : List (List ℕ)
   pub sent : now.wire.got ++ now.wire.to_editor ≡ begin.wire.got ++ since
   pub published_documents : List AnnouncedDocument
   pub unpublished_documents : List AnnouncedDocument
   pub announced : now.announced ≡ published_documents ++ unpublished_documents
   pub right : AreCorrectForDocuments (versioned_publications_in_contents since) published_documents
-  -- the documents in `unpublished_documents` are announced by contents that still wait for the
-  -- session
+  -- the `unpublished_documents` are announced by contents that still wait for the session
   pub unpublished_are_queued : map uri_and_version_of unpublished_documents ≡ uris_and_versions_announced_in_queue (notifications_in_contents now.wire.to_server)
   -- if no notification about a document waits for the session, the latest diagnostics of each open
   -- document are for its present version and text
@@ -478,12 +478,12 @@ pub record GuaranteesHoldForExchange (begin now : Exchange) : Type 0 where
       → editor_document_with_uri now.editor uri ≡ Some d
       → MatchOption (last_versioned_publication uri (versioned_publications_in_contents since)) ⊥
       (λ p. (p.version ≡ d.version) × NoDiagnosticsExactlyIfWellTyped d.text p.no_diagnostics)
-  -- once the session has taken the waiting contents, the session's documents are the editor's
+  -- once the session has taken the waiting contents, it has the editor's documents
   pub mirrors : (uri : List ℕ)
       → document_at (fold documents_after_message now.wire.session.held (notifications_in_contents now.wire.to_server)) uri
       ≡ option_map in_step_document (editor_document_with_uri now.editor uri)
   -- the session has taken and sent these contents in one conversation, from the session's start
-  pub conversation : IsConversation server.start now.wire.taken
+  pub conversation : IsConversation server.initial_server_state now.wire.taken
       (now.wire.got ++ now.wire.to_editor) now.wire.session
   -- if the session next takes `shutdown` and `exit`, it ends with status 0
   pub ends : (id : Data) (shutdown exit : List ℕ) → IsShutdownRequest id shutdown → IsExitNotification exit
@@ -500,7 +500,7 @@ GuaranteesHoldForEveryExchange =
     → IsExchangeCourse begin turns now
     → GuaranteesHoldForExchange begin now
 
--- ---- the law that each list of events that `play` plays is an exchange
+-- ---- the law that each list of events that `play` performs is an exchange
 
 -- States that each list of events of the model's editor and a session (`IsConnectionCourse`) is
 -- also an exchange of an editor that keeps ob0's rules. So each guarantee for exchanges also holds

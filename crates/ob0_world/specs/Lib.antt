@@ -1,6 +1,6 @@
 pub mod ModelValues
 pub mod Queues
-pub mod Seen
+pub mod EventReport
 pub mod Versions
 pub mod Worlds
 pub mod Exchanges

@@ -9,7 +9,7 @@ use Rattle.ob0_world_editor.specs.ModelValues.{model_ask_of, model_applied_edit_
 use Rattle.ob0_world.specs.declared.events.Event as event
 use Rattle.ob0_world.specs.declared.play_results.Made as made
 use Rattle.ob0_world.specs.declared.play_results.Played as played
-use Rattle.ob0_world_rules.specs.ClientAndServer.{Applied, PublicationWithText}
+use Rattle.ob0_world_rules.specs.ClientAndServer.{AppliedEdit, PublicationWithText}
 use Rattle.ob0_world_rules.specs.EditorActs.{open_document, change_document, close_document, request_edits, apply, discard}
 use Rattle.ob0_world_rules.specs.Events.{Event, editor_acts, serve, take_message}
 
@@ -36,12 +36,12 @@ model_publication_of m =
       no_diagnostics = m.empty;
     }
 
--- returns the list of bytes of each content, in order; a content is the bytes of one message
+-- returns these contents as lists of bytes, in order; a content is the bytes of one message
 abbrev pub bytes_of_contents : List (Vec ℕ Global) → List (List ℕ)
 bytes_of_contents contents = map (λ v. v.items) contents
 
--- returns the applied edits in `p`, the result of `play`, as values of the model's type `Applied`
-abbrev pub played_edits : played.Played → List Applied
+-- returns the applied edits in `p`, the result of `play`, as values of the model's type `AppliedEdit`
+abbrev pub played_edits : played.Played → List AppliedEdit
 played_edits p = map model_applied_edit_of p.applied.items
 
 -- returns the publications in `p`, the result of `play`, as values of the model's type

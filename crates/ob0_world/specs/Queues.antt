@@ -3,8 +3,8 @@
 -- functions' contracts. No contract of a public function mentions these definitions. A connection
 -- stores each queue as a list of contents. A content is the bytes of one message. The messages of
 -- the model are read from these contents (`messages_to_server_in_contents`,
--- `messages_to_editor_in_contents`). By the invariant, each queued content is a message of the
--- model. It is still the same message after the editor has sent more requests (`proofs/Waiting`).
+-- `messages_to_editor_in_contents`). By the invariant, each waiting content is a message of the
+-- model. This message doesn't change when the editor sends more requests (`proofs/Waiting`).
 -- `RunsWithModelEditor` states that the session's client has two features of the model's editor. So
 -- the session writes each WorkspaceEdit with the member `documentChanges`.
 use Rattle.std.specs.Prelude.{◌≡◌, ◌≤◌, ◌⊎◌, ℕ, ℤ, List, [], ◌∷◌, ◌++◌, map, length, All, Bool, true, Option, Some, None, Vec, option_and_then, filter_map}
@@ -17,14 +17,14 @@ use Rattle.ob0_world_editor.specs.MessagesToServer.{message_to_server_in_content
 use Rattle.ob0_world_editor.specs.MessagesToEditor.{message_to_editor_in_content}
 use Rattle.ob0_world_editor.specs.ModelValues.{model_applied_edit_of}
 use Rattle.ob0_world_editor.specs.declared.applied_edits.Applied as applied
-use Rattle.ob0_world_rules.specs.ClientAndServer.{OpenDocument, SentAsk, Editor, editor_document_with_uri, MessageToServer, MessageToEditor, publishes, answers, PublicationWithText, ClientAndServer, start}
+use Rattle.ob0_world_rules.specs.ClientAndServer.{OpenDocument, SentAsk, Editor, editor_document_with_uri, MessageToServer, MessageToEditor, publishes, answers, PublicationWithText, ClientAndServer, initial_client_and_server}
 use Rattle.ob0_world_rules.specs.EditorActs.{version_as_natural}
 use Rattle.ob0_world_rules.specs.Events.{Event, IsCourse}
 use Rattle.ob0_world.specs.declared.events.Seen as seen
 use Rattle.ob0_world.specs.declared.play_results.Made as made
 pub use Rattle.ob0_world.specs.ModelValues.{bytes_of_contents}
 use Rattle.ob0_world.specs.ModelValues.{model_publication_of}
-use Rattle.ob0_world.specs.Seen.{nothing, sent, model_report_of}
+use Rattle.ob0_world.specs.EventReport.{nothing, sent, model_report_of}
 use Rattle.ob0_world.specs.Worlds.{Wire, Connection}
 
 -- a list of contents, for example a queue; a content is the bytes of one message
@@ -92,7 +92,7 @@ abbrev pub publication_in_first_message : OpenDocuments → List MessageToEditor
 publication_in_first_message held [] = None
 publication_in_first_message held (m ∷ ms) = publication_in_message held m
 
--- ---- the model's state for the parts that the code stores
+-- ---- the model's state for the fields of the code's connection
 
 -- States that each waiting content is a message to its receiver. The session has failed, or it runs
 -- with a client like the model's editor (`RunsWithModelEditor`).
@@ -151,21 +151,22 @@ connection_from_fields e to_server session to_editor applied made taken got =
 
 -- ---- the invariant of a world: bounds on the editor's counters, and a reachable state
 
--- States that three numbers are at most `n`. They are the number of the editor's openings of
--- documents, the number of its sent requests for edits, and each open document's version.
+-- States that three numbers are at most `n`: how often the editor has opened a document, how many
+-- requests for edits it has sent, and each open document's version.
 pub record CountsAreAtMost (n : ℕ) (e : Editor) : Type 0 where
   pub openings : e.openings ≤ n
   pub asks : length e.requested ≤ n
   pub versions : (uri : List ℕ) (d : OpenDocument) → editor_document_with_uri e uri ≡ Some d → version_as_natural d.version ≤ n
 
--- states that some list of events leads from the initial state (`start`) to this state
+-- states that some list of events leads from the initial state (`initial_client_and_server`) to this state
 abbrev pub IsReachable : ClientAndServer → Type 0
-IsReachable w = (unit : Unit) × (events : List Event) × IsCourse (start unit) events w
+IsReachable w = (unit : Unit) × (events : List Event) × IsCourse (initial_client_and_server unit) events w
 
 -- ---- clauses of the functions that serve, send and take a content
 
--- Returns the publication that `publication_in_message` finds in the first content. Returns None if
--- there is no content, or no such publication in the first content.
+-- Returns the publication in the first content (`publication_in_message`). Returns None if there is
+-- no content, if the first content isn't a message to the editor, or if `publication_in_message`
+-- gives None.
 abbrev pub publication_in_first_content : OpenDocuments → List SentAsk → Contents → Option PublicationWithText
 publication_in_first_content held requested [] = None
 publication_in_first_content held requested (content ∷ contents) =
@@ -174,9 +175,9 @@ publication_in_first_content held requested (content ∷ contents) =
 -- States that the queue `new` is the queue `old` with this content appended, and that the report
 -- `seen` is `sent`. If there is no content (None), the queue is unchanged and the report is
 -- `nothing`.
-abbrev pub QueuesContent : Contents → Option (Vec ℕ Global) → seen.Seen → Contents → Type 0
-QueuesContent old None seen new = (model_report_of seen ≡ nothing) × (new ≡ old)
-QueuesContent old (Some content) seen new = (model_report_of seen ≡ sent) × (new ≡ old ++ content ∷ [])
+abbrev pub AppendsContentToQueue : Contents → Option (Vec ℕ Global) → seen.Seen → Contents → Type 0
+AppendsContentToQueue old None seen new = (model_report_of seen ≡ nothing) × (new ≡ old)
+AppendsContentToQueue old (Some content) seen new = (model_report_of seen ≡ sent) × (new ≡ old ++ content ∷ [])
 
 -- States that the first waiting content was moved to the end of `got`, the contents that the editor
 -- has taken. If no content waits, nothing has changed. `waiting'` and `got'` are the waiting and

@@ -1,7 +1,7 @@
 -- Defines the versions that answers mention, and a client that compares versions. The model's
--- editor numbers each opening of a document, but LSP has no such number. Versions are enough for a
--- real client. The reason is that an answer mentions the document that was asked about, with its
--- version at the time of the request.
+-- editor numbers each opening of a document, but LSP has no opening numbers. Versions are enough
+-- for a real client, because an answer mentions the document that was asked about, with its version
+-- at the time of the request.
 use Rattle.std.specs.Prelude.{◌≡◌, ◌⊎◌, ⊤, ℕ, ℤ, List, [], ◌∷◌, All, Bool, Option, Some, None, option_and_then, option_map, if◌then◌else◌, codes}
 use Rattle.serde_json.specs.Data.{Data}
 use Rattle.serde_json.specs.Find.{get, at, as_array, as_number, as_integer}
@@ -29,14 +29,14 @@ uri_and_version_in_identifier d =
     (text_member (codes "uri") d)
 
 -- Returns the uri and the version of the first document in the `documentChanges` of a
--- WorkspaceEdit. Returns None if there is no such document, or if its uri or version is missing.
+-- WorkspaceEdit. Returns None if there is no document, or if its uri or version is missing.
 abbrev pub uri_and_version_in_edit : Data → Option (List ℕ × ℤ)
 uri_and_version_in_edit edit =
     option_and_then uri_and_version_in_identifier (option_and_then (get (codes "textDocument"))
     (option_and_then (at 0) (get (codes "documentChanges") edit)))
 
--- Returns the WorkspaceEdit of the first action with this title in a list of code actions. Returns
--- None if there is no such action, or if the action has no edit.
+-- Returns the WorkspaceEdit of the first action with this title in a JSON list of code actions.
+-- Returns None if no action has this title, or if the action has no edit.
 abbrev pub edit_of_action_with_title : List ℕ → Data → Option Data
 edit_of_action_with_title title value =
     option_and_then (get (codes "edit")) (option_and_then (first_action_with_title title) (as_array value))
@@ -66,15 +66,16 @@ IsFormatting (inline_all position) = ⊥
 IsFormatting (format indent) = ⊤
 
 -- States that the answer mentions the request's document, with the version that the document had
--- when the request was sent. Two kinds of answers needn't mention it: an answer without edits, and
--- an answer to a formatting request.
+-- when the request was sent. Two kinds of answers needn't mention the document: answers without
+-- edits, and answers to formatting requests.
 abbrev pub MentionsAskedDocument : SentAsk → Data → Type 0
 MentionsAskedDocument a answer =
     (uri_and_version_in_answer a.ask answer ≡ Some (a.uri, a.version))
     ⊎ ((edits_in_answer a.uri a.ask answer ≡ []) ⊎ IsFormatting a.ask)
 
--- States that a content with a number as its id answers the request with this number, and mentions
--- that request's document (`MentionsAskedDocument`). Nothing is stated about any other content.
+-- States that the content, if it is a JSON value with a number as its id, answers the request with
+-- this number and mentions that request's document (`MentionsAskedDocument`). Nothing is stated
+-- about any other content.
 abbrev pub ContentMentionsAskedDocument : List SentAsk → List ℕ → Type 0
 ContentMentionsAskedDocument requested content =
     (answer : Data) (k : ℕ)
@@ -83,8 +84,8 @@ ContentMentionsAskedDocument requested content =
     → (a : SentAsk) × (sent_ask_with_number requested k ≡ Some a) × MentionsAskedDocument a answer
 
 -- States that after any list of events, `ContentMentionsAskedDocument` holds for each content that
--- waits for the editor. Each content that the editor has taken waited before, so it also holds for
--- the taken contents.
+-- waits for the editor. So each content mentioned the document while it waited, even if the editor
+-- has taken it since.
 abbrev pub AnswersMentionVersions : Type 0
 AnswersMentionVersions =
     (unit : Unit) (begin : Connection) (events : List Event) (now : Connection)
@@ -99,8 +100,8 @@ abbrev pub has_version : ℤ → OpenDocument → Bool
 has_version version d = is_same_version d.version version
 
 -- Returns the result of applying an answer's edits in a client that relies on the uri and the
--- version in the answer. The edits are made in the open document with this uri. Returns None if no
--- open document has this uri and this version, or if two edits share a character.
+-- version in the answer. The client makes the edits in the open document with this uri. Returns
+-- None if no open document has this uri and this version, or if two edits share a character.
 abbrev pub result_of_applying_by_version : Editor → List ℕ → ℤ → List Replacement → Option ActResult
 result_of_applying_by_version e uri version edits =
     option_and_then
@@ -115,9 +116,9 @@ result_of_applying_by_version e uri version edits =
 abbrev pub IsNotReopened : Editor → SentAsk → Type 0
 IsNotReopened e a = (d : OpenDocument) → editor_document_with_uri e a.uri ≡ Some d → d.opening ≡ a.opening
 
--- States that versions are enough to apply an answer's edits. A client that relies on the version
--- in the answer gets the same result as the model's editor. The condition is that the document
--- hasn't been opened again since the request.
+-- States that versions are enough to decide whether to apply an answer's edits. If the document
+-- hasn't been opened again since the request, a client that relies on the version in the answer
+-- gets the same result as the model's editor.
 abbrev pub VersionsSufficeToApplyAnswers : Type 0
 VersionsSufficeToApplyAnswers =
     (e : Editor) (k : ℕ) (a : SentAsk) (edits : List Replacement)

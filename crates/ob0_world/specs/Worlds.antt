@@ -10,11 +10,11 @@ use Rattle.ob0_session_server.specs.Answers.{ServerState, state_after_initialize
 use Rattle.ob0_world_editor.specs.InitializeRequest.{client_features_for_unit, initialize_message}
 use Rattle.ob0_world_editor.specs.MessagesToServer.{IsMessageToServer}
 use Rattle.ob0_world_editor.specs.MessagesToEditor.{message_to_editor_in_content}
-use Rattle.ob0_world_rules.specs.ClientAndServer.{SentAsk, MessageToServer, ClientAndServer, start}
+use Rattle.ob0_world_rules.specs.ClientAndServer.{SentAsk, MessageToServer, ClientAndServer, initial_client_and_server}
 use Rattle.ob0_world_rules.specs.Events.{Event, editor_acts, serve, take_message, EventLeadsTo}
 use Rattle.ob0_world_rules.specs.Headline.{GuaranteesHoldForEvents}
 use Rattle.ob0_world.specs.ModelValues.{model_event_of, bytes_of_contents, played_edits, played_publications}
-use Rattle.ob0_world.specs.Seen.{Seen, report_on_event}
+use Rattle.ob0_world.specs.EventReport.{EventReport, report_on_event}
 use Rattle.ob0_world.specs.declared.events.Event as event
 use Rattle.ob0_world.specs.declared.faults.PlayFault.{PlayFault}
 use Rattle.ob0_world.specs.declared.faults.WorldFault.{WorldFault}
@@ -26,12 +26,12 @@ use Rattle.ob0_world.specs.declared.play_results.Played as played
 -- the session that serves the editor, and the contents of all messages between the two
 pub record Wire : Type 0 where
   pub session : ServerState
-  -- the contents that the editor has sent: the session has taken those in `taken`, and those in
-  -- `to_server` still wait for the session
+  -- the contents that the editor has sent: the session has taken the contents in `taken`, and the
+  -- contents in `to_server` still wait for the session
   pub taken : List (List ℕ)
   pub to_server : List (List ℕ)
-  -- the contents that the session has sent: the editor has taken those in `got`, and those in
-  -- `to_editor` still wait for the editor
+  -- the contents that the session has sent: the editor has taken the contents in `got`, and the
+  -- contents in `to_editor` still wait for the editor
   pub got : List (List ℕ)
   pub to_editor : List (List ℕ)
 
@@ -47,8 +47,8 @@ pub record IsInitialConnection (unit : Unit) (w : Connection) : Type 0 where
   pub content : List ℕ
   pub replies : List (List ℕ)
   pub initializes : IsJsonOfContent content (Some (initialize_message unit))
-  pub answers : Answers server.start content replies (state_after_initialize (client_features_for_unit unit))
-  pub model : w.model ≡ start unit
+  pub answers : Answers server.initial_server_state content replies (state_after_initialize (client_features_for_unit unit))
+  pub model : w.model ≡ initial_client_and_server unit
   pub wire : w.wire
       ≡ record {
         session = state_after_initialize (client_features_for_unit unit);
@@ -81,17 +81,17 @@ EditorTakesFirstContent (content ∷ rest) old new =
 
 -- states that the editor appends at most one content to the queue to the session, and that nothing
 -- else changes
-abbrev pub QueuesAtMostOneContent : Wire → Wire → Type 0
-QueuesAtMostOneContent old new =
+abbrev pub AppendsAtMostOneContent : Wire → Wire → Type 0
+AppendsAtMostOneContent old new =
     (content : Option (List ℕ))
     × (new ≡ record old { to_server = old.to_server ++ option_to_list content })
 
 -- States that this event changes the session and the contents from `old` to `new`. Only the event
 -- `serve` changes the session. No waiting content is lost, changed or reordered.
-abbrev pub ChangesWire : Event → Wire → Wire → Type 0
-ChangesWire (editor_acts act) old new = QueuesAtMostOneContent old new
-ChangesWire serve old new = SessionTakesFirstContent old.to_server old new
-ChangesWire take_message old new = EditorTakesFirstContent old.to_editor old new
+abbrev pub EventChangesWire : Event → Wire → Wire → Type 0
+EventChangesWire (editor_acts act) old new = AppendsAtMostOneContent old new
+EventChangesWire serve old new = SessionTakesFirstContent old.to_server old new
+EventChangesWire take_message old new = EditorTakesFirstContent old.to_editor old new
 
 -- states that there are as many contents as messages, and that the n-th content is the n-th message
 -- to the server
@@ -111,11 +111,11 @@ pub record QueuesMatch (w : Connection) : Type 0 where
   pub documents : w.model.held ≡ w.wire.session.held
 
 -- States that this event leads from the connection `old` to `new`, both in the model
--- (`EventLeadsTo`) and for the session and the contents (`ChangesWire`). After the event, the
+-- (`EventLeadsTo`) and for the session and the contents (`EventChangesWire`). After the event, the
 -- waiting contents are the messages that wait in the model (`QueuesMatch`).
 pub record ConnectionSteps (old : Connection) (event : Event) (new : Connection) : Type 0 where
   pub happens : EventLeadsTo old.model event new.model
-  pub moves : ChangesWire event old.wire new.wire
+  pub moves : EventChangesWire event old.wire new.wire
   pub tied : QueuesMatch new
 
 -- states that these events, one after another, lead from the connection `old` to the connection
@@ -145,7 +145,7 @@ ContentsMatchWire w p =
 -- has these results and contents. The contents in `p` are a session's conversation, from the
 -- session's start.
 pub record IsResultOfPlaying (unit : Unit) (events : List event.Event) (p : played.Played) : Type 0 where
-  pub headline : GuaranteesHoldForEvents unit (map model_event_of events) (played_edits p) (played_publications p)
+  pub guarantees : GuaranteesHoldForEvents unit (map model_event_of events) (played_edits p) (played_publications p)
   pub begin : Connection
   pub begins : IsInitialConnection unit begin
   pub end : Connection
@@ -153,21 +153,21 @@ pub record IsResultOfPlaying (unit : Unit) (events : List event.Event) (p : play
   pub results_match : ResultsMatchModel end.model p
   pub contents_match : ContentsMatchWire end.wire p
   pub after : ServerState
-  pub conversation : IsConversation server.start (bytes_of_contents p.taken.items)
+  pub conversation : IsConversation server.initial_server_state (bytes_of_contents p.taken.items)
       (bytes_of_contents p.got.items ++ bytes_of_contents p.unread.items) after
 
 -- States that no event happened: `fault` reports 0 steps, and has no edit, no publication and no
--- content. So the guarantees (`GuaranteesHoldForEvents`) hold for the empty list of events.
+-- content. The guarantees (`GuaranteesHoldForEvents`) hold for the empty list of events.
 pub record IsFaultBeforeFirstEvent (unit : Unit) (fault : PlayFault) : Type 0 where
   pub none : fault.steps ≡ 0
-  pub headline : GuaranteesHoldForEvents unit [] (played_edits fault.played) (played_publications fault.played)
+  pub guarantees : GuaranteesHoldForEvents unit [] (played_edits fault.played) (played_publications fault.played)
   pub taken : fault.played.taken.items ≡ []
   pub got : fault.played.got.items ≡ []
   pub unread : fault.played.unread.items ≡ []
 
--- States what holds if `play` returns this fault. Either the first `fault.steps` events happened,
--- which are fewer than all, and the fault has their results (`IsResultOfPlaying`). Or no event
--- happened, and the fault has no results (`IsFaultBeforeFirstEvent`).
+-- States that `play` may return this fault. Either the first `fault.steps` events happened, but not
+-- all events, and the fault has their results (`IsResultOfPlaying`). Or no event happened, and the
+-- fault has no results (`IsFaultBeforeFirstEvent`).
 abbrev pub IsFaultOfPlaying : Unit → List event.Event → PlayFault → Type 0
 IsFaultOfPlaying unit events fault =
     ((fault.steps < length events) × IsResultOfPlaying unit (take fault.steps events) fault.played)
@@ -191,22 +191,22 @@ pub record IsNewWorld (unit : Unit) (w : World) : Type 0 where
 
 -- states that the event happens, is reported and is counted as a step, and that the world hasn't
 -- ended
-pub record IsReportedAndCountedStep (old : World) (event : Event) (seen : Seen) (new : World) : Type 0 where
+pub record IsReportedAndCountedStep (old : World) (event : Event) (seen : EventReport) (new : World) : Type 0 where
   pub made : ConnectionSteps old.connection event new.connection
   pub shown : seen ≡ report_on_event old.connection.model event new.connection.model
   pub counted : new.steps ≡ old.steps + 1
   pub has_not_ended : new.ended ≡ false
 
--- States that the world makes this step (`IsReportedAndCountedStep`). The first argument is true
--- if the world had ended before the step. In that case, the statement is false.
-abbrev pub StepsUnlessEnded : Bool → World → Event → Seen → World → Type 0
-StepsUnlessEnded false old event seen new = IsReportedAndCountedStep old event seen new
-StepsUnlessEnded true old event seen new = ⊥
+-- States that the world makes this step (`IsReportedAndCountedStep`). The first argument says
+-- whether the world had ended before the step. If it is true, the statement is false.
+abbrev pub WorldStepsUnlessEnded : Bool → World → Event → EventReport → World → Type 0
+WorldStepsUnlessEnded false old event seen new = IsReportedAndCountedStep old event seen new
+WorldStepsUnlessEnded true old event seen new = ⊥
 
 -- states that a step of the world `old` performs this event, returns this report and leads to the
 -- world `new`
-abbrev pub WorldSteps : World → Event → Seen → World → Type 0
-WorldSteps old event seen new = StepsUnlessEnded old.ended old event seen new
+abbrev pub WorldSteps : World → Event → EventReport → World → Type 0
+WorldSteps old event seen new = WorldStepsUnlessEnded old.ended old event seen new
 
 -- States that `old` and `new` have the same applied edits and publications. In both, each side has
 -- taken the same contents, and the same contents wait for the editor.
@@ -217,10 +217,10 @@ pub record HaveSameHistory (old new : Connection) : Type 0 where
   pub got : new.wire.got ≡ old.wire.got
   pub unread : new.wire.to_editor ≡ old.wire.to_editor
 
--- States that a step fails with this fault. The first argument is true if the world had ended
--- before the step. A step that fails with `Memory` isn't counted, and ends the world. The world
--- keeps its results and the exchanged contents (`HaveSameHistory`). Each step of an ended world
--- fails with `Ended` and changes nothing.
+-- States that a step fails with this fault. The first argument says whether the world had ended
+-- before the step. If it hadn't, the fault is `Memory`: the step isn't counted, and the world ends
+-- and keeps its results and the exchanged contents (`HaveSameHistory`). If it had, the fault is
+-- `Ended`, and the step changes nothing.
 abbrev pub WorldFailsGivenEnded : Bool → World → WorldFault → World → Type 0
 WorldFailsGivenEnded false old Memory new =
     HaveSameHistory old.connection new.connection × (new.steps ≡ old.steps) × (new.ended ≡ true)

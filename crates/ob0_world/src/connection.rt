@@ -15,9 +15,9 @@ ghost use Rattle.ob0_world_rules.specs.EditorActs.{open_document, change_documen
 ghost use Rattle.ob0_world_rules.specs.Events as events;
 ghost use Rattle.ob0_world_rules.specs.Events.{editor_acts, take_message};
 ghost use Rattle.ob0_world.specs.ModelValues.{model_event_of, model_publication_of};
-ghost use Rattle.ob0_world.specs.Seen.{model_report_of, EventLeadsToWithReport};
-ghost use Rattle.ob0_world.specs.Queues.{bytes_of_contents, QueuesContent, MovesFirstContent, publication_in_message, publication_with_text, publication_in_first_content};
-ghost use Rattle.ob0_world.specs.Worlds.{IsInitialConnection, EditorTakesFirstContent, ResultsMatchModel, ContentsMatchWire, QueuesMatch, ChangesWire, HaveSameHistory, SessionTakesFirstContent, QueuesAtMostOneContent};
+ghost use Rattle.ob0_world.specs.EventReport.{model_report_of, EventLeadsToWithReport};
+ghost use Rattle.ob0_world.specs.Queues.{bytes_of_contents, AppendsContentToQueue, MovesFirstContent, publication_in_message, publication_with_text, publication_in_first_content};
+ghost use Rattle.ob0_world.specs.Worlds.{IsInitialConnection, EditorTakesFirstContent, ResultsMatchModel, ContentsMatchWire, QueuesMatch, EventChangesWire, HaveSameHistory, SessionTakesFirstContent, AppendsAtMostOneContent};
 
 use crate::events::{Event, Seen};
 use crate::play_results::{Made, Played};
@@ -28,9 +28,9 @@ use std::alloc::{AllocError, Global};
 use std::collections::VecDeque;
 use std::marker::Model;
 
-/// An editor and a session with the contents that they exchange. `to_server` and `to_editor` have
-/// the contents that wait for the session and for the editor. `applied` and `made` are the results
-/// so far: the applied edits and the publications.
+/// An editor and a session, with the contents that they exchange. The contents in `to_server` wait
+/// for the session, and the contents in `to_editor` wait for the editor. `applied` has the edits
+/// that were applied, and `made` has the publications that were sent.
 #[derive(Drop)]
 pub struct Connection<T: TextStore> {
     alloc: Global,
@@ -72,7 +72,7 @@ impl<T: TextStore> Connection<T> {
     {
         let mut session = Session::new(alloc);
         let content = initialize(alloc, unit)?;
-        let got = serve_content(&mut session, content.as_slice())?;
+        let got = give_content_to_session(&mut session, content.as_slice())?;
         let mut taken = Vec::new(alloc);
         taken.push(content)?;
         Ok(Connection {
@@ -88,7 +88,7 @@ impl<T: TextStore> Connection<T> {
         })
     }
 
-    /// Does nothing, and is called only for its contract. The contract states that the queued
+    /// Does nothing, and is called only for its contract. The contract states that the waiting
     /// contents are the messages that wait in the model (`ClientAndServer`). It also states that
     /// the session has the documents of the model's server.
     pub(crate) fn prove_queues_match(&self)
@@ -119,7 +119,7 @@ impl<T: TextStore> Connection<T> {
         requires { CountsCanGrow self.old.model.editor }
         ensures ok { IfOk result
             (λ seen. EventLeadsToWithReport self.old.model (model_event_of event.now) (model_report_of seen) self.new.model) }
-        ensures wire { OnOk result (ChangesWire (model_event_of event.now) self.old.wire
+        ensures wire { OnOk result (EventChangesWire (model_event_of event.now) self.old.wire
             self.new.wire) }
         ensures err { OnErr result (HaveSameHistory self.old self.new) }
     {
@@ -139,7 +139,7 @@ impl<T: TextStore> Connection<T> {
         requires { CountsCanGrow self.old.model.editor }
         ensures ok { IfOk result (λ seen. EventLeadsToWithReport self.old.model
             (editor_acts (open_document uri.now (chars text.now))) (model_report_of seen) self.new.model) }
-        ensures wire { OnOk result (QueuesAtMostOneContent self.old.wire self.new.wire) }
+        ensures wire { OnOk result (AppendsAtMostOneContent self.old.wire self.new.wire) }
         ensures err { OnErr result (HaveSameHistory self.old self.new) }
     {
         let content = self.editor.open(uri, text)?;
@@ -151,7 +151,7 @@ impl<T: TextStore> Connection<T> {
         ensures ok { IfOk result (λ seen. EventLeadsToWithReport self.old.model
             (editor_acts (change_document uri.now (map text_change_of changes.now))) (model_report_of seen)
             self.new.model) }
-        ensures wire { OnOk result (QueuesAtMostOneContent self.old.wire self.new.wire) }
+        ensures wire { OnOk result (AppendsAtMostOneContent self.old.wire self.new.wire) }
         ensures err { OnErr result (HaveSameHistory self.old self.new) }
     {
         let content = self.editor.change(uri, changes)?;
@@ -161,7 +161,7 @@ impl<T: TextStore> Connection<T> {
     fn close(&mut self, uri: &str) -> Result<Seen, AllocError>
         ensures ok { IfOk result (λ seen. EventLeadsToWithReport self.old.model
             (editor_acts (close_document uri.now)) (model_report_of seen) self.new.model) }
-        ensures wire { OnOk result (QueuesAtMostOneContent self.old.wire self.new.wire) }
+        ensures wire { OnOk result (AppendsAtMostOneContent self.old.wire self.new.wire) }
         ensures err { OnErr result (HaveSameHistory self.old self.new) }
     {
         let content = self.editor.close(uri)?;
@@ -172,16 +172,17 @@ impl<T: TextStore> Connection<T> {
         requires { CountsCanGrow self.old.model.editor }
         ensures ok { IfOk result (λ seen. EventLeadsToWithReport self.old.model
             (editor_acts (request_edits uri.now (model_ask_of ask.now))) (model_report_of seen) self.new.model) }
-        ensures wire { OnOk result (QueuesAtMostOneContent self.old.wire self.new.wire) }
+        ensures wire { OnOk result (AppendsAtMostOneContent self.old.wire self.new.wire) }
         ensures err { OnErr result (HaveSameHistory self.old self.new) }
     {
         let content = self.editor.ask(uri, ask)?;
         send(&mut self.to_server, content)
     }
 
-    /// Gives the first waiting content to the session, and queues its replies for the editor. If
-    /// the first reply publishes diagnostics with a version, the publication is recorded with its
-    /// document's text in the session. If no content waits, nothing happens.
+    /// Gives the first waiting content to the session, and queues the session's replies for the
+    /// editor. If the first reply publishes diagnostics with a version, the publication is recorded
+    /// with the text that its document has in the session. If no content waits for the session,
+    /// nothing happens.
     fn serve(&mut self) -> Result<Seen, AllocError>
         ensures ok { IfOk result
             (λ seen. EventLeadsToWithReport self.old.model events.serve (model_report_of seen) self.new.model) }
@@ -192,7 +193,7 @@ impl<T: TextStore> Connection<T> {
         let Some(content) = self.to_server.pop_front() else {
             return Ok(Seen::Nothing);
         };
-        let sent = serve_content(&mut self.session, content.as_slice())?;
+        let sent = give_content_to_session(&mut self.session, content.as_slice())?;
         let made = first_publication(
             self.alloc,
             &self.editor,
@@ -245,13 +246,13 @@ impl<T: TextStore> Connection<T> {
         requires { CountsCanGrow self.old.model.editor }
         ensures ok { IfOk result
             (λ seen. EventLeadsToWithReport self.old.model (editor_acts (acts.apply k)) (model_report_of seen) self.new.model) }
-        ensures wire { OnOk result (QueuesAtMostOneContent self.old.wire self.new.wire) }
+        ensures wire { OnOk result (AppendsAtMostOneContent self.old.wire self.new.wire) }
         ensures err { OnErr result (HaveSameHistory self.old self.new) }
     {
         match self.editor.apply_answer(k)? {
             ApplyOutcome::NoSuchAnswer => Ok(Seen::Nothing),
             ApplyOutcome::Dropped => Ok(Seen::Dropped { k }),
-            ApplyOutcome::Made { applied, content } => {
+            ApplyOutcome::EditsMade { applied, content } => {
                 self.to_server.push_back(content)?;
                 self.applied.push(applied)?;
                 Ok(Seen::Applied { k })
@@ -262,7 +263,7 @@ impl<T: TextStore> Connection<T> {
     fn discard_answer(&mut self, k: u64) -> Seen
         ensures ok { EventLeadsToWithReport self.old.model (editor_acts (acts.discard k))
             (model_report_of result) self.new.model }
-        ensures wire { QueuesAtMostOneContent self.old.wire self.new.wire }
+        ensures wire { AppendsAtMostOneContent self.old.wire self.new.wire }
     {
         if self.editor.discard_answer(k) {
             Seen::Dropped { k }
@@ -272,8 +273,8 @@ impl<T: TextStore> Connection<T> {
     }
 }
 
-/// Removes the first content of `waiting` and appends it to `got`. If nothing waits, does nothing.
-/// The list `got` must have room for one more content.
+/// Removes the first content of `waiting` and appends it to `got`. If `waiting` is empty, does
+/// nothing. The list `got` must have room for one more content.
 fn move_first_content(waiting: &mut VecDeque<Vec<u8>>, got: &mut Vec<Vec<u8>>)
     requires { vec_len got.old < vec_capacity got.old }
     ensures { MovesFirstContent waiting.old.items got.old.items waiting.new.items got.new.items }
@@ -283,10 +284,10 @@ fn move_first_content(waiting: &mut VecDeque<Vec<u8>>, got: &mut Vec<Vec<u8>>)
     }
 }
 
-/// Appends a content to the queue, and returns `Sent`. If there is no content, returns `Nothing`.
-/// If the allocation fails, the queue is unchanged.
+/// Appends a content to the queue, and returns `Sent`. If the content is None, returns `Nothing`
+/// and leaves the queue unchanged. If the allocation fails, the queue is also unchanged.
 fn send(queue: &mut VecDeque<Vec<u8>>, content: Option<Vec<u8>>) -> Result<Seen, AllocError>
-    ensures ok { IfOk result (λ seen. QueuesContent queue.old.items content seen queue.new.items) }
+    ensures ok { IfOk result (λ seen. AppendsContentToQueue queue.old.items content seen queue.new.items) }
     ensures err { OnErr result (queue.new.items ≡ queue.old.items) }
 {
     match content {
@@ -298,9 +299,9 @@ fn send(queue: &mut VecDeque<Vec<u8>>, content: Option<Vec<u8>>) -> Result<Seen,
     }
 }
 
-/// Gives a content to the session, and returns the contents of its replies. After a failed
-/// allocation, the session's phase is `Failed` for good.
-fn serve_content<T: TextStore>(
+/// Gives a content to the session, and returns the contents of the session's replies. If an
+/// allocation fails, the session's phase is then `Failed`.
+fn give_content_to_session<T: TextStore>(
     session: &mut Session<T>,
     content: &[u8],
 ) -> Result<Vec<Vec<u8>>, AllocError>

@@ -9,8 +9,9 @@ pub enum Event {
     /// The editor opens a document, with version 1. If it is open already, nothing happens.
     OpenDoc { uri: String, text: String },
     /// The editor makes these changes in order, each in the text that results from the previous
-    /// one. If the document isn't open, nothing happens.
+    /// change. If the document isn't open, nothing happens.
     ChangeDoc { uri: String, changes: Vec<Change> },
+    /// The editor closes a document. If the document isn't open, nothing happens.
     CloseDoc { uri: String },
     /// The editor sends a request for edits of a document. If the document isn't open, nothing
     /// happens. These requests (asks) are numbered from 1, in the order in which they are sent.
@@ -19,11 +20,11 @@ pub enum Event {
     Serve,
     /// The editor takes the first message that waits for it.
     Take,
-    /// The editor applies the answer to the request with number `k`. If the editor doesn't have
-    /// this answer, nothing happens.
+    /// The editor applies the answer to the request for edits with number `k`. If the editor
+    /// doesn't have this answer, nothing happens.
     Apply { k: u64 },
-    /// The editor discards the answer to the request with number `k`. If the editor doesn't have
-    /// this answer, nothing happens.
+    /// The editor discards the answer to the request for edits with number `k`. If the editor
+    /// doesn't have this answer, nothing happens.
     Discard { k: u64 },
 }
 
@@ -39,9 +40,12 @@ pub enum Seen {
     /// The editor took the diagnostics of the document `uri`. `empty` is true if the list of
     /// diagnostics is empty.
     Published { uri: String, empty: bool },
-    /// The editor took the answer to the request with number `k`. `edits` is true if the answer has
-    /// edits. The editor stores only such an answer.
+    /// The editor took the answer to the request for edits with number `k`. `edits` is true if the
+    /// answer has edits. The editor stores only answers with edits.
     Answered { k: u64, edits: bool },
+    /// The editor made the edits of the answer to request `k`.
     Applied { k: u64 },
+    /// The editor discarded the answer to request `k`. The event was `Discard`, or it was `Apply`
+    /// and the edits couldn't be made.
     Dropped { k: u64 },
 }

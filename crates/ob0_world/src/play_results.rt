@@ -3,7 +3,7 @@
 use ob0_world_editor::Applied;
 use std::collections::VecDeque;
 
-/// A publication of diagnostics, with the document's uri and version, and the text for which the
+/// A publication of diagnostics: the document's uri and version, and the text for which the
 /// diagnostics were made. `empty` is true if the list of diagnostics is empty.
 #[derive(Debug, Drop)]
 pub struct Made {
@@ -14,8 +14,8 @@ pub struct Made {
 }
 
 /// The results of a list of events: the applied edits, the publications with a version, and the
-/// contents of the messages. Each list is in the order in which the events happened. The contents
-/// that still wait for the session are left out.
+/// contents of the messages. Each list is in the order of the events. The contents that still wait
+/// for the session are left out.
 #[derive(Debug, Drop)]
 pub struct Played {
     pub applied: Vec<Applied>,

@@ -1,25 +1,25 @@
 //! Performs lists of events with an editor and a session.
 //!
-//! A `Connection` consists of a model and a `Wire`. The model is a client and a server
-//! (`ClientAndServer`), with their documents and messages. The `Wire` is the session, with the
-//! contents of all messages in each direction, taken or still waiting.
+//! In contracts, a `Connection` consists of a model and a `Wire`. The model is a client and a
+//! server (`ClientAndServer`), with their documents and messages. The `Wire` is the session, with
+//! the contents of all messages in each direction, taken or still waiting.
 //!
-//! `ChangesWire` states how each event changes the session and the contents, and `QueuesMatch`
+//! `EventChangesWire` states how each event changes the session and the contents, and `QueuesMatch`
 //! states that the model and the `Wire` agree. (`Connection::prove_queues_match` is called only for
 //! its contract.) The contract of `step` has two cases: the step performs its event (`WorldSteps`),
 //! or it fails (`WorldFails`).
 //!
 //! The contract of `play` (`IsResultOfPlaying`) states the guarantees (`GuaranteesHoldForEvents`).
 //! It also states that the events are a course of the connection (`IsConnectionCourse`) that begins
-//! with an initialized session (`IsInitialConnection`). The code also returns the exchanged
-//! contents, and the contract requires that they are a session's conversation. So a body that only
-//! invents edits and publications doesn't meet the contract.
+//! with an initialized session (`IsInitialConnection`). `play` also returns the exchanged contents,
+//! and its contract states that they are a session's conversation. So a body that only invents
+//! edits and publications doesn't meet the contract.
 ghost use Rattle.std.specs.Prelude.{◌≡◌, ◌<◌, ◌-◌, ◌^◌, [], length, IfOk, OnOk, IfErr};
 ghost use Rattle.ob0_text.specs.declared.position_types.Unit.TheVariants.{Utf16};
 ghost use Rattle.ob0_world_rules.specs.Headline.{GuaranteesHold};
 ghost use Rattle.ob0_world_rules.specs.MirroredDocuments.{ServerWillMirrorEditor};
 ghost use Rattle.ob0_world.specs.ModelValues.{model_event_of, played_edits, played_publications};
-ghost use Rattle.ob0_world.specs.Seen.{model_report_of};
+ghost use Rattle.ob0_world.specs.EventReport.{model_report_of};
 ghost use Rattle.ob0_world.specs.Worlds.{ResultsMatchModel, ContentsMatchWire, IsNewWorld, IsResultOfPlaying, IsFaultOfPlaying, WorldSteps, WorldFails};
 ghost use Rattle.ob0_world.specs.declared.faults.WorldFault.TheVariants.{Memory};
 
@@ -62,9 +62,9 @@ impl<T: TextStore> Model for World<T> {
 
 impl<T: TextStore> World<T> {
     /// Returns a world in which no document is open and no message waits. The editor has
-    /// initialized the session. It has declared that it accepts literal code actions, which contain
-    /// their edits, and edits that mention their documents' versions. Both sides count positions in
-    /// UTF-16 units.
+    /// initialized the session, and has declared that it accepts literal code actions, which
+    /// contain their edits, and edits that mention their documents' versions. Both sides count
+    /// positions in UTF-16 units.
     pub fn new(alloc: Global) -> Result<World<T>, WorldFault>
         ensures start { IfOk result (IsNewWorld Utf16) }
         ensures err { IfErr result (λ fault. fault ≡ Memory) }
@@ -95,9 +95,9 @@ impl<T: TextStore> World<T> {
         self.steps
     }
 
-    /// Performs one event and returns the report on it. For `Serve`, the session takes the first
-    /// content that waits, in one call of `Session::step`. If an allocation fails, the world ends:
-    /// each later step returns `Ended`.
+    /// Performs one event and returns the report on it. For `Serve`, one call of `Session::step`
+    /// takes the first waiting content. If an allocation fails, the world ends: each later step
+    /// returns `Ended`.
     pub fn step(&mut self, event: &Event) -> Result<Seen, WorldFault>
         requires few { self.old.steps < 2 ^ 63 - 1 }
         ensures ok { IfOk result

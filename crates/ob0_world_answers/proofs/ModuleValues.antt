@@ -1,4 +1,4 @@
--- Each well-typed text has a parsed module, and one whose names are bound.
+-- Proves that each well-typed text has a parsed module, and a resolution of its names.
 use Rattle.std.proofs.Common.{◌≡◌, ℕ, List, sym, subst}
 use Rattle.ob0_scan.specs.TextWithTokens.{IsScanOf, TextWithTokens}
 use Rattle.ob0_tree.specs.ParsedModule.{ParsedModule, named_tree_of}

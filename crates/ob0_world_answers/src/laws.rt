@@ -1,7 +1,6 @@
 //! Proves that each request for edits has an answer, and that each list of events leads to some
-//! state. The events and states belong to the model of client and server. So a law about every list
-//! of events isn't vacuous.
-ghost use Rattle.ob0_world_answers.specs.AnswersExist.{EachAskHasAnswers, EachEventListHasACourse};
+//! state of the model of client and server. So a law about every list of events isn't vacuous.
+ghost use Rattle.ob0_world_answers.specs.AnswersExist.{EachAskAlwaysHasAnswer, EachEventListHasACourse};
 
 use ob0_inline_answers::laws::{
     inlining_everywhere_always_has_answer, inlining_here_always_has_answer,
@@ -11,9 +10,10 @@ use ob0_rename_answers::laws::renaming_always_has_answer;
 use ob0_world_rules::laws::course_exists_if_asks_have_answers;
 use ob0_world_worked::laws::formatting_always_has_answer;
 
-/// Proves that each request for edits has an answer for each text.
-pub fn each_ask_has_answers()
-    ensures { EachAskHasAnswers }
+/// Proves that each request for edits has an answer for each text: it is impossible that there is
+/// none (`AlwaysHasAnswer`).
+pub fn each_ask_always_has_answer()
+    ensures { EachAskAlwaysHasAnswer }
 {
     tree_is_unique();
     formatting_always_has_answer();
@@ -22,11 +22,11 @@ pub fn each_ask_has_answers()
     inlining_everywhere_always_has_answer();
 }
 
-/// Proves that each list of events has a course: the events lead from the initial state to some
-/// state.
+/// Proves that each list of events has a course: it is impossible that the events lead from the
+/// initial state to no state.
 pub fn each_event_list_has_a_course()
     ensures { EachEventListHasACourse }
 {
-    each_ask_has_answers();
+    each_ask_always_has_answer();
     course_exists_if_asks_have_answers();
 }

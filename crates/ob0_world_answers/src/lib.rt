@@ -1,5 +1,5 @@
 //! Proves that each request for edits has an answer, and that each list of events leads to some
-//! state. The events and states belong to the model of client and server.
+//! state of the model of client and server.
 #![tactic(auto)]
 
 pub mod laws;

@@ -1,12 +1,13 @@
--- Proves that whatever fails, the bytes that `serve` has written are a prefix. They begin the output for the same
--- input, or for more of it, of a call in which neither an allocation nor the writer fails.
+-- Proves that the output of each call of `serve` is a prefix of the output of a second call, if
+-- neither an allocation nor the writer fails in the second call. The second call has the same
+-- input, or the same input with more bytes after it. In the first call anything may fail.
 use Rattle.std.proofs.Common.{◌≡◌, ◌∙◌, ℕ, List, [], ◌++◌, Result, Ok, Err, sym, ap, subst, inl, inr, append_assoc, append-nil}
 use Rattle.std.specs.List.{flat_map}
 use Rattle.std.proofs.lemmas.Grind.{flat_map-append}
 use Rattle.std.proofs.lemmas.List.{append_cancel_left}
 use Rattle.ob0_frame.specs.Frames.{frame}
-use Rattle.ob0_frame.specs.FramerState.{StreamRest, Open, Broken, FeedsStream}
-use Rattle.ob0_session_server.specs.Answers.{ServerState, start, IsConversation}
+use Rattle.ob0_frame.specs.FramerState.{StreamRest, Open, Broken, PieceAdvancesStream}
+use Rattle.ob0_session_server.specs.Answers.{ServerState, initial_server_state, IsConversation}
 use Rattle.ob0_session.specs.ServeResults.{AnswersAllButWaiting}
 use Rattle.ob0_session.specs.declared.serve_loop.ServeFault.{ServeFault}
 use Rattle.ob0_session.specs.declared.serve_loop.ServeFault.TheVariants.{BadHead, Truncated, Read, Write, Memory, TooManyReads}
@@ -20,8 +21,8 @@ record Part (taken put : List ℕ) : Type 0 where
   pub answered : Contents
   pub sent : Contents
   pub after : ServerState
-  pub front : (more : List ℕ) (contents : Contents) (rest : StreamRest) → FeedsStream (Open []) (taken ++ more) contents rest → (others : Contents) × (contents ≡ answered ++ others)
-  pub conversation : IsConversation start answered sent after
+  pub front : (more : List ℕ) (contents : Contents) (rest : StreamRest) → PieceAdvancesStream (Open []) (taken ++ more) contents rest → (others : Contents) × (contents ≡ answered ++ others)
+  pub conversation : IsConversation initial_server_state answered sent after
   pub unwritten : List ℕ
   pub frames : flat_map frame sent ≡ put ++ unwritten
 
@@ -59,10 +60,10 @@ module _ (one : ConversationIsDetermined) (feeds : OneFeed) (taken : List ℕ) w
   }
 
   -- If a conversation goes beyond the answered contents, its replies begin with those that were sent.
-  further : (put : List ℕ) (p : Part taken put) (contents mid sent : Contents) (after : ServerState) → contents ≡ p.answered ++ mid → IsConversation start contents sent after → (later : Contents) × (sent ≡ p.sent ++ later)
+  further : (put : List ℕ) (p : Part taken put) (contents mid sent : Contents) (after : ServerState) → contents ≡ p.answered ++ mid → IsConversation initial_server_state contents sent after → (later : Contents) × (sent ≡ p.sent ++ later)
   further put p contents mid sent after is h =
-      let parts : Cut start p.answered mid sent after = cut start p.answered mid sent after (subst (λ cs. IsConversation start cs sent after) is h) in
-      let same : p.sent ≡ parts.first = (one start p.answered p.sent parts.first p.after parts.between p.conversation parts.begins).0 in
+      let parts : Cut initial_server_state p.answered mid sent after = cut initial_server_state p.answered mid sent after (subst (λ cs. IsConversation initial_server_state cs sent after) is h) in
+      let same : p.sent ≡ parts.first = (one initial_server_state p.answered p.sent parts.first p.after parts.between p.conversation parts.begins).0 in
       (parts.later, parts.is ∙ ap (λ xs. xs ++ parts.later) (sym same))
 
   further_of : (more_bytes put all : List ℕ) (p : Part taken put) (e : Ending) → (ends : EndsIn e (taken ++ more_bytes) all) → (sent : Contents) × (later : Contents) × (all ≡ flat_map frame sent) × (sent ≡ p.sent ++ later)
@@ -73,7 +74,7 @@ module _ (one : ConversationIsDetermined) (feeds : OneFeed) (taken : List ℕ) w
   further_of more_bytes put all p (at_exit status) (k, ended) =
       let others = p.front more_bytes (k.served.answered ++ k.waiting) k.rest k.served.feeds in
       elim (begins_other k.served.answered k.waiting p.answered others.0 others.1) [
-        | inl (mid, is) ↦ (k.served.sent, [], k.served.frames, (longer one feeds (taken ++ more_bytes) status k.served.answered mid k.served.sent p.sent k.after p.after ended k.served.conversation (subst (λ cs. IsConversation start cs p.sent p.after) is p.conversation)).0 ∙ sym (append-nil p.sent))
+        | inl (mid, is) ↦ (k.served.sent, [], k.served.frames, (longer one feeds (taken ++ more_bytes) status k.served.answered mid k.served.sent p.sent k.after p.after ended k.served.conversation (subst (λ cs. IsConversation initial_server_state cs p.sent p.after) is p.conversation)).0 ∙ sym (append-nil p.sent))
         | inr (mid, is) ↦ (let more = further put p k.served.answered mid k.served.sent k.after is k.served.conversation in (k.served.sent, more.0, k.served.frames, more.1))
       ]
 

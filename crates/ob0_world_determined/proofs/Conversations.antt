@@ -1,8 +1,9 @@
--- Proves that a conversation is determined if each reply is.
+-- Proves that the contents that a session takes determine its replies and its state, if each reply
+-- (`Reply`) determines the contents that are sent.
 use Rattle.std.proofs.Common.{◌≡◌, ◌∙◌, ℕ, Option, Some, None, List, [], ◌∷◌, ◌++◌, refl, sym, subst}
 use Rattle.serde_json.specs.Data.{Data}
 use Rattle.ob0_rpc.specs.Messages.{IsJsonOfContent, meaning_of_content}
-use Rattle.ob0_session_server.specs.Answers.{ServerState, AreContentsOfReply, react_to_message, AnswersInPhase, AnswersBeforeSessionEnd, IsConversation}
+use Rattle.ob0_session_server.specs.Answers.{ServerState, AreContentsOfReply, react_to_message, AnswersInPhase, AnswersInActivePhase, IsConversation}
 use Rattle.ob0_session_server.specs.declared.session.Phase.{Phase}
 use Rattle.ob0_session_server.specs.declared.session.Phase.TheVariants.{Starting, Running, ShutDown, Ended, Failed}
 use Rattle.ob0_world_determined.specs.DeterminedOutput.{AnswerIsDetermined, ConversationIsDetermined, ReplyContentsAreDetermined}
@@ -19,7 +20,7 @@ one_json content None (Some y) p q = sym (p q.0) ∙ q.1
 one_json content None None p q = refl
 
 module _ (says : ReplyContentsAreDetermined) where
-  going_on_one : (before : ServerState) (content : List ℕ) (sent more : Contents) (after other : ServerState) → AnswersBeforeSessionEnd before content sent after → AnswersBeforeSessionEnd before content more other → (sent ≡ more) × (after ≡ other)
+  going_on_one : (before : ServerState) (content : List ℕ) (sent more : Contents) (after other : ServerState) → AnswersInActivePhase before content sent after → AnswersInActivePhase before content more other → (sent ≡ more) × (after ≡ other)
   going_on_one before content sent more after other (json, reads, h) (another, reads_too, k) =
       let same : json ≡ another = one_json content json another reads reads_too in
       let there = subst (λ j. (other ≡ (react_to_message before (meaning_of_content j)).after) × AreContentsOfReply (react_to_message before (meaning_of_content j)).reply more) (sym same) k in

@@ -1,5 +1,5 @@
--- Proves that each stream has a list of contents: the content of its first message, then the contents after that
--- message.
+-- Proves that each stream has a list of contents (it is impossible that it has none). The list is
+-- the content of the stream's first message, followed by the contents after that message.
 use Rattle.std.proofs.Common.{◌≡◌, ◌∙◌, ◌<◌, ◌+◌, ℕ, zero, suc, List, [], ◌∷◌, ◌++◌, length, refl, ap, arith}
 use Rattle.std.proofs.lemmas.List.{length-append}
 use Rattle.ob0_frame.specs.Frames.{BeginsWithMessage, Frames}

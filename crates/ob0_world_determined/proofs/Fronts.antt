@@ -1,15 +1,17 @@
--- Proves that the first bytes of a stream have a list of contents, and that the list of the whole stream begins with
--- it.
--- An input may be cut into other pieces, so that more of it is read after an `exit` or a bad head. The contents of the
--- first bytes begin the contents of the whole, even after a bad head (`fed_front`).
--- If memory ran out, the answered contents begin each list of contents of the bytes read. There is such a list because
--- the whole stream has one (`framed_first`, which decides whether the rest of the first bytes is bad).
+-- Proves that the first bytes of a stream have a list of contents, and that this list is a prefix
+-- of the list of the whole stream.
+-- If an input is cut into other pieces, more of it may be read after an `exit` or a bad head. The
+-- contents of the first bytes are a prefix of the contents of the whole stream, even after a bad
+-- head (`fed_front`).
+-- If an allocation failed, the answered contents are a prefix of each list of contents of the bytes
+-- that were read. These bytes have a list of contents because the whole stream has one
+-- (`framed_first`, whose proof decides whether the rest of the first bytes is bad).
 use Rattle.std.proofs.Common.{◌≡◌, ◌∙◌, ◌⊎◌, ◌<◌, ◌≤◌, ℕ, arith, List, [], ◌∷◌, ◌++◌, length, take, drop, refl, sym, ap, subst, inl, inr}
 use Rattle.std.proofs.lemmas.List.{append_assoc, append_cancel_left, length-append, take_all, take_at, take-append-drop, take-append-le, take-take}
 use Rattle.std.proofs.lemmas.Bool.{cases_lt}
 use Rattle.ob0_frame.specs.Head.{EndsInEmptyLine, HasNoEmptyLine, IsHead}
 use Rattle.ob0_frame.specs.Frames.{BeginsWithMessage, Frames, CannotBeginMessage}
-use Rattle.ob0_frame.specs.FramerState.{StreamRest, Open, Broken, FeedsStream}
+use Rattle.ob0_frame.specs.FramerState.{StreamRest, Open, Broken, PieceAdvancesStream}
 use Rattle.ob0_frame.proofs.Heads.{no_line_front}
 use Rattle.ob0_frame.proofs.InTurn.{bad_more, fed_in_turn, fed_once, fed_split}
 use Rattle.ob0_frame.proofs.Messages.{message_more, message_unique, none_in_bad, not_bad_without_line}
@@ -116,7 +118,7 @@ front_frames first second (y ∷ e) q all is =
 pub record Framed (bytes : List ℕ) : Type 0 where
   pub contents : Contents
   pub rest : StreamRest
-  pub feeds : FeedsStream (Open []) bytes contents rest
+  pub feeds : PieceAdvancesStream (Open []) bytes contents rest
 
 framed_from : (first : List ℕ) → Front first → Framed first
 framed_from first f = elim f.bad [
@@ -125,17 +127,17 @@ framed_from first f = elim f.bad [
 ]
 
 -- If the whole stream has a list of contents, its first bytes have one.
-pub framed_first : (first second : List ℕ) (e : Contents) (end : StreamRest) → FeedsStream (Open []) (first ++ second) e end → Framed first
+pub framed_first : (first second : List ℕ) (e : Contents) (end : StreamRest) → PieceAdvancesStream (Open []) (first ++ second) e end → Framed first
 framed_first first second e (Open q) all = framed_from first (front_frames first second e q all.0 (inr all.1))
 framed_first first second e Broken all = framed_from first (front_frames first second e all.0 all.1 (inl all.2))
 
 -- The contents of the first bytes are a prefix of the contents of the whole, even after a bad head.
-pub fed_front : (start r end : StreamRest) (first second : List ℕ) (c e : Contents) → FeedsStream start first c r → FeedsStream start (first ++ second) e end → (d : Contents) × (e ≡ c ++ d)
+pub fed_front : (start r end : StreamRest) (first second : List ℕ) (c e : Contents) → PieceAdvancesStream start first c r → PieceAdvancesStream start (first ++ second) e end → (d : Contents) × (e ≡ c ++ d)
 fed_front start (Open r) end first second c e one all = let parts = fed_split start end first second c e r one all in (parts.0, parts.1)
 fed_front start Broken end first second c e one all = ([], (fed_once start end Broken (first ++ second) e (c ++ []) all (fed_in_turn start Broken Broken first second c [] one refl)).0)
 
 -- A prefix of each list of contents of the first bytes is a prefix of the contents of the whole.
-pub front_more : (taken more : List ℕ) (answered contents : Contents) (end : StreamRest) → ((contents : Contents) (rest : StreamRest) → FeedsStream (Open []) taken contents rest → (others : Contents) × (contents ≡ answered ++ others)) → FeedsStream (Open []) (taken ++ more) contents end → (others : Contents) × (contents ≡ answered ++ others)
+pub front_more : (taken more : List ℕ) (answered contents : Contents) (end : StreamRest) → ((contents : Contents) (rest : StreamRest) → PieceAdvancesStream (Open []) taken contents rest → (others : Contents) × (contents ≡ answered ++ others)) → PieceAdvancesStream (Open []) (taken ++ more) contents end → (others : Contents) × (contents ≡ answered ++ others)
 front_more taken more answered contents end front fed =
     let f = framed_first taken more contents end fed in
     let here = front f.contents f.rest f.feeds in

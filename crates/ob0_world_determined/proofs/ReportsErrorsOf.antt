@@ -27,7 +27,7 @@ use Rattle.ob0_parse_descent.specs.declared.refusal.ParseRefusal.{ParseRefusal}
 use Rattle.ob0_parse_descent.specs.declared.refusal.ParseRefusal.TheVariants.{Syntax, TooDeep, Memory}
 use Rattle.ob0_scope_table.specs.DuplicatesAndEndNames.{tree_declaration_faults}
 use Rattle.ob0_scope_table.specs.FaultsAtTokens.{fault_with_span}
-use Rattle.ob0_language_names.specs.Occurrences.{bindings}
+use Rattle.ob0_language_names.specs.Occurrences.{labels_of_occurrences}
 use Rattle.ob0_language_names.specs.BlockParts.{module_block}
 use Rattle.ob0_scope_table.specs.Resolution.{Resolution, IsResolution, declaring_names, is_duplicate_or_end_name_fault, is_undeclared_fault, undeclared_faults_from_labels}
 use Rattle.ob0_tree.specs.declared.tree.Role.TheVariants as role
@@ -192,7 +192,7 @@ module _ (r q : Resolution) (h : IsResolution r) (k : IsResolution q) (e : Same 
 
   same_of_names : r.faults ≡ q.faults
   same_of_names =
-      h.reported.by_kind ∙ (λ i. tree_declaration_faults (token_text_at (e.source i)) (e.tree i) ++ undeclared_faults_from_labels (occurrences (e.tree i)) (bindings (tree_with_names (e.source i) (e.tree i)))) ∙ sym k.reported.by_kind
+      h.reported.by_kind ∙ (λ i. tree_declaration_faults (token_text_at (e.source i)) (e.tree i) ++ undeclared_faults_from_labels (occurrences (e.tree i)) (labels_of_occurrences (tree_with_names (e.source i) (e.tree i)))) ∙ sym k.reported.by_kind
 
   same_reported : undeclared_name_and_type_faults r ≡ undeclared_name_and_type_faults q
   unfolding undeclared_name_and_type_faults

@@ -1,4 +1,5 @@
--- Proves that the faults of a module depend on its table of ordinals only by the ordinals at the module's tokens.
+-- Proves that two tables of ordinals give a module the same faults if they have the same ordinals
+-- at the module's tokens.
 use Rattle.std.proofs.Common.{◌≡◌, ℕ, suc, ◌+◌, Bool, true, false, cond, Option, Some, None, List, [], ◌∷◌, ◌++◌, map, length, refl, ap, subst}
 use Rattle.std.specs.Prelude.{option_and_then, slice_index_or, slice_set}
 use Rattle.ob0_language_values.specs.Values.{Value}
@@ -14,8 +15,8 @@ use Rattle.ob0_types_check.specs.TypesAndMeanings.{Facts, Meaning, Operand, Resu
 use Rattle.ob0_types_check.specs.OperandFaults.{without_fault, previous_token_index}
 use Rattle.ob0_types_check.specs.KnownDeclarations.{CompositeParts, TypeSize, KnownDeclarations, TypeWithFollowingDeclarations, define_name_at_token, define_listed_names, facts_from_declarations, is_within_limits, append_composite, make_composite_type, of_elements, of_fields, size_of_known_type, report_on_too_large_type, type_id_of_parts, known_types_representation, declarations_with_meaning}
 use Rattle.ob0_types_check.specs.StatementFaults.{sequence_faults}
-use Rattle.ob0_types_check.specs.TypeFaults.{length_from_operand, report_on_constant_expression, type_named_by_token}
-use Rattle.ob0_types_check.specs.WrittenTypeFaults.{KnownFields, made_array_type, array_size, combined_size, append_field_group, no_known_fields, next_type_ordinal, made_record_type, record_size, record_keyword_token, report_on_field_group, report_on_further_field_groups, report_on_written_type, append_known_field, append_known_fields, token_before_group}
+use Rattle.ob0_types_check.specs.TypeFaults.{length_from_operand, report_on_constant_expression, check_type_name}
+use Rattle.ob0_types_check.specs.WrittenTypeFaults.{KnownFields, make_array_type, array_size, combined_size, append_field_group, no_known_fields, next_type_ordinal, make_record_type, record_size, record_keyword_token, report_on_field_group, report_on_further_field_groups, report_on_written_type, append_known_field, append_known_fields, token_before_group}
 
 -- ---- states that differ only in tables with the same ordinals
 
@@ -91,18 +92,18 @@ make_like p q word k l parts size same like = go (is_within_limits size)
     go true = right_both TypedLike (append_composite p k parts size) (append_composite q l parts size) (made_like p q k l parts size same like)
     go false = record { known = record { of = refl; following = like }; faults = refl }
 
-array_like : (k l : ℕ) (o : Operand TypeId) (n : Option ℕ) (t u : TypeWithFollowingDeclarations) → k ≡ l → TypedLike t u → Both TypedLike (made_array_type k o n t) (made_array_type l o n u)
+array_like : (k l : ℕ) (o : Operand TypeId) (n : Option ℕ) (t u : TypeWithFollowingDeclarations) → k ≡ l → TypedLike t u → Both TypedLike (make_array_type k o n t) (make_array_type l o n u)
 array_like k l o None t u same like = right_both TypedLike _ _ (record { of = refl; following = like.following })
 array_like k l o (Some n) t u same like =
     let parts : of_elements n t.of ≡ of_elements n u.of = ap (of_elements n) like.of in
     let size : array_size n (size_of_known_type t.following.made t.of) ≡ array_size n (size_of_known_type u.following.made u.of) = λ i. array_size n (size_of_known_type (like.following.made i) (like.of i)) in
-    subst (λ x. Both TypedLike (made_array_type k o (Some n) t) (make_composite_type u.following (previous_token_index o.first) l x (array_size n (size_of_known_type u.following.made u.of)))) parts
-    (subst (λ z. Both TypedLike (made_array_type k o (Some n) t) (make_composite_type u.following (previous_token_index o.first) l (of_elements n t.of) z)) size
+    subst (λ x. Both TypedLike (make_array_type k o (Some n) t) (make_composite_type u.following (previous_token_index o.first) l x (array_size n (size_of_known_type u.following.made u.of)))) parts
+    (subst (λ z. Both TypedLike (make_array_type k o (Some n) t) (make_composite_type u.following (previous_token_index o.first) l (of_elements n t.of) z)) size
     (make_like t.following u.following (previous_token_index o.first) k l (of_elements n t.of) (array_size n (size_of_known_type t.following.made t.of)) same like.following))
 
-arrays_like : (k l : ℕ) (o p : Operand TypeId) (n m : Option ℕ) (t u : TypeWithFollowingDeclarations) → k ≡ l → o ≡ p → n ≡ m → TypedLike t u → Both TypedLike (made_array_type k o n t) (made_array_type l p m u)
+arrays_like : (k l : ℕ) (o p : Operand TypeId) (n m : Option ℕ) (t u : TypeWithFollowingDeclarations) → k ≡ l → o ≡ p → n ≡ m → TypedLike t u → Both TypedLike (make_array_type k o n t) (make_array_type l p m u)
 arrays_like k l o p n m t u here same sized like =
-    subst (λ x. Both TypedLike (made_array_type k o n t) (made_array_type l x m u)) same (subst (λ x. Both TypedLike (made_array_type k o n t) (made_array_type l o x u)) sized (array_like k l o n t u here like))
+    subst (λ x. Both TypedLike (make_array_type k o n t) (make_array_type l x m u)) same (subst (λ x. Both TypedLike (make_array_type k o n t) (make_array_type l o x u)) sized (array_like k l o n t u here like))
 
 name_like : (t u : TypeId) (g h : KnownFields) (token : ℕ) → t ≡ u → GatheredLike g h → GatheredLike (append_known_field t g token) (append_known_field u h token)
 name_like t u g h token same like = record {
@@ -118,10 +119,10 @@ names_like t u g h (x ∷ xs) same like = names_like t u (append_known_field t g
 gathered_like : (g h : KnownFields) (tokens : List ℕ) (t u : TypeWithFollowingDeclarations) → GatheredLike g h → TypedLike t u → GatheredLike (append_field_group g tokens t) (append_field_group h tokens u)
 gathered_like g h tokens t u like typed = names_like t.of u.of _ _ tokens typed.of (record { fields = like.fields; size = like.size; following = typed.following })
 
-record_like : (word k l : ℕ) (g h : KnownFields) → k ≡ l → GatheredLike g h → Both TypedLike (made_record_type word k g) (made_record_type word l h)
+record_like : (word k l : ℕ) (g h : KnownFields) → k ≡ l → GatheredLike g h → Both TypedLike (make_record_type word k g) (make_record_type word l h)
 record_like word k l g h same like =
-    subst (λ x. Both TypedLike (made_record_type word k g) (make_composite_type h.following word l x (record_size h.size))) (ap of_fields like.fields)
-    (subst (λ z. Both TypedLike (made_record_type word k g) (make_composite_type h.following word l (of_fields g.fields) (record_size z))) like.size
+    subst (λ x. Both TypedLike (make_record_type word k g) (make_composite_type h.following word l x (record_size h.size))) (ap of_fields like.fields)
+    (subst (λ z. Both TypedLike (make_record_type word k g) (make_composite_type h.following word l (of_fields g.fields) (record_size z))) like.size
     (make_like g.following h.following word k l (of_fields g.fields) (record_size g.size) same like.following))
 
 here_like : (around : ℕ) (p q : KnownDeclarations) → Like p q → next_type_ordinal around p ≡ next_type_ordinal around q
@@ -132,7 +133,7 @@ mutual
 
   type_like : (around : ℕ) (p q : KnownDeclarations) (t : Tree ℕ written_type) → Like p q → Both TypedLike (report_on_written_type around p t) (report_on_written_type around q t)
   type_like around p q (named_type x) like =
-      let same : type_named_by_token (facts_from_declarations p false) x ≡ type_named_by_token (facts_from_declarations q false) x = ap (λ (f : Facts TypeId). type_named_by_token f x) (same_facts p q false like) in
+      let same : check_type_name (facts_from_declarations p false) x ≡ check_type_name (facts_from_declarations q false) x = ap (λ (f : Facts TypeId). check_type_name f x) (same_facts p q false like) in
       after (ap (λ (r : ResultWithFaults TypeId). r.faults) same) (right_both TypedLike _ _ (record { of = ap (λ (r : ResultWithFaults TypeId). r.known) same; following = like }))
   type_like around p q (array_type e u) like =
       let same : report_on_expression (facts_from_declarations p true) e ≡ report_on_expression (facts_from_declarations q true) e = ap (λ (f : Facts TypeId). report_on_expression f e) (same_facts p q true like) in

@@ -1,15 +1,16 @@
--- Proves that the input of `serve` determines what it writes and returns, however the input is cut.
--- If one call ended at an `exit`, no other call can go beyond it: after its end a server sends nothing and doesn't
--- change.
+-- Proves that the input of `serve` determines its output and its result, no matter how the input is
+-- cut into pieces.
+-- If one call ended at an `exit`, no other call answers a content after this `exit`: a session that
+-- has ended sends nothing, and its state doesn't change.
 use Rattle.std.proofs.Common.{◌≡◌, ◌≢◌, ◌≤◌, ◌∙◌, ℕ, ◌⊎◌, List, [], ◌∷◌, ◌++◌, length, Result, Ok, Err, refl, sym, ap, subst, inl, inr, append_assoc, append-nil}
 use Rattle.std.specs.Prelude.{⊤, All}
 use Rattle.std.specs.List.{flat_map}
 use Rattle.std.proofs.lemmas.Grind.{flat_map-append}
 use Rattle.ob0_frame.specs.Frames.{Frames, frame}
 use Rattle.ob0_frame.specs.Head.{max_content_length}
-use Rattle.ob0_frame.specs.FramerState.{StreamRest, Open, Broken, FeedsStream}
+use Rattle.ob0_frame.specs.FramerState.{StreamRest, Open, Broken, PieceAdvancesStream}
 use Rattle.ob0_frame.proofs.InTurn.{fed_in_turn}
-use Rattle.ob0_session_server.specs.Answers.{ServerState, start, Answers, AnswersInPhase, IsConversation}
+use Rattle.ob0_session_server.specs.Answers.{ServerState, initial_server_state, Answers, AnswersInPhase, IsConversation}
 use Rattle.ob0_session.specs.ServeResults.{AnswersAllButWaiting, AnswersAllContents, EndsByExit}
 use Rattle.ob0_session_server.specs.Steps.{HasNotEnded}
 use Rattle.ob0_session_server.specs.declared.session.Phase.TheVariants.{Ended}
@@ -73,7 +74,7 @@ begins_other (x ∷ xs) ys (z ∷ zs) ws e =
 -- ---- the contents read are answered up to an `exit`, or all of them
 
 abbrev pub OneFeed : Type 0
-OneFeed = (from r q : StreamRest) (piece : List ℕ) (c d : Contents) → FeedsStream from piece c r → FeedsStream from piece d q → (c ≡ d) × (r ≡ q)
+OneFeed = (from r q : StreamRest) (piece : List ℕ) (c d : Contents) → PieceAdvancesStream from piece c r → PieceAdvancesStream from piece d q → (c ≡ d) × (r ≡ q)
 
 -- the ending of a conversation: a status at an `exit`, or the rest of the bytes
 pub data Ending : Type 0 where
@@ -89,10 +90,10 @@ same_status s t e = cc
 
 module _ (one : ConversationIsDetermined) (feeds : OneFeed) (taken : List ℕ) where
   -- A conversation that ended has the same replies and state as one over more contents.
-  pub longer : (status : ℕ) (contents more sent other : Contents) (after end : ServerState) → after.phase ≡ Ended status → IsConversation start contents sent after → IsConversation start (contents ++ more) other end → (sent ≡ other) × (end ≡ after)
+  pub longer : (status : ℕ) (contents more sent other : Contents) (after end : ServerState) → after.phase ≡ Ended status → IsConversation initial_server_state contents sent after → IsConversation initial_server_state (contents ++ more) other end → (sent ≡ other) × (end ≡ after)
   longer status contents more sent other after end over h k =
-      let parts : Cut start contents more other end = cut start contents more other end k in
-      let same = one start contents sent parts.first after parts.between h parts.begins in
+      let parts : Cut initial_server_state contents more other end = cut initial_server_state contents more other end k in
+      let same = one initial_server_state contents sent parts.first after parts.between h parts.begins in
       let quiet = silent status parts.between more parts.later end (ap (λ (s : ServerState). s.phase) (sym same.1) ∙ over) parts.goes_on in
       (sym (parts.is ∙ (λ i. sym same.0 i ++ quiet.0 i) ∙ append-nil sent), quiet.1 ∙ sym same.1)
 
@@ -100,7 +101,7 @@ module _ (one : ConversationIsDetermined) (feeds : OneFeed) (taken : List ℕ) w
   all_one r q put other h k =
       let fed = feeds (Open []) r q taken (h.served.answered ++ []) (k.served.answered ++ []) h.served.feeds k.served.feeds in
       let contents : h.served.answered ≡ k.served.answered = sym (append-nil h.served.answered) ∙ fed.0 ∙ append-nil k.served.answered in
-      let same = one start k.served.answered h.served.sent k.served.sent h.after k.after (subst (λ cs. IsConversation start cs h.served.sent h.after) contents h.served.conversation) k.served.conversation in
+      let same = one initial_server_state k.served.answered h.served.sent k.served.sent h.after k.after (subst (λ cs. IsConversation initial_server_state cs h.served.sent h.after) contents h.served.conversation) k.served.conversation in
       (h.served.frames ∙ ap (flat_map frame) same.0 ∙ sym k.served.frames, ap with_rest fed.1)
 
   end_one : (status another : ℕ) (put other : List ℕ) → EndsByExit status taken put → EndsByExit another taken other → (put ≡ other) × (at_exit status ≡ at_exit another)
@@ -108,8 +109,8 @@ module _ (one : ConversationIsDetermined) (feeds : OneFeed) (taken : List ℕ) w
       let fed = (feeds (Open []) h.rest k.rest taken (h.served.answered ++ h.waiting) (k.served.answered ++ k.waiting) h.served.feeds k.served.feeds).0 in
       let same : (h.served.sent ≡ k.served.sent) × (k.after ≡ h.after) =
       elim (begins_other h.served.answered h.waiting k.served.answered k.waiting fed) [
-        | inl (mid, is) ↦ longer status h.served.answered mid h.served.sent k.served.sent h.after k.after h_ended h.served.conversation (subst (λ cs. IsConversation start cs k.served.sent k.after) is k.served.conversation)
-        | inr (mid, is) ↦ (let back = longer another k.served.answered mid k.served.sent h.served.sent k.after h.after k_ended k.served.conversation (subst (λ cs. IsConversation start cs h.served.sent h.after) is h.served.conversation) in (sym back.0, sym back.1))
+        | inl (mid, is) ↦ longer status h.served.answered mid h.served.sent k.served.sent h.after k.after h_ended h.served.conversation (subst (λ cs. IsConversation initial_server_state cs k.served.sent k.after) is k.served.conversation)
+        | inr (mid, is) ↦ (let back = longer another k.served.answered mid k.served.sent h.served.sent k.after h.after k_ended k.served.conversation (subst (λ cs. IsConversation initial_server_state cs h.served.sent h.after) is h.served.conversation) in (sym back.0, sym back.1))
       ] in
       let statuses : status ≡ another = same_status status another (sym h_ended ∙ ap (λ (s : ServerState). s.phase) (sym same.1) ∙ k_ended) in
       (h.served.frames ∙ ap (flat_map frame) same.0 ∙ sym k.served.frames, ap at_exit statuses)
@@ -122,7 +123,7 @@ module _ (one : ConversationIsDetermined) (feeds : OneFeed) (taken : List ℕ) w
   never_both status q put other (h, h_ended) k =
       let fed : h.served.answered ++ h.waiting ≡ k.served.answered =
       (feeds (Open []) h.rest q taken (h.served.answered ++ h.waiting) (k.served.answered ++ []) h.served.feeds k.served.feeds).0 ∙ append-nil k.served.answered in
-      let end : k.after ≡ h.after = (longer status h.served.answered h.waiting h.served.sent k.served.sent h.after k.after h_ended h.served.conversation (subst (λ cs. IsConversation start cs k.served.sent k.after) (sym fed) k.served.conversation)).1 in
+      let end : k.after ≡ h.after = (longer status h.served.answered h.waiting h.served.sent k.served.sent h.after k.after h_ended h.served.conversation (subst (λ cs. IsConversation initial_server_state cs k.served.sent k.after) (sym fed) k.served.conversation)).1 in
       ended_goes_on status k.after (ap (λ (s : ServerState). s.phase) end ∙ h_ended) k.not_ended
 
   one_ending : (e f : Ending) (put other : List ℕ) → EndsIn e taken put → EndsIn f taken other → (put ≡ other) × (e ≡ f)
@@ -183,14 +184,14 @@ further (at_exit status) taken more put closed f (h, ended) =
     let parts = fed_front (Open []) h.rest f.rest taken more (s.answered ++ h.waiting) f.contents s.feeds f.feeds in
     let same : f.contents ≡ s.answered ++ (h.waiting ++ parts.0) = parts.1 ∙ append_assoc s.answered h.waiting parts.0 in
     let served : AnswersAllButWaiting (taken ++ more) (h.waiting ++ parts.0) f.rest h.after put =
-    record { answered = s.answered; sent = s.sent; feeds = subst (λ cs. FeedsStream (Open []) (taken ++ more) cs f.rest) same f.feeds; conversation = s.conversation; frames = s.frames } in
+    record { answered = s.answered; sent = s.sent; feeds = subst (λ cs. PieceAdvancesStream (Open []) (taken ++ more) cs f.rest) same f.feeds; conversation = s.conversation; frames = s.frames } in
     (record { after = h.after; waiting = h.waiting ++ parts.0; rest = f.rest; served = served }, ended)
 further (with_rest Broken) taken more put closed f h =
     let s = h.served in
-    let fed : FeedsStream (Open []) (taken ++ more) ((s.answered ++ []) ++ []) Broken = fed_in_turn (Open []) Broken Broken taken more (s.answered ++ []) [] s.feeds refl in
+    let fed : PieceAdvancesStream (Open []) (taken ++ more) ((s.answered ++ []) ++ []) Broken = fed_in_turn (Open []) Broken Broken taken more (s.answered ++ []) [] s.feeds refl in
     record {
       after = h.after;
-      served = record { answered = s.answered; sent = s.sent; feeds = subst (λ cs. FeedsStream (Open []) (taken ++ more) cs Broken) (append-nil (s.answered ++ [])) fed; conversation = s.conversation; frames = s.frames };
+      served = record { answered = s.answered; sent = s.sent; feeds = subst (λ cs. PieceAdvancesStream (Open []) (taken ++ more) cs Broken) (append-nil (s.answered ++ [])) fed; conversation = s.conversation; frames = s.frames };
       not_ended = h.not_ended;
     }
 further (with_rest (Open left)) taken more put closed f h = absurd closed
@@ -231,24 +232,24 @@ result_is_determined one feeds taken more put all result end of of_too h k (inr 
 
 -- ---- the frames of a conversation
 
-module _ (one : ConversationIsDetermined) (feeds : OneFeed) (taken sent : Contents) (after : ServerState) (talk : IsConversation start taken sent after) (fed : FeedsStream (Open []) (flat_map frame taken) taken (Open [])) where
+module _ (one : ConversationIsDetermined) (feeds : OneFeed) (taken sent : Contents) (after : ServerState) (talk : IsConversation initial_server_state taken sent after) (fed : PieceAdvancesStream (Open []) (flat_map frame taken) taken (Open [])) where
   frames_sent : (put : List ℕ) (e : Ending) → EndsIn e (flat_map frame taken) put → put ≡ flat_map frame sent
   frames_sent put (at_exit status) (h, ended) =
       let s = h.served in
       let parts : taken ≡ s.answered ++ h.waiting = (feeds (Open []) (Open []) h.rest (flat_map frame taken) taken (s.answered ++ h.waiting) fed s.feeds).0 in
-      s.frames ∙ ap (flat_map frame) (longer one feeds (flat_map frame taken) status s.answered h.waiting s.sent sent h.after after ended s.conversation (subst (λ cs. IsConversation start cs sent after) parts talk)).0
+      s.frames ∙ ap (flat_map frame) (longer one feeds (flat_map frame taken) status s.answered h.waiting s.sent sent h.after after ended s.conversation (subst (λ cs. IsConversation initial_server_state cs sent after) parts talk)).0
   frames_sent put (with_rest rest) h =
       let s = h.served in
       let same : taken ≡ s.answered = (feeds (Open []) (Open []) rest (flat_map frame taken) taken (s.answered ++ []) fed s.feeds).0 ∙ append-nil s.answered in
-      s.frames ∙ ap (flat_map frame) (one start s.answered s.sent sent h.after after s.conversation (subst (λ cs. IsConversation start cs sent after) same talk)).0
+      s.frames ∙ ap (flat_map frame) (one initial_server_state s.answered s.sent sent h.after after s.conversation (subst (λ cs. IsConversation initial_server_state cs sent after) same talk)).0
 
 -- a conversation with which a longer input begins
-module _ (one : ConversationIsDetermined) (feeds : OneFeed) (taken sent : Contents) (after : ServerState) (talk : IsConversation start taken sent after) (fed : FeedsStream (Open []) (flat_map frame taken) taken (Open [])) (more : List ℕ) where
+module _ (one : ConversationIsDetermined) (feeds : OneFeed) (taken sent : Contents) (after : ServerState) (talk : IsConversation initial_server_state taken sent after) (fed : PieceAdvancesStream (Open []) (flat_map frame taken) taken (Open [])) (more : List ℕ) where
   -- The answers to more contents begin with the answers to these.
-  goes_on : (mid answered said : Contents) (end : ServerState) → answered ≡ taken ++ mid → IsConversation start answered said end → (later : List ℕ) × (flat_map frame said ≡ flat_map frame sent ++ later)
+  goes_on : (mid answered said : Contents) (end : ServerState) → answered ≡ taken ++ mid → IsConversation initial_server_state answered said end → (later : List ℕ) × (flat_map frame said ≡ flat_map frame sent ++ later)
   goes_on mid answered said end is h =
-      let parts : Cut start taken mid said end = cut start taken mid said end (subst (λ cs. IsConversation start cs said end) is h) in
-      let same = one start taken parts.first sent parts.between after parts.begins talk in
+      let parts : Cut initial_server_state taken mid said end = cut initial_server_state taken mid said end (subst (λ cs. IsConversation initial_server_state cs said end) is h) in
+      let same = one initial_server_state taken parts.first sent parts.between after parts.begins talk in
       (flat_map frame parts.later, ap (flat_map frame) (parts.is ∙ ap (λ cs. cs ++ parts.later) same.0) ∙ flat_map-append frame sent parts.later)
 
   frames_first : (put : List ℕ) (e : Ending) → EndsIn e (flat_map frame taken ++ more) put → (later : List ℕ) × (put ≡ flat_map frame sent ++ later)
@@ -257,7 +258,7 @@ module _ (one : ConversationIsDetermined) (feeds : OneFeed) (taken sent : Conten
       let parts = fed_front (Open []) (Open []) h.rest (flat_map frame taken) more taken (s.answered ++ h.waiting) fed s.feeds in
       elim (begins_other s.answered h.waiting taken parts.0 parts.1) [
         | inl (mid, is) ↦
-            let same = longer one feeds (flat_map frame taken) status s.answered mid s.sent sent h.after after ended s.conversation (subst (λ cs. IsConversation start cs sent after) is talk) in
+            let same = longer one feeds (flat_map frame taken) status s.answered mid s.sent sent h.after after ended s.conversation (subst (λ cs. IsConversation initial_server_state cs sent after) is talk) in
             ([], s.frames ∙ ap (flat_map frame) same.0 ∙ sym (append-nil (flat_map frame sent)))
         | inr (mid, is) ↦ (let found = goes_on mid s.answered s.sent h.after is s.conversation in (found.0, s.frames ∙ found.1))
       ]
@@ -267,23 +268,23 @@ module _ (one : ConversationIsDetermined) (feeds : OneFeed) (taken sent : Conten
       let found = goes_on parts.0 s.answered s.sent h.after (sym (append-nil s.answered) ∙ parts.1) s.conversation in
       (found.0, s.frames ∙ found.1)
 
-pub conversation_is_served_first : ConversationIsDetermined → OneFeed → FeedsStream (Open []) [] [] (Open []) → ((contents : Contents) → All (λ content. length content ≤ max_content_length) contents → Frames (flat_map frame contents) contents []) → ServeAnswersPrefixLikeSession
+pub conversation_is_served_first : ConversationIsDetermined → OneFeed → PieceAdvancesStream (Open []) [] [] (Open []) → ((contents : Contents) → All (λ content. length content ≤ max_content_length) contents → Frames (flat_map frame contents) contents []) → ServeAnswersPrefixLikeSession
 conversation_is_served_first one feeds nothing read taken sent after small talk more put result written served =
     let e = ending_of result (flat_map frame taken ++ more) put written served in
     frames_first one feeds taken sent after talk (read taken small, nothing.1) more put e.0 e.1
 
-pub conversation_is_served : ConversationIsDetermined → OneFeed → FeedsStream (Open []) [] [] (Open []) → ((contents : Contents) → All (λ content. length content ≤ max_content_length) contents → Frames (flat_map frame contents) contents []) → ServeAnswersLikeSession
+pub conversation_is_served : ConversationIsDetermined → OneFeed → PieceAdvancesStream (Open []) [] [] (Open []) → ((contents : Contents) → All (λ content. length content ≤ max_content_length) contents → Frames (flat_map frame contents) contents []) → ServeAnswersLikeSession
 conversation_is_served one feeds nothing read taken sent after small talk put result written served =
     let e = ending_of result (flat_map frame taken) put written served in
     frames_sent one feeds taken sent after talk (read taken small, nothing.1) put e.0 e.1
 
 -- ---- the frames of a conversation that ended
 
-module _ (one : ConversationIsDetermined) (feeds : OneFeed) (taken sent : Contents) (after : ServerState) (status : ℕ) (talk : IsConversation start taken sent after) (over : after.phase ≡ Ended status) (fed : FeedsStream (Open []) (flat_map frame taken) taken (Open [])) (more : List ℕ) where
+module _ (one : ConversationIsDetermined) (feeds : OneFeed) (taken sent : Contents) (after : ServerState) (status : ℕ) (talk : IsConversation initial_server_state taken sent after) (over : after.phase ≡ Ended status) (fed : PieceAdvancesStream (Open []) (flat_map frame taken) taken (Open [])) (more : List ℕ) where
   -- nothing is answered after it
-  nothing_more_said : (mid answered said : Contents) (end : ServerState) → answered ≡ taken ++ mid → IsConversation start answered said end → (sent ≡ said) × (end ≡ after)
+  nothing_more_said : (mid answered said : Contents) (end : ServerState) → answered ≡ taken ++ mid → IsConversation initial_server_state answered said end → (sent ≡ said) × (end ≡ after)
   nothing_more_said mid answered said end is h =
-      longer one feeds (flat_map frame taken) status taken mid sent said after end over talk (subst (λ cs. IsConversation start cs said end) is h)
+      longer one feeds (flat_map frame taken) status taken mid sent said after end over talk (subst (λ cs. IsConversation initial_server_state cs said end) is h)
 
   no_rest : (put : List ℕ) (rest : StreamRest) → AnswersAllContents (flat_map frame taken ++ more) rest put → ⊥
   no_rest put rest h =
@@ -298,7 +299,7 @@ module _ (one : ConversationIsDetermined) (feeds : OneFeed) (taken sent : Conten
       let parts = fed_front (Open []) (Open []) h.rest (flat_map frame taken) more taken (s.answered ++ h.waiting) fed s.feeds in
       let same : (s.sent ≡ sent) × (h.after ≡ after) =
       elim (begins_other s.answered h.waiting taken parts.0 parts.1) [
-        | inl (mid, is) ↦ (let back = longer one feeds (flat_map frame taken) found s.answered mid s.sent sent h.after after ended s.conversation (subst (λ cs. IsConversation start cs sent after) is talk) in (back.0, sym back.1))
+        | inl (mid, is) ↦ (let back = longer one feeds (flat_map frame taken) found s.answered mid s.sent sent h.after after ended s.conversation (subst (λ cs. IsConversation initial_server_state cs sent after) is talk) in (back.0, sym back.1))
         | inr (mid, is) ↦ (let on = nothing_more_said mid s.answered s.sent h.after is s.conversation in (sym on.0, on.1))
       ] in
       (s.frames ∙ ap (flat_map frame) same.0, same_status found status (sym ended ∙ ap (λ (s : ServerState). s.phase) same.1 ∙ over))
@@ -313,6 +314,6 @@ module _ (one : ConversationIsDetermined) (feeds : OneFeed) (taken sent : Conten
   returned put (Err Write) written served = absurd (written.1 refl)
   returned put (Err Memory) written served = absurd (written.0 refl)
 
-pub ended_conversation_is_served : ConversationIsDetermined → OneFeed → FeedsStream (Open []) [] [] (Open []) → ((contents : Contents) → All (λ content. length content ≤ max_content_length) contents → Frames (flat_map frame contents) contents []) → ServeEndsLikeSession
+pub ended_conversation_is_served : ConversationIsDetermined → OneFeed → PieceAdvancesStream (Open []) [] [] (Open []) → ((contents : Contents) → All (λ content. length content ≤ max_content_length) contents → Frames (flat_map frame contents) contents []) → ServeEndsLikeSession
 ended_conversation_is_served one feeds nothing read taken sent after status small talk over more put result written served =
     returned one feeds taken sent after status talk over (read taken small, nothing.1) more put result written served

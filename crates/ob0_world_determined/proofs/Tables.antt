@@ -1,6 +1,7 @@
 -- Proves that two tables of ordinals of one module agree at each token.
--- A table may be longer than a module's list of tokens, so two tables of one module need not be equal as lists. They
--- have the same ordinal at each token: at an identifier by `IsBindingTable`, and none elsewhere by `OnlyIdentifiersHaveOrdinals`.
+-- A table may be longer than the module's list of tokens, so the two tables needn't be equal as
+-- lists. At an identifier they have the same ordinal (`IsBindingTable`), and at any other token
+-- neither has an ordinal (`OnlyIdentifiersHaveOrdinals`).
 use Rattle.std.proofs.Common.{◌≡◌, ◌∙◌, ◌==◌, ◌||◌, ℕ, Bool, true, false, Option, List, [], ◌∷◌, map, refl, sym, ap, subst, eqb-true}
 use Rattle.std.specs.List.{list_any}
 use Rattle.ob0_scan.specs.TextWithTokens.{TextWithTokens}

@@ -8,7 +8,7 @@ use Rattle.ob0_frame.specs.Head.{max_content_length}
 use Rattle.ob0_scope_table.specs.Resolution.{Resolution, IsResolution, ordinal_in}
 use Rattle.ob0_tree.specs.ParsedModule.{ParsedModule, tree_of}
 use Rattle.ob0_analysis.specs.ReportedErrors.{ReportedDiagnosis, ReportsErrorsOf}
-use Rattle.ob0_session_server.specs.Answers.{ServerState, start, Reply, AreContentsOfReply, Answers, IsConversation}
+use Rattle.ob0_session_server.specs.Answers.{ServerState, initial_server_state, Reply, AreContentsOfReply, Answers, IsConversation}
 use Rattle.ob0_session_server.specs.declared.session.Phase.TheVariants.{Ended}
 use Rattle.ob0_session.specs.ServeResults.{EndsByExit, Serves}
 use Rattle.ob0_session.specs.declared.serve_loop.ServeFault.{ServeFault}
@@ -71,8 +71,8 @@ ServeMayReturn result taken put =
 abbrev pub AllOutputIsWritten : Result ℕ ServeFault → Type 0
 AllOutputIsWritten result = (result ≢ Err Memory) × (result ≢ Err Write)
 
--- states that the bytes read determine this result of `serve`: an `exit`, the end of the input, or
--- a bad head ended the call
+-- states that the bytes that `serve` has read determine this result, because an `exit`, the end of
+-- the input or a bad head ended the call
 abbrev pub IsDeterminedByBytes : Result ℕ ServeFault → Type 0
 IsDeterminedByBytes (Ok status) = ⊤
 IsDeterminedByBytes (Err BadHead) = ⊤
@@ -94,10 +94,10 @@ IsFinalResult (Err Write) taken put = ⊥
 IsFinalResult (Err Memory) taken put = ⊥
 
 -- States how the outputs of two calls of `serve` are related if the first call's input is a prefix
--- of the second call's input. If the second call returns neither `Memory` nor `Write`, the first
--- call's output is a prefix of the second call's output. The two outputs are equal if two more
--- conditions hold. First, the first call also returns neither `Memory` nor `Write`. Second, the two
--- inputs are equal, or an `exit` or a bad head ended the first call.
+-- of the second call's input, and the second call returns neither `Memory` nor `Write`. The first
+-- call's output is then a prefix of the second call's output. The outputs are equal if the first
+-- call also returns neither `Memory` nor `Write`, and either the inputs are equal, or an `exit` or
+-- a bad head ended the first call.
 abbrev pub OutputIsDetermined : Type 0
 OutputIsDetermined =
     (taken more put all : List ℕ) (result end : Result ℕ ServeFault) → AllOutputIsWritten end
@@ -106,8 +106,8 @@ OutputIsDetermined =
     × (AllOutputIsWritten result → IsFinalResult result taken put ⊎ (more ≡ []) → unwritten ≡ [])
 
 -- States that two calls of `serve` with the same input return the same result. If an `exit` or a
--- bad head ended the first call, the input of the second call may have further bytes. The law
--- excludes calls that return `Read`, `TooManyReads`, `Write` or `Memory`.
+-- bad head ended the first call, the second call's input may continue after the first call's. The
+-- law excludes calls that return `Read`, `TooManyReads`, `Write` or `Memory`.
 abbrev pub ResultIsDetermined : Type 0
 ResultIsDetermined =
     (taken more put all : List ℕ) (result end : Result ℕ ServeFault)
@@ -115,9 +115,9 @@ ResultIsDetermined =
     → ServeMayReturn result taken put → ServeMayReturn end (taken ++ more) all
     → IsFinalResult result taken put ⊎ (more ≡ []) → result ≡ end
 
--- States that each list of bytes can be split into complete messages with some contents, and a rest
--- (`Frames`). The rest doesn't begin with a complete message. The formula is a double negation: it
--- is impossible that there is no such split.
+-- States that each list of bytes can be split into complete messages and a rest that doesn't begin
+-- with a complete message (`Frames`). The formula is a double negation: it is impossible that there
+-- is no split.
 abbrev pub FramingExists : Type 0
 FramingExists =
     (bytes : List ℕ)
@@ -133,7 +133,7 @@ abbrev pub ServeAnswersLikeSession : Type 0
 ServeAnswersLikeSession =
     (taken sent : List (List ℕ)) (after : ServerState)
     → All (λ content. length content ≤ max_content_length) taken
-    → IsConversation start taken sent after
+    → IsConversation initial_server_state taken sent after
     → (put : List ℕ) (result : Result ℕ ServeFault) → AllOutputIsWritten result
     → ServeMayReturn result (flat_map frame taken) put
     → put ≡ flat_map frame sent
@@ -146,7 +146,7 @@ abbrev pub ServeAnswersPrefixLikeSession : Type 0
 ServeAnswersPrefixLikeSession =
     (taken sent : List (List ℕ)) (after : ServerState)
     → All (λ content. length content ≤ max_content_length) taken
-    → IsConversation start taken sent after
+    → IsConversation initial_server_state taken sent after
     → (more put : List ℕ) (result : Result ℕ ServeFault) → AllOutputIsWritten result
     → ServeMayReturn result (flat_map frame taken ++ more) put
     → (later : List ℕ) × (put ≡ flat_map frame sent ++ later)
@@ -160,7 +160,7 @@ abbrev pub ServeEndsLikeSession : Type 0
 ServeEndsLikeSession =
     (taken sent : List (List ℕ)) (after : ServerState) (status : ℕ)
     → All (λ content. length content ≤ max_content_length) taken
-    → IsConversation start taken sent after
+    → IsConversation initial_server_state taken sent after
     → after.phase ≡ Ended status
     → (more put : List ℕ) (result : Result ℕ ServeFault) → AllOutputIsWritten result
     → ServeMayReturn result (flat_map frame taken ++ more) put

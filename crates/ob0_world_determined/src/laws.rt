@@ -1,11 +1,11 @@
 //! Proves that the server's input determines the server's output, and that `serve` writes the
-//! frames of a conversation: each message's head and content.
+//! frames of the messages that a session sends. A frame is a message's head and content.
 ghost use Rattle.ob0_world_determined.specs.DeterminedOutput.{FramingExists, ServeAnswersLikeSession, ServeAnswersPrefixLikeSession, ServeEndsLikeSession, AnswerIsDetermined, ConversationIsDetermined, DiagnosesAreDetermined, OutputIsDetermined, ReplyContentsAreDetermined, ResultIsDetermined, ResolutionIsDetermined};
 ghost use Rattle.ob0_world_determined.specs.ServeGuarantees.{ServeGuaranteesHoldForEveryExchange};
 
 use ob0_analysis::laws::reported_refusal_is_unique;
 use ob0_frame::laws::{
-    empty_feed_completes_nothing, feeding_is_determined, written_frames_are_read,
+    empty_feed_completes_nothing, feeding_result_is_unique, written_frames_are_read,
 };
 use ob0_scan::laws::{reported_faults_are_unique, scan_is_unique};
 use ob0_world::laws::guarantees_hold_for_every_exchange;
@@ -51,30 +51,30 @@ pub fn conversation_is_determined()
 }
 
 /// Proves how the outputs of two calls of `serve` are related if the first call's input is a prefix
-/// of the second call's input. If the second call returns neither `Memory` nor `Write`, the first
-/// call's output is a prefix of the second call's output. The two outputs are equal if two more
-/// conditions hold. First, the first call also returns neither `Memory` nor `Write`. Second, the
-/// two inputs are equal, or an `exit` or a bad head ended the first call. So it makes no difference
-/// how an input is cut into pieces.
+/// of the second call's input, and the second call returns neither `Memory` nor `Write`. The first
+/// call's output is then a prefix of the second call's output. The outputs are equal if the first
+/// call also returns neither `Memory` nor `Write`, and either the inputs are equal, or an `exit` or
+/// a bad head ended the first call. So it makes no difference how an input is cut into pieces.
 pub fn output_is_determined()
     ensures { OutputIsDetermined }
 {
     conversation_is_determined();
-    feeding_is_determined();
+    feeding_result_is_unique();
 }
 
 /// Proves that two calls of `serve` with the same input return the same result. If an `exit` or a
-/// bad head ended the first call, the input of the second call may have further bytes. The law
-/// excludes calls that return `Read`, `TooManyReads`, `Write` or `Memory`.
+/// bad head ended the first call, the second call's input may continue after the first call's. The
+/// law excludes calls that return `Read`, `TooManyReads`, `Write` or `Memory`.
 pub fn result_is_determined()
     ensures { ResultIsDetermined }
 {
     conversation_is_determined();
-    feeding_is_determined();
+    feeding_result_is_unique();
 }
 
-/// Proves that each list of bytes can be split into complete messages with some contents, and a
-/// rest that doesn't begin with a complete message. So a law about every such split isn't vacuous.
+/// Proves that each list of bytes can be split into complete messages and a rest that doesn't begin
+/// with a complete message. (It is impossible that there is no split.) So a law about all splits
+/// isn't vacuous.
 pub fn framing_exists()
     ensures { FramingExists }
 {}
@@ -87,7 +87,7 @@ pub fn serve_answers_like_session()
     ensures { ServeAnswersLikeSession }
 {
     conversation_is_determined();
-    feeding_is_determined();
+    feeding_result_is_unique();
     empty_feed_completes_nothing();
     written_frames_are_read();
 }
@@ -100,7 +100,7 @@ pub fn serve_answers_prefix_like_session()
     ensures { ServeAnswersPrefixLikeSession }
 {
     conversation_is_determined();
-    feeding_is_determined();
+    feeding_result_is_unique();
     empty_feed_completes_nothing();
     written_frames_are_read();
 }
@@ -114,7 +114,7 @@ pub fn serve_ends_like_session()
     ensures { ServeEndsLikeSession }
 {
     conversation_is_determined();
-    feeding_is_determined();
+    feeding_result_is_unique();
     empty_feed_completes_nothing();
     written_frames_are_read();
 }

@@ -1,4 +1,4 @@
--- Proves which message a content is, once its JSON value is known.
+-- Proves which message a content means if its JSON value is given.
 use Rattle.std.proofs.Common.{◌≡◌, ◌∙◌, ℕ, Bool, true, false, List, refl, Option, Some, None, option_and_then, option_map, cond, ap}
 use Rattle.std.specs.Prelude.{Result, Ok, Err, IfOk}
 use Rattle.std.specs.Str.{is_utf8}
@@ -9,22 +9,22 @@ use Rattle.ob0_text.specs.OpenDocuments.{DocumentEvent, Opened, Changed, Lost, C
 use Rattle.ob0_rpc.specs.Messages.{IsJsonOfContent, meaning_of_message}
 use Rattle.ob0_world_rules.specs.ClientAndServer.{SentAsk, MessageToServer, notifies, requests}
 use Rattle.ob0_world_editor.specs.MessagesToServer.{request_number_from_id, message_to_server_in_content, message_to_server_of_meaning, message_of_notification, notification_for_event, IsMessageToServer}
-use Rattle.ob0_world_editor.specs.MessagesToEditor.{message_to_editor_in_content, message_to_editor_of_value, message_to_editor_by_id_conversion}
+use Rattle.ob0_world_editor.specs.MessagesToEditor.{message_to_editor_in_content, message_to_editor_of_value, message_to_editor_given_numbering}
 
 -- A content in UTF-8 with a known JSON value is read as that value.
 pub said : {M : Type 0} (f : Data → Option M) (content : List ℕ) (d : Data) → IsJsonOfContent content (Some d) → cond (is_utf8 content) (option_and_then f (read content)) None ≡ f d
 said f content d reads = ap (λ b. cond b (option_and_then f (read content)) None) (is_utf8-from_IsUtf8 content reads.0) ∙ ap (option_and_then f) reads.1
 
 -- The editor reads a content with a known JSON value as that value.
-pub read_as : (number_of : Data → Option ℕ) (requested : List SentAsk) (content : List ℕ) (d : Data) → IsJsonOfContent content (Some d) → message_to_editor_by_id_conversion number_of requested content ≡ message_to_editor_of_value number_of requested d
-unfolding message_to_editor_by_id_conversion
+pub read_as : (number_of : Data → Option ℕ) (requested : List SentAsk) (content : List ℕ) (d : Data) → IsJsonOfContent content (Some d) → message_to_editor_given_numbering number_of requested content ≡ message_to_editor_of_value number_of requested d
+unfolding message_to_editor_given_numbering
 read_as number_of requested content d reads = said (message_to_editor_of_value number_of requested) content d reads
 
 pub understood_as : (requested : List SentAsk) (content : List ℕ) (d : Data) → IsJsonOfContent content (Some d) → message_to_editor_in_content requested content ≡ message_to_editor_of_value request_number_from_id requested d
 understood_as requested content d reads = read_as request_number_from_id requested content d reads
 
 pub not_understood : (requested : List SentAsk) (content : List ℕ) → IsJsonOfContent content None → message_to_editor_in_content requested content ≡ None
-unfolding message_to_editor_by_id_conversion
+unfolding message_to_editor_given_numbering
 not_understood requested content reads = go (is_utf8 content) refl
   where
     go : (b : Bool) → is_utf8 content ≡ b → cond b (option_and_then (message_to_editor_of_value request_number_from_id requested) (read content)) None ≡ None

@@ -1,4 +1,5 @@
--- Proves that asks and answers are found by their numbers, and what the editor's calls do with them.
+-- Proves that asks and answers are found by their numbers. Also proves that the calls of the code's
+-- editor that open a document, ask or apply an answer perform the acts of the model's editor.
 use Rattle.std.proofs.Common.{◌≡◌, ◌∙◌, ◌<◌, ◌≤◌, ◌+◌, ℕ, zero, suc, Bool, true, false, cond, List, [], ◌∷◌, ◌++◌, length, take, drop, get_or, map, Option, Some, None, option_map, arith, refl, ap, sym, subst, add-one}
 use Rattle.std.specs.Prelude.{Vec, is_some, unwrap_or, option_and_then, slice_get, ◌==◌}
 use Rattle.std.specs.declared.alloc.Global.{Global}
@@ -85,16 +86,16 @@ comes_dropped e rest k edits held is made =
     go None h = ((refl, refl, refl), refl)
     go (Some done) h = absurd h
 
--- The outcome for an answer whose edits were made is `Made`.
+-- The outcome for an answer whose edits were made is `EditsMade`.
 pub comes_made : (e rest new : Editor) (k : ℕ) (edits : List Replacement) (r : rewritten.RewrittenDocument) (a : applying.ApplyOutcome) → edits_of_answer_to_request k e.answers ≡ Some edits → rest ≡ editor_without_answer e k → RewritesDocumentUnlessBothNone rest (result_of_applying_answer rest k edits) (Some r) → IsRewriteOutcome rest r a new
     → IsApplyOutcome (act_result e (apply k)) (is_some (edits_of_answer_to_request k e.answers)) a new
 comes_made e rest new k edits r applying.TheVariants.NoSuchAnswer held is made applied = absurd applied
 comes_made e rest new k edits r applying.TheVariants.Dropped held is made applied = absurd applied
-comes_made e rest new k edits r (applying.TheVariants.Made a content) held is made applied =
-    subst (λ x. IsApplyOutcome (unwrap_or (option_and_then (result_of_applying_answer (editor_without_answer e k) k) x) (result_without_messages (editor_without_answer e k))) (is_some x) (applying.TheVariants.Made a content) new) (sym held)
-    (go (result_of_applying_answer (editor_without_answer e k) k edits) (subst (λ x. RewritesDocumentUnlessBothNone x (result_of_applying_answer x k edits) (Some r)) is made) (subst (λ x. IsRewriteOutcome x r (applying.TheVariants.Made a content) new) is applied))
+comes_made e rest new k edits r (applying.TheVariants.EditsMade a content) held is made applied =
+    subst (λ x. IsApplyOutcome (unwrap_or (option_and_then (result_of_applying_answer (editor_without_answer e k) k) x) (result_without_messages (editor_without_answer e k))) (is_some x) (applying.TheVariants.EditsMade a content) new) (sym held)
+    (go (result_of_applying_answer (editor_without_answer e k) k edits) (subst (λ x. RewritesDocumentUnlessBothNone x (result_of_applying_answer x k edits) (Some r)) is made) (subst (λ x. IsRewriteOutcome x r (applying.TheVariants.EditsMade a content) new) is applied))
   where
-    go : (o : Option ActResult) → RewritesDocumentUnlessBothNone (editor_without_answer e k) o (Some r) → IsRewriteOutcome (editor_without_answer e k) r (applying.TheVariants.Made a content) new → IsApplyOutcome (unwrap_or o (result_without_messages (editor_without_answer e k))) true (applying.TheVariants.Made a content) new
+    go : (o : Option ActResult) → RewritesDocumentUnlessBothNone (editor_without_answer e k) o (Some r) → IsRewriteOutcome (editor_without_answer e k) r (applying.TheVariants.EditsMade a content) new → IsApplyOutcome (unwrap_or o (result_without_messages (editor_without_answer e k))) true (applying.TheVariants.EditsMade a content) new
     go None h applied = absurd h
     go (Some done) h (is_new, is_applied, says) = (
       (is_new ∙ sym h.text, subst (λ sent. IsSentContent new.requested sent (Some content)) (sym h.says) (says, refl)),

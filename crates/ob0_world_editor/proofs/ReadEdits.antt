@@ -1,5 +1,5 @@
--- Proves by induction on the values of a list that its edits are read: the edits read so far, then the edits of the
--- other values.
+-- Proves the invariant of the loop that reads a list of edits: the edits of the list are the edits
+-- that have been read, followed by the edits of the remaining values.
 use Rattle.std.proofs.Common.{◌≡◌, ◌∙◌, ◌<◌, ◌≤◌, ◌+◌, ℕ, zero, suc, List, [], ◌∷◌, ◌++◌, length, drop, get_or, Option, Some, None, option_map, option_and_then, refl, sym, ap, append_assoc, append-nil, add-one, arith}
 use Rattle.std.proofs.lemmas.List.{map-append}
 use Rattle.std.proofs.Math.Seq.{drop-cons}

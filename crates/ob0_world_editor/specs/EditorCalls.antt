@@ -6,7 +6,7 @@ use Rattle.std.specs.FinMap as map_of
 use Rattle.std.specs.declared.alloc.Global.{Global}
 use Rattle.ob0_text.specs.OpenDocuments.{Changed}
 use Rattle.ob0_world_rules.specs.TextEdits.{Replacement, whole_text_change}
-use Rattle.ob0_world_rules.specs.ClientAndServer.{OpenDocument, SentAsk, Applied, Editor, editor_document_with_uri, MessageToServer, notifies}
+use Rattle.ob0_world_rules.specs.ClientAndServer.{OpenDocument, SentAsk, AppliedEdit, Editor, editor_document_with_uri, MessageToServer, notifies}
 use Rattle.ob0_world_rules.specs.EditorActs.{version_as_natural, ActResult, result_of_changing_text, edits_of_answer_to_request, remove_answer_to_request}
 use Rattle.ob0_world_editor.specs.ModelValues.{model_answer_of, model_applied_edit_of}
 use Rattle.ob0_world_rules.specs.TextEdits.{replacements_of_edits}
@@ -15,8 +15,8 @@ use Rattle.ob0_world_editor.specs.declared.applied_edits.ApplyOutcome as applyin
 use Rattle.ob0_world_editor.specs.declared.editor.ReceivedAnswer as answer
 use Rattle.ob0_world_editor.specs.declared.editor.RewrittenDocument as rewritten
 
--- States that three numbers are less than 2^63 - 1, so that each can still grow by one. They are
--- the number of openings, the number of sent requests, and each open document's version.
+-- States that the number of openings, the number of sent requests, and each open document's version
+-- are less than 2^63 - 1. So each of them can still grow by one.
 pub record CountsCanGrow (e : Editor) : Type 0 where
   pub openings : e.openings < 2 ^ 63 - 1
   pub asks : length e.requested < 2 ^ 63 - 1
@@ -46,12 +46,12 @@ PerformsAct done content new = (new ≡ done.editor) × IsSentContent new.reques
 abbrev pub SendsAndAppliesNothing : ActResult → Editor → Type 0
 SendsAndAppliesNothing done new = (new ≡ done.editor) × (done.sent ≡ []) × (done.applied ≡ [])
 
--- States that the code reports this outcome of an act that applies an answer and has the result
--- `done`. `held` says whether the editor had the answer, and `new` is the editor after the act.
+-- States that this is the outcome of an act that applies an answer and has the result `done`.
+-- `held` says whether the editor had the answer, and `new` is the editor after the act.
 abbrev pub IsApplyOutcome : ActResult → Bool → applying.ApplyOutcome → Editor → Type 0
 IsApplyOutcome done held applying.TheVariants.NoSuchAnswer new = SendsAndAppliesNothing done new × (held ≡ false)
 IsApplyOutcome done held applying.TheVariants.Dropped new = SendsAndAppliesNothing done new × (held ≡ true)
-IsApplyOutcome done held (applying.TheVariants.Made applied content) new =
+IsApplyOutcome done held (applying.TheVariants.EditsMade applied content) new =
     PerformsAct done (Some content) new × (done.applied ≡ model_applied_edit_of applied ∷ []) × (held ≡ true)
 
 -- ---- applying an answer, step by step
@@ -67,11 +67,11 @@ IsIndexOfAnswer answers k (Some i) =
     × (remove_answer_to_request k (map model_answer_of answers) ≡ map model_answer_of (remove answers i))
 IsIndexOfAnswer answers k None = edits_of_answer_to_request k (map model_answer_of answers) ≡ None
 
--- returns the editor `e` with the document of `r` open: with the new text, the version and the
+-- returns the editor `e` after the document of `r` has got the new text, the version and the
 -- opening number in `r`
 abbrev pub editor_with_new_text : Editor → rewritten.RewrittenDocument → Editor
 editor_with_new_text e r =
-    let a : Applied = model_applied_edit_of r.applied in
+    let a : AppliedEdit = model_applied_edit_of r.applied in
     record e {
       documents
           = map_of.insert e.documents a.uri
@@ -81,31 +81,30 @@ editor_with_new_text e r =
 -- returns the notification that gives the server the whole new text of the document of `r`
 abbrev pub new_text_notification : rewritten.RewrittenDocument → MessageToServer
 new_text_notification r =
-    let a : Applied
+    let a : AppliedEdit
     = model_applied_edit_of r.applied in notifies (Changed a.uri (pos r.version) (whole_text_change a.after ∷ []))
 
--- States what the act with the result `done` does. It gives the document the new text in `r`,
--- applies the edit in `r`, and sends the notification of the new text.
+-- States that the act with the result `done` gives the document the new text in `r`, applies the
+-- edit in `r`, and sends the notification of the new text. The version in `r` is less than 2^63.
 pub record RewritesDocument (old : Editor) (done : ActResult) (r : rewritten.RewrittenDocument) : Type 0 where
   pub text : done.editor ≡ editor_with_new_text old r
   pub applied : done.applied ≡ model_applied_edit_of r.applied ∷ []
   pub says : done.sent ≡ new_text_notification r ∷ []
   pub few : r.version < 2 ^ 63
 
--- States that the act gives the document the new text in `r` (`RewritesDocument`). If there is
--- neither an act nor a new text (both are None), this is also true. If only one is None, it is
--- false.
+-- States that the act gives the document the new text in `r` (`RewritesDocument`), or that there is
+-- neither an act nor a new text (both are None). If only one of the two is None, this is false.
 abbrev pub RewritesDocumentUnlessBothNone : Editor → Option ActResult → Option rewritten.RewrittenDocument → Type 0
 RewritesDocumentUnlessBothNone e None None = ⊤
 RewritesDocumentUnlessBothNone e None (Some r) = ⊥
 RewritesDocumentUnlessBothNone e (Some done) None = ⊥
 RewritesDocumentUnlessBothNone e (Some done) (Some r) = RewritesDocument e done r
 
--- returns the result of the act that gives a document this edited text, or None if there is no
--- edited text
+-- returns the result of the act that gives the open document `d` the text `text_after_edits`, or
+-- None if that text is None
 abbrev pub result_of_changing_text_if_edited : Editor → List ℕ → OpenDocument → Option (List ℕ) → Option ActResult
 result_of_changing_text_if_edited e uri d text_after_edits =
-    let applied : List ℕ → Applied = λ text. record { uri = uri; before = d.text; after = text } in
+    let applied : List ℕ → AppliedEdit = λ text. record { uri = uri; before = d.text; after = text } in
     option_map (λ text. result_of_changing_text e uri d text (whole_text_change text ∷ []) (applied text ∷ [])) text_after_edits
 
 -- states that `new` is the editor with the document's new text, and that the content is the
@@ -114,12 +113,12 @@ abbrev pub StoresNewText : Editor → rewritten.RewrittenDocument → Vec ℕ Gl
 StoresNewText old r content new =
     (new ≡ editor_with_new_text old r) × IsMessageToServer new.requested (new_text_notification r) content.items
 
--- States that the outcome has the applied edit in `r` and the content of the notification of the
--- new text. `new` is the editor with that text.
+-- States that the outcome is `EditsMade`, with the applied edit in `r` and the content of the
+-- notification of the new text. `new` is the editor with that text.
 abbrev pub IsRewriteOutcome : Editor → rewritten.RewrittenDocument → applying.ApplyOutcome → Editor → Type 0
 IsRewriteOutcome old r applying.TheVariants.NoSuchAnswer new = ⊥
 IsRewriteOutcome old r applying.TheVariants.Dropped new = ⊥
-IsRewriteOutcome old r (applying.TheVariants.Made applied content) new =
+IsRewriteOutcome old r (applying.TheVariants.EditsMade applied content) new =
     (new ≡ editor_with_new_text old r)
     × (model_applied_edit_of applied ≡ model_applied_edit_of r.applied)
     × IsMessageToServer new.requested (new_text_notification r) content.items

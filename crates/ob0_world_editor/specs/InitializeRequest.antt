@@ -4,7 +4,7 @@ use Rattle.std.specs.Prelude.{true, false, codes}
 use Rattle.serde_json.specs.Data.{Data, boolean, string, array, object, no_items, item, Members, member, no_members}
 use Rattle.ob0_text.specs.declared.position_types.Unit.{Unit}
 use Rattle.ob0_text.specs.declared.position_types.Unit.TheVariants.{Utf16, Utf8}
-use Rattle.ob0_text.specs.Units.{is_utf8}
+use Rattle.ob0_text.specs.Units.{is_utf8_unit}
 use Rattle.ob0_rpc.specs.declared.client_capabilities.ClientFeatures.{ClientFeatures}
 
 -- the capability to accept literal code actions, which contain their edits:
@@ -25,7 +25,7 @@ workspace_edit_capability = object (member (codes "documentChanges") (boolean tr
 abbrev pub workspace_capabilities : Data
 workspace_capabilities = object (member (codes "workspaceEdit") workspace_edit_capability no_members)
 
--- the general capabilities, which offer to count positions in UTF-8:
+-- the general capabilities, which offer to count positions in bytes of UTF-8:
 -- {"positionEncodings":["utf-8"]}
 abbrev pub general_capabilities : Data
 general_capabilities =
@@ -58,7 +58,7 @@ initialize_message unit =
 abbrev pub client_features_for_unit : Unit → ClientFeatures
 client_features_for_unit unit =
     record {
-      offers_utf8 = is_utf8 unit;
+      offers_utf8 = is_utf8_unit unit;
       prepares_renames = false;
       accepts_literal_actions = true;
       accepts_document_changes = true;

@@ -26,15 +26,15 @@ has_no_items no_items = true
 has_no_items (item d ds) = false
 
 -- Returns the publication with this uri, version and list of diagnostics. Returns None if the uri
--- or the list is missing.
+-- or the list is None.
 abbrev pub publication_if_complete : Option (List ℕ) → Option ℤ → Option Items → Option MessageToEditor
 publication_if_complete (Some uri) version (Some diagnostics) =
     Some (publishes uri version (has_no_items diagnostics))
 publication_if_complete (Some uri) version None = None
 publication_if_complete None version diagnostics = None
 
--- Returns the publication that the params of a notification mean. Returns None if the uri or the
--- diagnostics can't be read.
+-- Reads the params of a notification as a publication. Returns None if the uri or the diagnostics
+-- can't be read.
 abbrev pub publication_of_params : Data → Option MessageToEditor
 publication_of_params params =
     publication_if_complete (text_member (codes "uri") params)
@@ -43,36 +43,36 @@ publication_of_params params =
 
 -- ---- edits
 
--- Returns the edit with this range and text, or None if one of them is missing.
+-- Returns the edit with this range and text, or None if either is None.
 abbrev pub edit_if_complete : Option Range → Option (List ℕ) → Option Replacement
 edit_if_complete (Some range) (Some text) = Some (record { range = range; text = chars text })
 edit_if_complete (Some range) None = None
 edit_if_complete None text = None
 
--- Returns the edit that a JSON value means. Returns None if the value can't be read as an edit.
+-- Reads a JSON value as an edit. Returns None if the value can't be read as an edit.
 abbrev pub edit_of_value : Data → Option Replacement
 edit_of_value d = edit_if_complete (range_member (codes "range") d) (text_member (codes "newText") d)
 
--- Returns the edits that a list of JSON values means, in order. Returns None if one of the values
--- can't be read as an edit.
+-- Reads each JSON value of a list as an edit, and returns the edits in order. Returns None if one
+-- of the values can't be read as an edit.
 abbrev pub edits_of_items : Items → Option (List Replacement)
 edits_of_items no_items = Some []
 edits_of_items (item d ds) = option_and_then (λ e. option_map (λ es. e ∷ es) (edits_of_items ds)) (edit_of_value d)
 
--- Returns the list of edits in a WorkspaceEdit. The third argument is the value of the member
--- `documentChanges`, or None if there is no such member. If there is one, the list is in its first
--- element, whose uri is ignored. Otherwise the list is in the member `changes`, under this uri.
--- Returns None if there is no such list.
-abbrev pub edit_items_given_document_changes : List ℕ → Data → Option Data → Option Items
-edit_items_given_document_changes uri edit (Some documents) =
+-- Returns the JSON list of the text edits in a WorkspaceEdit. The third argument is the value of
+-- the member `documentChanges`, or None if the member is missing. If the member exists, the list is
+-- in its first element, whose uri is ignored. Otherwise the list is in the member `changes`, under
+-- this uri. Returns None if the list is missing.
+abbrev pub text_edits_given_document_changes : List ℕ → Data → Option Data → Option Items
+text_edits_given_document_changes uri edit (Some documents) =
     option_and_then as_array (option_and_then (get (codes "edits")) (at 0 documents))
-edit_items_given_document_changes uri edit None =
+text_edits_given_document_changes uri edit None =
     option_and_then as_array (option_and_then (get uri) (get (codes "changes") edit))
 
--- Returns the list of edits in a WorkspaceEdit, or None if there is no such list. The uri is used
--- only if the WorkspaceEdit has no member `documentChanges`.
-abbrev pub workspace_edit_items : List ℕ → Data → Option Items
-workspace_edit_items uri edit = edit_items_given_document_changes uri edit (get (codes "documentChanges") edit)
+-- Returns the JSON list of the text edits in a WorkspaceEdit, or None if the list is missing. The
+-- uri is used only if the WorkspaceEdit has no member `documentChanges`.
+abbrev pub text_edits_in_workspace_edit : List ℕ → Data → Option Items
+text_edits_in_workspace_edit uri edit = text_edits_given_document_changes uri edit (get (codes "documentChanges") edit)
 
 -- Returns the first code action with this title in a JSON list, or None if no action has this
 -- title.
@@ -81,23 +81,23 @@ first_action_with_title title no_items = None
 first_action_with_title title (item d ds) =
     if equals_optional_text title (text_member (codes "title") d) then Some d else first_action_with_title title ds
 
--- Returns the list of edits in the first code action with this title. `workspace_edit_items` reads
--- the list from the action's WorkspaceEdit. `value` is the JSON list of actions. Returns None if
--- there is no such list of edits.
-abbrev pub action_edit_items : List ℕ → List ℕ → Data → Option Items
-action_edit_items title uri value =
-    option_and_then (workspace_edit_items uri)
+-- Returns the JSON list of the text edits in the first code action with this title. `value` is the
+-- JSON list of the actions. `text_edits_in_workspace_edit` finds the text edits in the action's
+-- WorkspaceEdit. Returns None if the action or its list of text edits is missing.
+abbrev pub text_edits_in_action : List ℕ → List ℕ → Data → Option Items
+text_edits_in_action title uri value =
+    option_and_then (text_edits_in_workspace_edit uri)
     (option_and_then (get (codes "edit")) (option_and_then (first_action_with_title title) (as_array value)))
 
--- Returns the list of edits in `value`, the result of an ask (request for edits), or None if there
--- is no such list. The result of a rename is a WorkspaceEdit. The result of an inlining is a list
--- of actions, of which the ask selects one by its title. The result of a formatting is the list of
--- edits.
-abbrev pub edit_items_in_result : List ℕ → Ask → Data → Option Items
-edit_items_in_result uri (rename position name) value = workspace_edit_items uri value
-edit_items_in_result uri (inline_here position) value = action_edit_items (codes "Inline here") uri value
-edit_items_in_result uri (inline_all position) value = action_edit_items (codes "Inline everywhere") uri value
-edit_items_in_result uri (format indent) value = as_array value
+-- Returns the JSON list of the text edits in `value`, the result of an ask (request for edits), or
+-- None if the list is missing. The result of a rename is a WorkspaceEdit. The result of an inlining
+-- is a list of actions, of which the ask selects one by its title. The result of a formatting is
+-- the list of text edits.
+abbrev pub text_edits_in_result : List ℕ → Ask → Data → Option Items
+text_edits_in_result uri (rename position name) value = text_edits_in_workspace_edit uri value
+text_edits_in_result uri (inline_here position) value = text_edits_in_action (codes "Inline here") uri value
+text_edits_in_result uri (inline_all position) value = text_edits_in_action (codes "Inline everywhere") uri value
+text_edits_in_result uri (format indent) value = as_array value
 
 -- Returns the edits in the answer to an ask (request for edits) about the document with this uri.
 -- The list is empty if the answer has no list of edits, for example if it is a refusal or has the
@@ -105,7 +105,7 @@ edit_items_in_result uri (format indent) value = as_array value
 abbrev pub edits_in_answer : List ℕ → Ask → Data → List Replacement
 edits_in_answer uri ask answer =
     unwrap_or
-    (option_and_then edits_of_items (option_and_then (edit_items_in_result uri ask) (get (codes "result") answer))) []
+    (option_and_then edits_of_items (option_and_then (text_edits_in_result uri ask) (get (codes "result") answer))) []
 
 -- Returns the answer to request `k`, with the edits that are read from the JSON value `answer`.
 -- Returns None if the editor has sent no request with this number.
@@ -115,7 +115,7 @@ answer_to_ask requested answer k =
 
 -- Reads a JSON value as the answer to one of the sent requests for edits (`requested`). `number_of`
 -- converts the answer's id to the number of the answered request. Returns None if the id is missing
--- or belongs to no such request.
+-- or doesn't belong to one of these requests.
 abbrev pub answer_of_response : (Data → Option ℕ) → List SentAsk → Data → Option MessageToEditor
 answer_of_response number_of requested answer =
     option_and_then (answer_to_ask requested answer)
@@ -123,30 +123,30 @@ answer_of_response number_of requested answer =
 
 -- ---- messages
 
--- Returns the publication that a notification means. Returns None if the method isn't
+-- Reads a notification as a publication. Returns None if the method isn't
 -- `textDocument/publishDiagnostics`, or if the params can't be read.
 abbrev pub publication_of_notification : Data → Option MessageToEditor
 publication_of_notification d =
     if equals_optional_text (codes "textDocument/publishDiagnostics") (text_member (codes "method") d)
     then option_and_then publication_of_params (get (codes "params") d) else None
 
--- Returns the message to the editor that a JSON value means: a publication if the value has a
--- `method`, otherwise an answer. `number_of` converts an answer's id to the number of the answered
--- request. Returns None if the value is neither.
+-- Reads a JSON value as a message to the editor: as a publication if it has a member `method`,
+-- otherwise as an answer. `number_of` converts an answer's id to the number of the answered
+-- request. Returns None if the value can't be read.
 abbrev pub message_to_editor_of_value : (Data → Option ℕ) → List SentAsk → Data → Option MessageToEditor
 message_to_editor_of_value number_of requested d =
     if is_some (get (codes "method") d)
     then publication_of_notification d else answer_of_response number_of requested d
 
--- Returns the message to the editor in a content, or None if the content has no such message.
--- `requested` lists the requests for edits that the editor has sent. `number_of` converts an
--- answer's id to the number of the answered request.
-unfoldable pub message_to_editor_by_id_conversion : (Data → Option ℕ) → List SentAsk → List ℕ → Option MessageToEditor
-message_to_editor_by_id_conversion number_of requested content =
+-- Returns the message to the editor in a content, or None if the content isn't a message to the
+-- editor. `requested` lists the requests for edits that the editor has sent. `number_of` converts
+-- an answer's id to the number of the answered request.
+unfoldable pub message_to_editor_given_numbering : (Data → Option ℕ) → List SentAsk → List ℕ → Option MessageToEditor
+message_to_editor_given_numbering number_of requested content =
     if is_utf8 content
     then option_and_then (message_to_editor_of_value number_of requested) (read content) else None
 
--- Returns the message to the editor in a content, or None if the content has no such message. The
--- id of each of the editor's requests for edits is the request's number.
+-- Returns the message to the editor in a content, or None if the content isn't a message to the
+-- editor. The id of an answer is the number of the answered request for edits.
 abbrev pub message_to_editor_in_content : List SentAsk → List ℕ → Option MessageToEditor
-message_to_editor_in_content requested content = message_to_editor_by_id_conversion request_number_from_id requested content
+message_to_editor_in_content requested content = message_to_editor_given_numbering request_number_from_id requested content

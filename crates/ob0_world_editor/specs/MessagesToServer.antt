@@ -1,6 +1,6 @@
--- Defines which message of the model a content to the server means. A notification is read by the
--- same definitions that the server uses. A request is identified by its id, which is the number of
--- a sent request for edits.
+-- Defines which message of the model a content to the server means. Notifications are read by the
+-- definitions that the server also uses. The id of a request is the number of a sent request for
+-- edits.
 use Rattle.std.specs.Prelude.{◌≡◌, ⊤, ℕ, List, Option, Some, None, Ok, option_and_then, option_map, if◌then◌else◌}
 use Rattle.std.specs.Str.{is_utf8}
 use Rattle.serde_json.specs.Data.{Data, null, boolean, number, string, array, object, unsigned, negative, float}
@@ -63,7 +63,7 @@ message_to_server_in_content requested content =
     then option_and_then (λ d. message_to_server_of_meaning requested (meaning_of_message d)) (read content)
     else None
 
--- ---- messages as the server reads them, and the contents that hold them
+-- ---- messages as the server reads them, and their contents
 
 -- returns the notification about this event of a document, in the form in which the server reads it
 abbrev pub notification_for_event : DocumentEvent → NotificationMeaning

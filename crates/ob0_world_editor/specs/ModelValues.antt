@@ -10,7 +10,7 @@ use Rattle.ob0_world_editor.specs.declared.message_reader.ServerMessage as messa
 use Rattle.ob0_world_editor.specs.declared.applied_edits.Applied as applied
 use Rattle.ob0_world_rules.specs.TextEdits.{replacements_of_edits}
 use Rattle.ob0_world_rules.specs.Asks.{Ask, rename, inline_here, inline_all, format}
-use Rattle.ob0_world_rules.specs.ClientAndServer.{SentAsk, ReceivedAnswer, Applied, MessageToEditor, publishes, answers}
+use Rattle.ob0_world_rules.specs.ClientAndServer.{SentAsk, ReceivedAnswer, AppliedEdit, MessageToEditor, publishes, answers}
 
 -- converts a request for edits from the code's type `Ask` to the model's type `Ask`
 abbrev pub model_ask_of : ask.Ask → Ask
@@ -40,8 +40,8 @@ model_message_of (message.TheVariants.Published uri version empty) =
     publishes (string_bytes uri) version empty
 model_message_of (message.TheVariants.Answered number edits) = answers number (replacements_of_edits edits.items)
 
--- converts an applied edit from the code's type `Applied` to the model's type `Applied`
-abbrev pub model_applied_edit_of : applied.Applied → Applied
+-- converts an applied edit from the code's type `Applied` to the model's type `AppliedEdit`
+abbrev pub model_applied_edit_of : applied.Applied → AppliedEdit
 model_applied_edit_of a =
     record {
       uri = string_bytes a.uri;

@@ -18,16 +18,16 @@ pub struct Applied {
 pub enum ApplyOutcome {
     /// The editor has no answer to the request with this number.
     NoSuchAnswer,
-    /// The answer was discarded and its edits weren't made. The document has been changed, closed
-    /// or reopened since the request, or two edits share a character.
+    /// The answer was discarded and its edits weren't made, because the document has been changed,
+    /// closed or reopened since the request, or because two edits share a character.
     Dropped,
-    /// The edits were made. `applied` is the applied edit, and `content` is the content of the
-    /// notification that tells the server the new text.
-    Made { applied: Applied, content: Vec<u8> },
+    /// The edits were made. `applied` records the uri and the text before and after the edits.
+    /// `content` is the content of the notification that gives the server the new text.
+    EditsMade { applied: Applied, content: Vec<u8> },
 }
 
-/// Returns a record of an applied edit: copies of the uri and of `before`, the text before the
-/// edit, and the text `after`.
+/// Returns the record of an applied edit, with copies of the uri and of the text before the edit.
+/// The text after the edit is moved, not copied.
 pub fn applied_edit(
     alloc: Global,
     uri: &str,

@@ -73,8 +73,8 @@ impl OpenDocuments {
         self.by_uri.get(uri)
     }
 
-    /// Opens a document under this uri, or replaces the open one. If an allocation fails, the
-    /// documents are unchanged.
+    /// Opens a document under this uri, or replaces the document that is open under it. If an
+    /// allocation fails, the documents are unchanged.
     pub fn open_or_replace(
         &mut self,
         alloc: Global,

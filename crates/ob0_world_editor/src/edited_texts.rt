@@ -1,5 +1,5 @@
-//! Applies changes and edits to a text. Changes are made one after another, and edits are all made
-//! in the same text.
+//! Applies changes and edits to a text. Changes are made one after another. The ranges of edits all
+//! refer to the same text.
 ghost use Rattle.std.specs.Prelude.{◌≡◌, Some, map, IfOk, OnOk, string_bytes};
 ghost use Rattle.std.specs.Option.{option_map};
 ghost use Rattle.std.specs.Str.{chars};
@@ -10,8 +10,8 @@ ghost use Rattle.ob0_world_rules.specs.TextEdits.{replacements_of_edits};
 use ob0_text::{Change, Edit, PatchFault, TextStore, Unit, patch};
 use std::alloc::{AllocError, Global};
 
-/// Returns the text after these changes, each made in the text that results from the previous one.
-/// Positions are counted in `unit`.
+/// Returns the text after these changes, each made in the text that results from the previous
+/// change. Positions are counted in `unit`.
 pub fn apply_changes<T: TextStore>(
     alloc: Global,
     unit: Unit,
@@ -48,8 +48,8 @@ fn apply_change_to_store<T: TextStore>(
     Ok(())
 }
 
-/// Returns the text after all these edits, whose ranges all refer to the given text. Returns None
-/// if two edits share a character.
+/// Returns the text after all these edits, whose ranges all refer to the given text. Positions are
+/// counted in `unit`. Returns None if two edits share a character.
 pub fn apply_edits<T: TextStore>(
     alloc: Global,
     unit: Unit,

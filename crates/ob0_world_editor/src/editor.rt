@@ -1,13 +1,12 @@
 //! Models an editor that talks to a server: its documents, its requests for edits, and its unused
 //! answers.
 //!
-//! If a call returns an error, the editor is unchanged. To ensure this, a call first makes all
-//! contents and copies. The last step that can fail is an insertion into the map of documents or
-//! into a list. Other fields are changed only after that step. The exception is `apply_answer`,
-//! which first removes the answer. So after an error in `apply_answer` the editor has lost the
-//! answer.
+//! If a call other than `apply_answer` returns an error, the editor is unchanged. To ensure this, a
+//! call first makes all contents and copies. The last step that can fail is an insertion into the
+//! map of documents or into a list. Other fields are changed only after that step. `apply_answer`
+//! removes the answer first, so if it returns an error, the editor has lost the answer.
 //!
-//! A document's text is stored as a `String`. A text store is made only while changes or edits are
+//! A document's text is stored as a `String`. A text store exists only while changes or edits are
 //! applied. So the editor needs no invariant about the units of text stores.
 ghost use Rattle.std.specs.Prelude.{◌≡◌, IfOk, OnOk, OnErr, map, option_map, is_some, ◌<◌, ◌-◌, ◌^◌, pos, string_bytes};
 ghost use Rattle.std.specs.Str.{chars};
@@ -186,7 +185,7 @@ impl Editor {
         Ok(Some(content))
     }
 
-    /// Returns the message in a content that the server has sent. Returns None if the content is
+    /// Reads the message in a content that the server has sent. Returns None if the content is
     /// neither a publication nor an answer to one of the editor's requests for edits.
     pub fn read(&self, content: &[u8]) -> Result<Option<ServerMessage>, AllocError>
         ensures { IfOk result
@@ -210,10 +209,10 @@ impl Editor {
         Ok(true)
     }
 
-    /// Makes the edits of the answer to request `k`, and returns the applied edit with the content
-    /// of the notification. No edit is made if the editor has no such answer, or if two edits share
-    /// a character. The same holds if the document has been changed, closed or reopened since the
-    /// request. The answer is always removed, even if an allocation fails.
+    /// Makes the edits of the answer to request `k`, and returns the outcome. No edit is made if
+    /// the editor doesn't have the answer, if the document has been changed, closed or reopened
+    /// since the request, or if two edits share a character. The answer is always removed, even if
+    /// an allocation fails.
     pub fn apply_answer(&mut self, k: u64) -> Result<ApplyOutcome, AllocError>
         requires { CountsCanGrow self.old }
         ensures ok { IfOk result (λ applying. IsApplyOutcome (act_result self.old (apply k))
@@ -299,9 +298,9 @@ impl Editor {
         }))
     }
 
-    /// Stores the new text in `rewritten` as its document's text. Returns the applied edit, and the
-    /// content of the notification that tells the server this text. If an allocation fails, the
-    /// editor is unchanged.
+    /// Gives the document of `rewritten` its new text. Returns the applied edit, and the content of
+    /// the notification that gives the server this text. If an allocation fails, the editor is
+    /// unchanged.
     fn store_rewritten_document(
         &mut self,
         rewritten: RewrittenDocument,
@@ -312,14 +311,14 @@ impl Editor {
         ensures err { OnErr result (self.new ≡ self.old) }
     {
         let content = self.store_new_text(&rewritten)?;
-        Ok(ApplyOutcome::Made {
+        Ok(ApplyOutcome::EditsMade {
             applied: rewritten.applied,
             content,
         })
     }
 
-    /// Stores a copy of the new text in `rewritten` as its document's text. Returns the content of
-    /// the notification that tells the server this text. If an allocation fails, the editor is
+    /// Gives the document of `rewritten` a copy of its new text. Returns the content of the
+    /// notification that gives the server this text. If an allocation fails, the editor is
     /// unchanged.
     fn store_new_text(&mut self, rewritten: &RewrittenDocument) -> Result<Vec<u8>, AllocError>
         requires { rewritten.now.version < 2 ^ 63 }
@@ -337,8 +336,8 @@ impl Editor {
     }
 }
 
-/// Returns a record of the request for edits `ask`, with copies of the request and of the uri. The
-/// text, the opening number and the version are the present ones of `document`.
+/// Returns the record of the request for edits `ask`. The record has copies of the request, of the
+/// uri and of the document's text, and the document's present opening number and version.
 fn sent_ask_for_document(
     alloc: Global,
     ask: &Ask,

@@ -6,14 +6,14 @@ ghost use Rattle.ob0_world_editor.specs.InitializeRequest.{client_capability_mem
 
 use crate::json_objects::{write_three_members, write_two_members};
 use crate::params::Request;
-use ob0_rpc::{OneMemberObject, WriteJson, content_of};
+use ob0_rpc::{OneMemberObject, WriteJson, content_of_message};
 use ob0_text::Unit;
 use std::alloc::{AllocError, Global};
 
 /// Returns the content of the request `initialize`, which begins a conversation. The client
-/// declares two capabilities. It accepts literal code actions, which contain their edits. And it
-/// accepts edits that mention their documents' versions. If the unit is UTF-8, the client also
-/// offers to count positions in UTF-8.
+/// declares that it accepts literal code actions, which contain their edits, and edits that mention
+/// their documents' versions. If the unit is UTF-8, the client also offers to count positions in
+/// bytes of UTF-8.
 pub fn initialize(alloc: Global, unit: Unit) -> Result<Vec<u8>, AllocError>
     ensures { IfOk result (λ content. IsJsonOfContent content.items
         (Some (initialize_message unit))) }
@@ -24,7 +24,7 @@ pub fn initialize(alloc: Global, unit: Unit) -> Result<Vec<u8>, AllocError>
         value: capabilities,
     };
     let (id, method) = ("initialize", "initialize");
-    content_of(alloc, &Request { id, method, params })
+    content_of_message(alloc, &Request { id, method, params })
 }
 
 /// The capabilities of the client, as a JSON value.

@@ -6,7 +6,7 @@ ghost use Rattle.ob0_rpc.specs.Members.{text_member};
 ghost use Rattle.ob0_world_editor.specs.ModelValues.{model_message_of, model_ask_of, model_sent_ask_of};
 ghost use Rattle.ob0_world_rules.specs.TextEdits.{replacement_of_edit, replacements_of_edits};
 ghost use Rattle.ob0_world_editor.specs.MessagesToServer.{request_number_from_id};
-ghost use Rattle.ob0_world_editor.specs.MessagesToEditor.{message_to_editor_in_content, message_to_editor_of_value, publication_of_params, answer_of_response, has_no_items, edit_of_value, edits_of_items, workspace_edit_items, equals_optional_text, first_action_with_title, action_edit_items, edit_items_in_result as items_of_answer, edits_in_answer};
+ghost use Rattle.ob0_world_editor.specs.MessagesToEditor.{message_to_editor_in_content, message_to_editor_of_value, publication_of_params, answer_of_response, has_no_items, edit_of_value, edits_of_items, text_edits_in_workspace_edit, equals_optional_text, first_action_with_title, text_edits_in_action, text_edits_in_result as items_of_answer, edits_in_answer};
 ghost use Rattle.ob0_world_rules.specs.ClientAndServer.{sent_ask_with_number};
 
 use crate::asks::Ask;
@@ -32,7 +32,7 @@ pub enum ServerMessage {
     },
 }
 
-/// Returns the message in a content. `requested` lists the requests for edits that the editor has
+/// Reads the message in a content. `requested` lists the requests for edits that the editor has
 /// sent. Returns None if the content is neither a publication nor the answer to one of these
 /// requests.
 pub fn read_message(
@@ -174,7 +174,7 @@ fn read_answer_edits(
         (λ edits. replacements_of_edits edits.items
         ≡ edits_in_answer uri.now (model_ask_of ask.now) (view answer.now)) }
 {
-    let Some(values) = answer_edit_values(uri, ask, answer) else {
+    let Some(values) = text_edits_in_answer(uri, ask, answer) else {
         return Ok(Vec::new(alloc));
     };
     match read_edit_list(alloc, values)? {
@@ -183,7 +183,7 @@ fn read_answer_edits(
     }
 }
 
-fn answer_edit_values<'v>(uri: &str, ask: &Ask, answer: &'v Value) -> Option<&'v Vec<Value>>
+fn text_edits_in_answer<'v>(uri: &str, ask: &Ask, answer: &'v Value) -> Option<&'v Vec<Value>>
     ensures { option_map (λ v. items_view v.now.items) result
         ≡ option_and_then (items_of_answer uri.now (model_ask_of ask.now))
         (get (codes "result") (view answer.now)) }
@@ -193,23 +193,23 @@ fn answer_edit_values<'v>(uri: &str, ask: &Ask, answer: &'v Value) -> Option<&'v
         Ask::Rename {
             position: _position,
             name: _name,
-        } => workspace_edit_values(result, uri),
+        } => text_edits_in_workspace_edit(result, uri),
         Ask::InlineHere {
             position: _position,
-        } => action_edit_values(result, "Inline here", uri),
+        } => text_edits_in_action(result, "Inline here", uri),
         Ask::InlineAll {
             position: _position,
-        } => action_edit_values(result, "Inline everywhere", uri),
+        } => text_edits_in_action(result, "Inline everywhere", uri),
         Ask::Format { indent: _indent } => result.as_array(),
     }
 }
 
-/// Returns the list of edits in a WorkspaceEdit. If there is a member `documentChanges`, the list
-/// is in its first element, whose uri is ignored. Otherwise the list is in `changes`, under this
-/// uri. Returns None if there is no such list.
-fn workspace_edit_values<'v>(edit: &'v Value, uri: &str) -> Option<&'v Vec<Value>>
+/// Returns the JSON list of the text edits in a WorkspaceEdit. If there is a member
+/// `documentChanges`, the list is in the member's first element, whose uri is ignored. Otherwise
+/// the list is in the member `changes`, under this uri. Returns None if the list is missing.
+fn text_edits_in_workspace_edit<'v>(edit: &'v Value, uri: &str) -> Option<&'v Vec<Value>>
     ensures { option_map (λ v. items_view v.now.items) result
-        ≡ workspace_edit_items uri.now (view edit.now) }
+        ≡ text_edits_in_workspace_edit uri.now (view edit.now) }
 {
     match edit.get("documentChanges") {
         Some(documents) => documents.get(0)?.get("edits")?.as_array(),
@@ -217,14 +217,15 @@ fn workspace_edit_values<'v>(edit: &'v Value, uri: &str) -> Option<&'v Vec<Value
     }
 }
 
-/// Returns the list of edits in the first code action with this title. `workspace_edit_values`
-/// reads the list from the action's WorkspaceEdit. Returns None if there is no such list.
-fn action_edit_values<'v>(actions: &'v Value, title: &str, uri: &str) -> Option<&'v Vec<Value>>
+/// Returns the JSON list of the text edits in the first code action with this title.
+/// `text_edits_in_workspace_edit` finds the list in the action's WorkspaceEdit. Returns None if the action
+/// or the list is missing.
+fn text_edits_in_action<'v>(actions: &'v Value, title: &str, uri: &str) -> Option<&'v Vec<Value>>
     ensures { option_map (λ v. items_view v.now.items) result
-        ≡ action_edit_items title.now uri.now (view actions.now) }
+        ≡ text_edits_in_action title.now uri.now (view actions.now) }
 {
     let action = action_with_title(actions.as_array()?, title)?;
-    workspace_edit_values(action.get("edit")?, uri)
+    text_edits_in_workspace_edit(action.get("edit")?, uri)
 }
 
 fn action_with_title<'v>(actions: &'v [Value], title: &str) -> Option<&'v Value>
@@ -251,8 +252,8 @@ fn has_string_member(value: &Value, name: &str, text: &str) -> bool
 
 // ---- edits
 
-/// Returns the edits that a list of JSON values means, in order. Returns None if one of the values
-/// can't be read as an edit.
+/// Reads each JSON value of a list as an edit, and returns the edits in order. Returns None if one
+/// of the values can't be read as an edit.
 fn read_edit_list(alloc: Global, values: &[Value]) -> Result<Option<Vec<Edit>>, AllocError>
     ensures { IfOk result (λ found. option_map (λ edits. replacements_of_edits edits.items) found
         ≡ edits_of_items (items_view values.now)) }

@@ -15,7 +15,7 @@ use crate::params::{
     FormattingOptions, FormattingParams, RenameParams, Request, TextDocumentItem,
     VersionedDocumentId,
 };
-use ob0_rpc::{OneMemberObject, WriteJson, content_of, notification_text};
+use ob0_rpc::{OneMemberObject, WriteJson, content_of_message, notification_text};
 use ob0_text::Change;
 use std::alloc::{AllocError, Global};
 
@@ -59,8 +59,8 @@ pub fn did_change_notification(
     )
 }
 
-/// Returns the content of the notification that the whole text of a document was replaced by this
-/// text.
+/// Returns the content of the notification that this text has replaced the whole text of a
+/// document.
 pub fn whole_text_notification(
     alloc: Global,
     uri: &str,
@@ -94,8 +94,9 @@ pub fn did_close_notification(alloc: Global, uri: &str) -> Result<Vec<u8>, Alloc
     )
 }
 
-/// Returns the content of the request for the edits `ask` of a document. The request has this
-/// number as its id. Both kinds of inlining request the code actions at the position in `ask`.
+/// Returns the content of a message that makes the request for edits `ask`. The message has this
+/// number as its id. For both kinds of inlining, it requests the code actions at the position in
+/// `ask`.
 pub fn request_for_edits(
     alloc: Global,
     number: u64,
@@ -145,5 +146,5 @@ fn request_content<P: WriteJson>(
         → Writes (request_message number method.now (P.value params.now)) content.items) }
 {
     let id = number;
-    content_of(alloc, &Request { id, method, params })
+    content_of_message(alloc, &Request { id, method, params })
 }

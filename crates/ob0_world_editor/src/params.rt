@@ -88,7 +88,7 @@ impl<'a> WriteJson for TextDocumentItem<'a> {
     }
 }
 
-/// The new text of a range, or of the whole document if there is no range.
+/// A change of a document: the new text of a range, or of the whole document if the range is None.
 #[derive(Drop)]
 pub struct ContentChange<'a> {
     pub range: Option<Range>,
@@ -219,8 +219,8 @@ impl<'a> WriteJson for CodeActionParams<'a> {
     }
 }
 
-/// The formatting options of a request: whether a level of indentation consists of spaces
-/// (otherwise it is a tab), and the number of spaces.
+/// The formatting options of a request. If `insert_spaces` is true, a level of indentation consists
+/// of `tab_size` spaces, otherwise of one tab.
 #[derive(Drop)]
 pub struct FormattingOptions {
     pub insert_spaces: bool,

@@ -1,5 +1,5 @@
--- Proves that an ask about a text has at most one answer.
--- By cases of the ask: two answers to it are both edits, both empty, or one of each, which can't be.
+-- Proves that an ask about a text has at most one answer. The proof is by cases of the ask: two
+-- answers both have the requested edits, or both are empty. One of each is impossible.
 use Rattle.std.proofs.Common.{◌≡◌, ◌∙◌, ℕ, List, sym, ap, inl, inr}
 use Rattle.ob0_text.specs.declared.edits.Edit.{Edit}
 use Rattle.ob0_text.specs.declared.position_types.Position.{Position}
@@ -9,7 +9,7 @@ use Rattle.ob0_edits.specs.declared.inline_question.InliningKind.TheVariants.{On
 use Rattle.ob0_edits.specs.InliningEdits.{IsInliningRefusedInText}
 use Rattle.ob0_world_rules.specs.TextEdits.{replacements_of_edits}
 use Rattle.ob0_world_rules.specs.Asks.{Ask, rename, inline_here, inline_all, format, clamped_indent}
-use Rattle.ob0_world_rules.specs.Answers.{position_offset, InlinesConstantAtPosition, AreRequestedEdits, RefusesAsk}
+use Rattle.ob0_world_rules.specs.Answers.{position_offset, InlinesConstantAtPosition, AreRequestedEdits, ServerRefusesAsk}
 use Rattle.ob0_world_rules.specs.Laws.{AnswersAreUnique}
 use Rattle.ob0_world_rules.proofs.KeptRuns.{answer_edits_preserve_run}
 use Rattle.ob0_world_rules.proofs.OneLayout.{lays_out_one, lays_out_or_long}
@@ -29,7 +29,7 @@ hands_out_one unit text (inline_here position) xs ys h k = inlines_at_one OneUse
 hands_out_one unit text (inline_all position) xs ys h k = inlines_at_one Everywhere unit text position xs ys h k
 hands_out_one unit text (format indent) xs ys h k = lays_out_one unit (clamped_indent indent) text xs ys h k
 
-hands_out_or_refuses : (unit : Unit) (text : List ℕ) (ask : Ask) (xs : List Edit) → AreRequestedEdits unit text ask xs → RefusesAsk unit text ask → ⊥
+hands_out_or_refuses : (unit : Unit) (text : List ℕ) (ask : Ask) (xs : List Edit) → AreRequestedEdits unit text ask xs → ServerRefusesAsk unit text ask → ⊥
 hands_out_or_refuses unit text (rename position name) xs h k = renames_or_refused unit text position name xs k.0 h k.1
 hands_out_or_refuses unit text (inline_here position) xs h k = inlines_at_or_refused OneUse unit text position xs h k
 hands_out_or_refuses unit text (inline_all position) xs h k = inlines_at_or_refused Everywhere unit text position xs h k

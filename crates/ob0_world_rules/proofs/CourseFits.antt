@@ -1,6 +1,7 @@
--- Proves that a list of events can't be without a course if its asks have answers. The results of the editor's acts are
--- functions. The server publishes a list that is empty or not, according to whether the text is a module, and an ask
--- has an answer.
+-- Proves that a list of events can't be without a course if its asks always have answers. An act of
+-- the editor has a result, because `act_result` is a function. The server can always publish: the
+-- list is empty exactly if the text is a well-typed module. It can always answer an ask, by the
+-- condition.
 use Rattle.std.proofs.Common.{◌≡◌, Bool, true, false, cond, ℕ, List, [], ◌∷◌, ◌++◌, refl, sym, subst}
 use Rattle.std.specs.Prelude.{⊤, All, Option, Some, None, is_some, unwrap_or, option_and_then}
 use Rattle.std.proofs.lemmas.List.Elements.{All-nil, All-push, All-head, All-tail, All-append}
@@ -9,11 +10,11 @@ use Rattle.ob0_text.specs.OpenDocuments.{OpenDocuments, Document, InStep, OutOfS
 use Rattle.ob0_world_rules.specs.TextEdits.{Replacement, text_after_changes}
 use Rattle.ob0_world_rules.specs.Asks.{Ask}
 use Rattle.ob0_world_rules.specs.Answers.{IsAnswerForDocument, NoDiagnosticsExactlyIfWellTyped}
-use Rattle.ob0_world_rules.specs.ClientAndServer.{OpenDocument, Editor, editor_document_with_uri, MessageToServer, notifies, requests, MessageToEditor, publishes, answers, PublicationWithText, ClientAndServer, start, documents_after_message}
+use Rattle.ob0_world_rules.specs.ClientAndServer.{OpenDocument, Editor, editor_document_with_uri, MessageToServer, notifies, requests, MessageToEditor, publishes, answers, PublicationWithText, ClientAndServer, initial_client_and_server, documents_after_message}
 use Rattle.ob0_world_rules.specs.EditorActs.{EditorAct, open_document, change_document, close_document, request_edits, apply, discard, ActResult, result_without_messages, result_of_opening_document, result_of_changing_text, result_of_closing_document, result_of_sending_ask, edits_of_answer_to_request, editor_without_answer, result_of_applying_answer, act_result}
-use Rattle.ob0_world_rules.specs.ServerReplies.{SendsDiagnostics, RepliesToMessage}
+use Rattle.ob0_world_rules.specs.ServerReplies.{ServerSendsDiagnostics, ServerRepliesToMessage}
 use Rattle.ob0_world_rules.specs.Events.{Event, editor_acts, serve, take_message, state_after_act, state_after_editor_takes_message, ServerTakesFirstMessage, EventLeadsTo, IsCourse}
-use Rattle.ob0_world_rules.specs.Laws.{AlwaysHasAnswer, HasAnswerIfAsk, CourseExistsIfAsksHaveAnswers}
+use Rattle.ob0_world_rules.specs.Laws.{AlwaysHasAnswer, AlwaysHasAnswerIfAsk, CourseExistsIfAsksHaveAnswers}
 use Rattle.ob0_world_rules.proofs.PerformsAct.{applied_so}
 
 -- ---- asks have answers
@@ -30,7 +31,7 @@ note_sent : (note : DocumentEvent) → All CanBeReplied (notifies note ∷ [])
 note_sent note = All-push CanBeReplied [] (notifies note) none_sent tt
 
 -- Each message that an act sends can be replied to if the act's ask has answers.
-act_sends : (e : Editor) (act : EditorAct) → HasAnswerIfAsk (editor_acts act) → All CanBeReplied (act_result e act).sent
+act_sends : (e : Editor) (act : EditorAct) → AlwaysHasAnswerIfAsk (editor_acts act) → All CanBeReplied (act_result e act).sent
 act_sends e (open_document uri text) h = go (is_some (editor_document_with_uri e uri))
   where
     go : (b : Bool) → All CanBeReplied (cond b (result_without_messages e) (result_of_opening_document e uri text)).sent
@@ -66,7 +67,7 @@ act_sends e (discard k) h = none_sent
 
 -- ---- the server's replies
 
-publish_fits : (uri : List ℕ) (o : Option Document) → ((said : List MessageToEditor) (made : List PublicationWithText) → SendsDiagnostics uri o said made → ⊥) → ⊥
+publish_fits : (uri : List ℕ) (o : Option Document) → ((said : List MessageToEditor) (made : List PublicationWithText) → ServerSendsDiagnostics uri o said made → ⊥) → ⊥
 publish_fits uri (Some (InStep version text)) none =
     replies false (λ no. absurd (differ no), λ fits. absurd (replies true (λ yes'. fits, λ f. refl)))
   where
@@ -83,7 +84,7 @@ answer_fits unit (Some (InStep version text)) ask h none = h unit text none
 answer_fits unit (Some OutOfStep) ask h none = none [] refl
 answer_fits unit None ask h none = none [] refl
 
-reply_fits : (held : OpenDocuments) (m : MessageToServer) → CanBeReplied m → ((said : List MessageToEditor) (made : List PublicationWithText) → RepliesToMessage held m said made → ⊥) → ⊥
+reply_fits : (held : OpenDocuments) (m : MessageToServer) → CanBeReplied m → ((said : List MessageToEditor) (made : List PublicationWithText) → ServerRepliesToMessage held m said made → ⊥) → ⊥
 reply_fits held (notifies (Opened uri version text)) h none = publish_fits uri (document_at (documents_after_event held (Opened uri version text)) uri) none
 reply_fits held (notifies (Changed uri version how)) h none = publish_fits uri (document_at (documents_after_event held (Changed uri version how)) uri) none
 reply_fits held (notifies (Lost uri)) h none = none [] [] (refl, refl)
@@ -106,17 +107,17 @@ taken : (w : ClientAndServer) (queue : List MessageToEditor) → All CanBeReplie
 taken w [] waiting = waiting
 taken w (m ∷ rest) waiting = waiting
 
-event_fits : (e : Event) (w : ClientAndServer) → HasAnswerIfAsk e → All CanBeReplied w.to_server → ((new : ClientAndServer) → EventLeadsTo w e new → All CanBeReplied new.to_server → ⊥) → ⊥
+event_fits : (e : Event) (w : ClientAndServer) → AlwaysHasAnswerIfAsk e → All CanBeReplied w.to_server → ((new : ClientAndServer) → EventLeadsTo w e new → All CanBeReplied new.to_server → ⊥) → ⊥
 event_fits (editor_acts act) w h waiting none =
     none (state_after_act w (act_result w.editor act)) refl (All-append CanBeReplied w.to_server (act_result w.editor act).sent waiting (act_sends w.editor act h))
 event_fits serve w h waiting none = serve_fits w w.to_server refl waiting none
 event_fits take_message w h waiting none = none (state_after_editor_takes_message w w.to_editor) refl (taken w w.to_editor waiting)
 
-fits : (events : List Event) (w : ClientAndServer) → All HasAnswerIfAsk events → All CanBeReplied w.to_server → ((end : ClientAndServer) → IsCourse w events end → ⊥) → ⊥
+fits : (events : List Event) (w : ClientAndServer) → All AlwaysHasAnswerIfAsk events → All CanBeReplied w.to_server → ((end : ClientAndServer) → IsCourse w events end → ⊥) → ⊥
 fits [] w all waiting none = none w refl
 fits (e ∷ events) w all waiting none =
-    event_fits e w (All-head HasAnswerIfAsk e events all) waiting
-    (λ new happens still. fits events new (All-tail HasAnswerIfAsk e events all) still (λ end course. none end (new, happens, course)))
+    event_fits e w (All-head AlwaysHasAnswerIfAsk e events all) waiting
+    (λ new happens still. fits events new (All-tail AlwaysHasAnswerIfAsk e events all) still (λ end course. none end (new, happens, course)))
 
 pub course_exists_if_asks_have_answers : CourseExistsIfAsksHaveAnswers
-course_exists_if_asks_have_answers unit events all none = fits events (start unit) all none_sent none
+course_exists_if_asks_have_answers unit events all none = fits events (initial_client_and_server unit) all none_sent none

@@ -1,5 +1,5 @@
--- Proves that an event leads to at most one state, since an ask has at most one answer, and so a list of events has at
--- most one course.
+-- Proves that an event leads to at most one state, because an ask has at most one answer. So a list
+-- of events also leads to at most one state.
 use Rattle.std.proofs.Common.{◌≡◌, ◌∙◌, ℕ, Bool, true, false, List, [], ◌∷◌, ◌++◌, refl, sym, ap, subst}
 use Rattle.std.specs.Prelude.{◌↔◌, IsTrue, ℤ, Option, Some, None}
 use Rattle.ob0_text.specs.declared.position_types.Unit.{Unit}
@@ -9,7 +9,7 @@ use Rattle.ob0_world_rules.specs.TextEdits.{Replacement}
 use Rattle.ob0_world_rules.specs.Asks.{Ask}
 use Rattle.ob0_world_rules.specs.Answers.{IsAnswerForDocument}
 use Rattle.ob0_world_rules.specs.ClientAndServer.{MessageToServer, notifies, requests, MessageToEditor, publishes, answers, PublicationWithText, ClientAndServer, documents_after_message}
-use Rattle.ob0_world_rules.specs.ServerReplies.{SendsDiagnostics, RepliesToNotification, RepliesToMessage}
+use Rattle.ob0_world_rules.specs.ServerReplies.{ServerSendsDiagnostics, ServerRepliesToNotification, ServerRepliesToMessage}
 use Rattle.ob0_world_rules.specs.Events.{Event, editor_acts, serve, take_message, ServerTakesFirstMessage, EventLeadsTo, IsCourse}
 use Rattle.ob0_world_rules.proofs.AnswerIsDetermined.{answers_are_unique}
 
@@ -22,14 +22,14 @@ same_truth false false P p q = refl
 abbrev made_with : List ℕ → ℤ → List ℕ → Bool → PublicationWithText
 made_with uri version text empty = record { uri = uri; version = version; text = text; no_diagnostics = empty }
 
-publishes_one : (uri : List ℕ) (o : Option Document) (said also : List MessageToEditor) (made more : List PublicationWithText) → SendsDiagnostics uri o said made → SendsDiagnostics uri o also more → (said ≡ also) × (made ≡ more)
+publishes_one : (uri : List ℕ) (o : Option Document) (said also : List MessageToEditor) (made more : List PublicationWithText) → ServerSendsDiagnostics uri o said made → ServerSendsDiagnostics uri o also more → (said ≡ also) × (made ≡ more)
 publishes_one uri (Some (InStep version text)) said also made more (e, right, is_said, is_made) (f, right_too, is_also, is_more) =
     let same : e ≡ f = same_truth e f (WellTypedText text) right right_too in
     (is_said ∙ ap (λ b. publishes uri (Some version) b ∷ []) same ∙ sym is_also, is_made ∙ ap (λ b. made_with uri version text b ∷ []) same ∙ sym is_more)
 publishes_one uri (Some OutOfStep) said also made more h k = (h.0 ∙ sym k.0, h.1 ∙ sym k.1)
 publishes_one uri None said also made more h k = (h.0 ∙ sym k.0, h.1 ∙ sym k.1)
 
-reports_one : (held : OpenDocuments) (note : DocumentEvent) (said also : List MessageToEditor) (made more : List PublicationWithText) → RepliesToNotification held note said made → RepliesToNotification held note also more → (said ≡ also) × (made ≡ more)
+reports_one : (held : OpenDocuments) (note : DocumentEvent) (said also : List MessageToEditor) (made more : List PublicationWithText) → ServerRepliesToNotification held note said made → ServerRepliesToNotification held note also more → (said ≡ also) × (made ≡ more)
 reports_one held (Opened uri version text) said also made more h k = publishes_one uri (document_at (documents_after_event held (Opened uri version text)) uri) said also made more h k
 reports_one held (Changed uri version how) said also made more h k = publishes_one uri (document_at (documents_after_event held (Changed uri version how)) uri) said also made more h k
 reports_one held (Lost uri) said also made more h k = (h.0 ∙ sym k.0, h.1 ∙ sym k.1)
@@ -40,7 +40,7 @@ answers_one unit (Some (InStep version text)) ask given other h k = answers_are_
 answers_one unit (Some OutOfStep) ask given other h k = h ∙ sym k
 answers_one unit None ask given other h k = h ∙ sym k
 
-sends_one : (held : OpenDocuments) (m : MessageToServer) (said also : List MessageToEditor) (made more : List PublicationWithText) → RepliesToMessage held m said made → RepliesToMessage held m also more → (said ≡ also) × (made ≡ more)
+sends_one : (held : OpenDocuments) (m : MessageToServer) (said also : List MessageToEditor) (made more : List PublicationWithText) → ServerRepliesToMessage held m said made → ServerRepliesToMessage held m also more → (said ≡ also) × (made ≡ more)
 sends_one held (notifies note) said also made more h k = reports_one held note said also made more h k
 sends_one held (requests number uri ask) said also made more (given, h, is_said, is_made) (other, k, is_also, is_more) =
     let same : given ≡ other = answers_one held.unit (document_at held uri) ask given other h k in

@@ -1,4 +1,5 @@
--- Proves that the code's edits, read as values of the type Replacement, make the text that they patch.
+-- Proves that the text after edits is the same by `text_after_edits` (with values of the type
+-- `Replacement`) and by `patched_text` (with the code's type `Edit`).
 use Rattle.std.proofs.Common.{ap}
 use mathlib.Core.List.{map-map}
 use Rattle.ob0_text.specs.Units.{width_of}

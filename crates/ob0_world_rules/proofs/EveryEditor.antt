@@ -1,5 +1,5 @@
--- Proves the guarantees for every editor that keeps ob0's rules. Apart from other messages, its moves keep the
--- invariant of the model's acts.
+-- Proves the guarantees for every editor that keeps ob0's rules. Each turn keeps the invariant of
+-- the model, if the messages outside the model are left out of the queues.
 use Rattle.std.proofs.Common.{◌≡◌, ◌∙◌, ℕ, suc, ◌+◌, cond, List, [], ◌∷◌, ◌++◌, map, length, append-nil, append_assoc, refl, sym, ap, subst}
 use Rattle.std.specs.Prelude.{ℤ, All, Option, Some, None, option_map}
 use Rattle.std.specs.FinMap as map_of
@@ -10,7 +10,7 @@ use Rattle.ob0_text.specs.declared.position_types.Unit.{Unit}
 use Rattle.ob0_text.specs.OpenDocuments.{OpenDocuments, Opened, Changed, Closed, document_at}
 use Rattle.ob0_world_rules.specs.WellTypedTexts.{WellTypedText, SameRun}
 use Rattle.ob0_world_rules.specs.TextEdits.{text_after_edits}
-use Rattle.ob0_world_rules.specs.ClientAndServer.{OpenDocument, SentAsk, Editor, editor_document_with_uri, MessageToServer, notifies, requests, MessageToEditor, Applied, ClientAndServer, documents_after_message}
+use Rattle.ob0_world_rules.specs.ClientAndServer.{OpenDocument, SentAsk, Editor, editor_document_with_uri, MessageToServer, notifies, requests, MessageToEditor, AppliedEdit, ClientAndServer, documents_after_message}
 use Rattle.ob0_world_rules.specs.EditorActs.{ActResult, result_without_messages, result_of_closing_document, result_of_sending_ask, editor_without_answer}
 use Rattle.ob0_world_rules.specs.Events.{state_after_act, ServerTakesFirstMessage}
 use Rattle.ob0_world_rules.specs.MirroredDocuments.{documents_after_waiting_messages, in_step_document}
@@ -63,7 +63,7 @@ module _ (unit : Unit) where
       }
 
   -- A move that sends no message keeps the invariant.
-  none_sent : (w : EditorAndServer) (e : Editor) (applied : List Applied) → Good w → Kept unit (state_after_act (model_state_of w) (record { editor = e; sent = []; applied = applied })) → Good (state_after_move w (record { editor = e; sent = []; applied = applied }) [])
+  none_sent : (w : EditorAndServer) (e : Editor) (applied : List AppliedEdit) → Good w → Kept unit (state_after_act (model_state_of w) (record { editor = e; sent = []; applied = applied })) → Good (state_after_move w (record { editor = e; sent = []; applied = applied }) [])
   none_sent w e applied good kept =
       let done : ActResult = record { editor = e; sent = []; applied = applied } in
       record {
@@ -77,7 +77,7 @@ module _ (unit : Unit) where
       }
 
   -- A move that sends one message keeps the invariant.
-  one_sent : (w : EditorAndServer) (e : Editor) (m : MessageToServer) (announced : List AnnouncedDocument) (applied : List Applied) → Good w → Kept unit (state_after_act (model_state_of w) (record { editor = e; sent = m ∷ []; applied = applied }))
+  one_sent : (w : EditorAndServer) (e : Editor) (m : MessageToServer) (announced : List AnnouncedDocument) (applied : List AppliedEdit) → Good w → Kept unit (state_after_act (model_state_of w) (record { editor = e; sent = m ∷ []; applied = applied }))
       → ((held : OpenDocuments) → ((uri : List ℕ) → document_at (documents_after_message held m) uri ≡ option_map in_step_document (editor_document_with_uri e uri)) → Awaits held m announced)
       → map uri_and_version_of announced ≡ uri_and_version_announced_by_message m
       → Good (state_after_move w (record { editor = e; sent = m ∷ []; applied = applied }) announced)
@@ -113,7 +113,7 @@ module _ (unit : Unit) where
       (λ held mirror. (Some d, put_there held w.editor uri d m mirror, refl))
       refl
 
-  revisions_good : (revisions : List Revision) (w : EditorAndServer) (uri : List ℕ) (new : Editor) (announced : List AnnouncedDocument) (applied : List Applied) → Good w → RevisesDocument w.editor uri revisions new announced → All PreservesRun applied
+  revisions_good : (revisions : List Revision) (w : EditorAndServer) (uri : List ℕ) (new : Editor) (announced : List AnnouncedDocument) (applied : List AppliedEdit) → Good w → RevisesDocument w.editor uri revisions new announced → All PreservesRun applied
       → Good (state_after_move w (record { editor = new; sent = notifications_of_revisions uri revisions; applied = applied }) announced)
   revisions_good [] w uri new announced applied good (is, none) keeps =
       subst (λ ts. Good (state_after_move w (record { editor = new; sent = []; applied = applied }) ts)) (sym none)
@@ -148,7 +148,7 @@ module _ (unit : Unit) where
       let same : known.requested.text ≡ a.document.text = ap (λ (x : SentAsk). x.text) asked ∙ sym a.same_text in
       let keep : EditsPreserveRun unit a.document.text a.edits = subst (λ text. EditsPreserveRun unit text a.edits) same known.holds in
       let is : keep.after ≡ a.text = same_Some keep.after a.text (sym keep.makes ∙ ap (λ u. text_after_edits u a.document.text a.edits) (sym good.kept.counts) ∙ a.makes) in
-      let applied : Applied = record { uri = a.requested.uri; before = a.document.text; after = a.text } in
+      let applied : AppliedEdit = record { uri = a.requested.uri; before = a.document.text; after = a.text } in
       let keeps : PreservesRun applied = record { before_is_well_typed = keep.before_is_well_typed; after_is_well_typed = subst WellTypedText is keep.after_is_well_typed; same = subst (SameRun a.document.text) is keep.same } in
       let without : EditorAndServer = record w { editor = e } in
       let so : Good without =

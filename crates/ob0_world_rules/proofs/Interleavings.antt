@@ -14,9 +14,9 @@ use Rattle.ob0_text.proofs.EntryLaws.{updated-some, updated-none}
 use Rattle.ob0_world_rules.specs.TextEdits.{Replacement}
 use Rattle.ob0_world_rules.specs.Asks.{Ask}
 use Rattle.ob0_world_rules.specs.Answers.{IsAnswerForDocument}
-use Rattle.ob0_world_rules.specs.ClientAndServer.{OpenDocument, SentAsk, ReceivedAnswer, editor_document_with_uri, MessageToServer, notifies, requests, MessageToEditor, publishes, answers, PublicationWithText, ClientAndServer, start, documents_after_message}
+use Rattle.ob0_world_rules.specs.ClientAndServer.{OpenDocument, SentAsk, ReceivedAnswer, editor_document_with_uri, MessageToServer, notifies, requests, MessageToEditor, publishes, answers, PublicationWithText, ClientAndServer, initial_client_and_server, documents_after_message}
 use Rattle.ob0_world_rules.specs.EditorActs.{result_without_messages, result_of_closing_document, result_of_sending_ask, remove_answer_to_request, editor_without_answer}
-use Rattle.ob0_world_rules.specs.ServerReplies.{SendsDiagnostics, RepliesToNotification, RepliesToMessage}
+use Rattle.ob0_world_rules.specs.ServerReplies.{ServerSendsDiagnostics, ServerRepliesToNotification, ServerRepliesToMessage}
 use Rattle.ob0_world_rules.specs.Events.{state_after_act, state_after_editor_takes_message, ServerTakesFirstMessage}
 use Rattle.ob0_world_rules.specs.EditorMoves.{result_of_opening_given_document}
 use Rattle.ob0_world_rules.specs.EveryEditor.{notifications_in_queue}
@@ -151,7 +151,7 @@ module _ (unit : Unit) where
       (subst (λ m. Sound asked held [] made m) (sym none_made)
       (record { fit = All-nil (AnswerFits unit asked); right = All-nil IsCorrectPublication; now = subst (AreLatest held) (sym (append-nil made)) now }))
 
-  publish_sound : (asked : List SentAsk) (held : OpenDocuments) (uri : List ℕ) (o : Option Document) (said : List MessageToEditor) (made more : List PublicationWithText) → document_at held uri ≡ o → Others held uri made → SendsDiagnostics uri o said more → Sound asked held said made more
+  publish_sound : (asked : List SentAsk) (held : OpenDocuments) (uri : List ℕ) (o : Option Document) (said : List MessageToEditor) (made more : List PublicationWithText) → document_at held uri ≡ o → Others held uri made → ServerSendsDiagnostics uri o said more → Sound asked held said made more
   publish_sound asked held uri (Some (InStep version text)) said made more at others (empty, right, is_said, is_made) =
       let m : PublicationWithText = record { uri = uri; version = version; text = text; no_diagnostics = empty } in
       subst (λ s. Sound asked held s made more) (sym is_said)
@@ -210,7 +210,7 @@ module _ (unit : Unit) where
       go true h = absurd (none-some (InStep version text) h)
       go false h = now q version text h
 
-  note_sound : (asked : List SentAsk) (held : OpenDocuments) (note : DocumentEvent) (said : List MessageToEditor) (made more : List PublicationWithText) → AreLatest held made → RepliesToNotification held note said more → Sound asked (documents_after_event held note) said made more
+  note_sound : (asked : List SentAsk) (held : OpenDocuments) (note : DocumentEvent) (said : List MessageToEditor) (made more : List PublicationWithText) → AreLatest held made → ServerRepliesToNotification held note said more → Sound asked (documents_after_event held note) said made more
   note_sound asked held (Opened uri version text) said made more now h =
       publish_sound asked (documents_after_event held (Opened uri version text)) uri (document_at (documents_after_event held (Opened uri version text)) uri) said made more refl (put_others held uri (InStep version text) made now) h
   note_sound asked held (Changed uri version how) said made more now h =
@@ -235,7 +235,7 @@ module _ (unit : Unit) where
   abbrev Meets : List SentAsk → OpenDocuments → MessageToServer → Type 0
   Meets asked held m = AsksSee asked held (m ∷ [])
 
-  message_sound : (asked : List SentAsk) (held : OpenDocuments) (m : MessageToServer) (said : List MessageToEditor) (made more : List PublicationWithText) → held.unit ≡ unit → Meets asked held m → AreLatest held made → RepliesToMessage held m said more → Sound asked (documents_after_message held m) said made more
+  message_sound : (asked : List SentAsk) (held : OpenDocuments) (m : MessageToServer) (said : List MessageToEditor) (made more : List PublicationWithText) → held.unit ≡ unit → Meets asked held m → AreLatest held made → ServerRepliesToMessage held m said more → Sound asked (documents_after_message held m) said made more
   message_sound asked held (notifies note) said made more same_unit meets now h = note_sound asked held note said made more now h
   message_sound asked held (requests k uri ask) said made more same_unit meets now (edits, may, is_said, is_made) =
       let quiet : Sound asked held [] made more = silent asked held made [] more refl is_made now in
@@ -284,7 +284,7 @@ module _ (unit : Unit) where
   nothing_at : {X : Type 0} (q : List ℕ) (x : X) (P : Type 0) → map_of.get (map_of.empty {X = X} {R = slice_cmp nat_cmp}) q ≡ Some x → P
   nothing_at q x P h = absurd (none-some x (sym (map_of.get-empty (slice_cmp nat_cmp) q) ∙ h))
 
-  pub start_kept : Both (start unit)
+  pub start_kept : Both (initial_client_and_server unit)
   start_kept = (
     record {
       counts = refl;

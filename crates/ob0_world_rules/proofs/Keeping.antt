@@ -11,7 +11,7 @@ use Rattle.ob0_text.specs.declared.position_types.Unit.{Unit}
 use Rattle.ob0_text.specs.OpenDocuments.{OpenDocuments, InStep, document_with_text, DocumentEvent, Opened, Changed, Lost, Closed, TextChange, documents_after_event, changed_document, document_at}
 use Rattle.ob0_text.proofs.EntryLaws.{updated-some}
 use Rattle.ob0_world_rules.specs.TextEdits.{Replacement, text_after_changes}
-use Rattle.ob0_world_rules.specs.ClientAndServer.{OpenDocument, SentAsk, ReceivedAnswer, editor_document_with_uri, MessageToServer, notifies, requests, MessageToEditor, publishes, answers, Applied, ClientAndServer, documents_after_message}
+use Rattle.ob0_world_rules.specs.ClientAndServer.{OpenDocument, SentAsk, ReceivedAnswer, editor_document_with_uri, MessageToServer, notifies, requests, MessageToEditor, publishes, answers, AppliedEdit, ClientAndServer, documents_after_message}
 use Rattle.ob0_world_rules.specs.EditorActs.{ActResult, edits_of_answer_to_request}
 use Rattle.ob0_world_rules.specs.Events.{state_after_act}
 use Rattle.ob0_world_rules.specs.MirroredDocuments.{documents_after_waiting_messages, in_step_document, ServerWillMirrorEditor}
@@ -141,7 +141,7 @@ change_mirrors w uri d new how mirror same_unit was_open is q =
     ∙ put_mirror w uri new mirror q
 
 -- Giving an open document another version and text keeps the invariant if the server is sent the changes.
-pub revise_kept : (unit : Unit) (w : ClientAndServer) (uri : List ℕ) (d new : OpenDocument) (how : List TextChange) (applied : List Applied) → Kept unit w → editor_document_with_uri w.editor uri ≡ Some d
+pub revise_kept : (unit : Unit) (w : ClientAndServer) (uri : List ℕ) (d new : OpenDocument) (how : List TextChange) (applied : List AppliedEdit) → Kept unit w → editor_document_with_uri w.editor uri ≡ Some d
     → text_after_changes w.editor.unit (Some d.text) how ≡ Some new.text → All PreservesRun applied
     → Kept unit (state_after_act w (record { editor = record w.editor { documents = map_of.insert w.editor.documents uri new }; sent = notifies (Changed uri new.version how) ∷ []; applied = applied }))
 revise_kept unit w uri d new how applied kept was_open is keeps =

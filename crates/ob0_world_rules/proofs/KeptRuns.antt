@@ -1,4 +1,4 @@
--- Proves that the edits of an answer keep the run of the text.
+-- Proves that the edits of an answer keep the run of the text's module.
 use Rattle.std.proofs.Common.{◌≡◌, ◌∙◌, ℕ, List, [], sym, subst, inl, inr}
 use Rattle.std.specs.Prelude.{◌⊎◌, Some}
 use Rattle.ob0_text.specs.declared.edits.Edit.{Edit}

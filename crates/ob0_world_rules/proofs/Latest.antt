@@ -1,4 +1,4 @@
--- Proves which publication is the last for a uri after one more publication.
+-- Proves which publication for a uri is the last after one more publication.
 use Rattle.std.proofs.Common.{◌≡◌, ℕ, ℤ, cond, List, [], ◌∷◌, ◌++◌}
 use Rattle.std.specs.Prelude.{Option, Some, None, MatchOption}
 use Rattle.std.specs.Str.{bytes_eq}

@@ -1,11 +1,12 @@
--- Proves that the model's editor keeps ob0's rules: each of its acts is a move that it may make, or changes nothing.
+-- Proves that the model's editor keeps ob0's rules: each of its acts is an allowed move, or changes
+-- nothing.
 use Rattle.std.proofs.Common.{◌≡◌, ◌∙◌, ℕ, ◌+◌, cond, inl, inr, List, [], ◌∷◌, ◌++◌, map, append-nil, append_assoc, refl, sym, ap, subst}
 use Rattle.std.specs.Prelude.{◌⊎◌, ℤ, pos, Some}
 use Rattle.std.proofs.lemmas.List.{map-append}
 use Rattle.ob0_text.specs.declared.position_types.Unit.{Unit}
 use Rattle.ob0_text.specs.OpenDocuments.{TextChange, changed_text}
 use Rattle.ob0_world_rules.specs.TextEdits.{Replacement, text_after_edits, whole_text_change, text_after_changes}
-use Rattle.ob0_world_rules.specs.ClientAndServer.{OpenDocument, EditorDocuments, SentAsk, Editor, sent_ask_with_number, editor_document_with_uri, MessageToServer, MessageToEditor, publishes, answers, ClientAndServer, start, documents_after_message}
+use Rattle.ob0_world_rules.specs.ClientAndServer.{OpenDocument, EditorDocuments, SentAsk, Editor, sent_ask_with_number, editor_document_with_uri, MessageToServer, MessageToEditor, publishes, answers, ClientAndServer, initial_client_and_server, documents_after_message}
 use Rattle.ob0_world_rules.specs.EditorActs.{EditorAct, ActResult, next_version, result_without_messages, result_of_opening_document, result_of_changing_text, edits_of_answer_to_request, editor_without_answer, act_result, editor_after_message}
 use Rattle.ob0_world_rules.specs.Events.{Event, editor_acts, serve, take_message, state_after_act, state_after_editor_takes_message, ServerTakesFirstMessage, EventLeadsTo, IsCourse}
 use Rattle.ob0_world_rules.specs.Headline.{GuaranteesHold}
@@ -232,7 +233,7 @@ as_it_is w announced i = record w { to_server = others_none w.to_server i; to_ed
 
 pub model_editor_keeps_rules : ModelEditorKeepsRules
 model_editor_keeps_rules unit events end run =
-    let led : Led (start unit) [] events end = course_comes events (start unit) [] end (knows_first unit) run in
+    let led : Led (initial_client_and_server unit) [] events end = course_comes events (initial_client_and_server unit) [] end (knows_first unit) run in
     (led.comes.turns, from_model end led.more, led.comes.lead, as_it_is end led.more)
 
 -- The laws of the model's editor follow from the laws of every editor.
@@ -248,12 +249,12 @@ server_mirrors_editor unit events end run =
 
 pub publications_are_in_order : PublicationsAreInOrder
 publications_are_in_order unit events end run =
-    let led : Led (start unit) [] events end = course_comes events (start unit) [] end (knows_first unit) run in
+    let led : Led (initial_client_and_server unit) [] events end = course_comes events (initial_client_and_server unit) [] end (knows_first unit) run in
     let holds : GuaranteesHoldForEditorAndServer (from_model end led.more) = guarantees_hold_for_every_editor unit led.comes.turns (from_model end led.more) led.comes.lead in
     record {
       announced = holds.published;
       waiting = holds.waiting;
-      all = subst (EventsAnnounceDocuments (start unit) events) holds.all led.are;
+      all = subst (EventsAnnounceDocuments (initial_client_and_server unit) events) holds.all led.are;
       are_made_for_documents = holds.are_made_for_documents;
-      unpublished_are_queued = λ other too. holds.unpublished_are_queued ∙ ap uris_and_versions_announced_in_queue (others_none end.to_server) ∙ ap (λ (x : ClientAndServer). uris_and_versions_announced_in_queue x.to_server) (course_is_determined (start unit) events end other run too);
+      unpublished_are_queued = λ other too. holds.unpublished_are_queued ∙ ap uris_and_versions_announced_in_queue (others_none end.to_server) ∙ ap (λ (x : ClientAndServer). uris_and_versions_announced_in_queue x.to_server) (course_is_determined (initial_client_and_server unit) events end other run too);
     }

@@ -1,4 +1,5 @@
--- Proves that a text's tree by its lexemes is its tree by the tokens that the parser read.
+-- Proves that a text has a given tree according to its lexemes exactly if it has that tree
+-- according to the parser's tokens.
 use Rattle.std.proofs.Common.{◌≡◌, ◌∙◌, ℕ, List, [], ◌∷◌, ◌++◌, map, refl, sym, subst}
 use Rattle.std.specs.Prelude.{◌≤◌, length}
 use Rattle.std.specs.List.{flat_map}

@@ -1,7 +1,8 @@
--- Proves that the fields of a module's text are one list, whichever table of ordinals its names were read with.
--- Two tables of ordinals agree only at identifiers, so the proof doesn't compare the tables. It writes each field's
--- name longer by the ordinal of its record. The module with these names is the same for both tables (`IsOwnerTable`), and
--- each identifier's record is read from its name.
+-- Proves that a module's text has one list of fields, whichever table of ordinals is used.
+-- Two tables of ordinals agree only at identifiers, so the proof doesn't compare the tables.
+-- Instead it puts the ordinal of the field's record in front of the name of each field. The module
+-- with these names is the same for both tables (`IsOwnerTable`), and each identifier's record can
+-- be read from its name.
 use Rattle.std.proofs.Common.{◌≡◌, ◌≢◌, ◌∙◌, ℕ, suc, ◌+◌, ◌<◌, ◌≤◌, Option, Some, None, List, [], ◌∷◌, map, length, replicate, set, refl, sym, ap, subst, arith, le_refl, get_or-set_other, get_or-set_same}
 use Rattle.std.proofs.Math.ListN.{length-set}
 use Rattle.std.proofs.lemmas.List.{get_or-replicate, length-replicate}

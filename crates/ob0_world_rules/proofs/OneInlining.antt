@@ -1,7 +1,8 @@
--- Proves that a constant is inlined in at most one way at a place: two lists of edits are equal, and there are no edits
--- if inlining is refused.
--- Token, constant and value are determined by the place. The occurrence is determined since tokens of occurrences
--- ascend (`one_place`). So the first refusal and the parts of the edits are equal.
+-- Proves that a constant is inlined in at most one way at a place: two lists of edits are equal,
+-- and there are no edits if the inlining is refused.
+-- The place determines the token, the constant and its value. It also determines the occurrence,
+-- because the tokens of the occurrences are in ascending order (`one_place`). So the first refusal
+-- and the parts of the edits are equal.
 use Rattle.std.proofs.Common.{◌≡◌, ◌∙◌, ℕ, nat_lt, Option, Some, None, List, [], ◌∷◌, map, length, drop, slice_get, sym, ap, inl, inr, eq-eqb, eqb-true}
 use Rattle.std.specs.Prelude.{Ok, Err, Vec, if◌then◌else◌}
 use Rattle.std.specs.List.{filter, list_any, position_from, zip}
@@ -20,9 +21,9 @@ use Rattle.ob0_tree.proofs.Leaves.{leaves_ascend, occurrences_ascend}
 use Rattle.ob0_edits_tokens.specs.Ranges.{range_of}
 use Rattle.ob0_edits_tokens.specs.Removals.{span_of_tokens, text_after_removal_and_replacement}
 use Rattle.ob0_edits_tokens.specs.Replacements.{replacement_at_token, range_and_text, text_after_replacement}
-use Rattle.ob0_language_names.specs.Inlining.{inlined, inlined_everywhere_and_removed, single_occurrence}
+use Rattle.ob0_language_names.specs.Inlining.{inlined, module_with_constant_inlined_everywhere, set_of_one_occurrence}
 use Rattle.ob0_language_names.specs.Names.{declared, same_ordinal_label}
-use Rattle.ob0_language_names.specs.Occurrences.{bindings}
+use Rattle.ob0_language_names.specs.Occurrences.{labels_of_occurrences}
 use Rattle.ob0_scope_table.specs.Resolution.{declaring_names, declaration_token}
 use Rattle.ob0_language_values.specs.declared.scalar.Scalar.{Scalar}
 use Rattle.ob0_language_values.specs.declared.scalar.Scalar.TheVariants as scalar
@@ -60,7 +61,7 @@ named_with token ordinal = record { token = token; ordinal = ordinal }
 abbrev refused_at : TextWithTokens → Tree ℕ module_text → ℕ → ℕ → Scalar → Option EditRefusal
 refused_at s t token occurrence value =
     if nat_lt max_text_length (length (text_after_replacement s (token ∷ []) (value_text value))) then Some TooLong
-    else if nat_lt 100 (nesting (inlined (tree_with_names s t) (single_occurrence occurrence) (value_factor value))) then Some TooDeep
+    else if nat_lt 100 (nesting (inlined (tree_with_names s t) (set_of_one_occurrence occurrence) (value_factor value))) then Some TooDeep
     else if value_text_keeps_meaning (tree_with_names s t) occurrence value then None
     else Some Shadowed
 
@@ -114,12 +115,12 @@ module _ {m n : ParsedModule} (e : Same m n) (parsed : TreeMatchesText n) (unit 
 -- ---- everywhere
 
 abbrev uses_in : TextWithTokens → Tree ℕ module_text → ℕ → List ℕ
-uses_in s t d = map (λ u. u.0) (filter (λ u. same_ordinal_label u.1 (declared d)) (zip (occurrences t) (bindings (tree_with_names s t))))
+uses_in s t d = map (λ u. u.0) (filter (λ u. same_ordinal_label u.1 (declared d)) (zip (occurrences t) (labels_of_occurrences (tree_with_names s t))))
 
 abbrev refused_everywhere : TextWithTokens → Tree ℕ module_text → ℕ → Scalar → ℕ → ℕ → Option EditRefusal
 refused_everywhere s t ordinal value first last =
     if nat_lt max_text_length (length (text_after_removal_and_replacement s first last (uses_in s t ordinal) (value_text value))) then Some TooLong
-    else if nat_lt 100 (nesting (inlined_everywhere_and_removed (tree_with_names s t) ordinal (value_factor value))) then Some TooDeep
+    else if nat_lt 100 (nesting (module_with_constant_inlined_everywhere (tree_with_names s t) ordinal (value_factor value))) then Some TooDeep
     else if has_shadowed_use (tree_with_names s t) (record { ordinal = ordinal; value = value; first = first; last = last }) then Some Shadowed
     else if list_any (contains_span (span_of_tokens s.tokens first last)) s.comments then Some CommentInside
     else None

@@ -1,5 +1,5 @@
--- Proves that a text is formatted in at most one way: two lists of edits are equal, and there are none if the result is
--- too long.
+-- Proves that a text is formatted in at most one way: two lists of edits are equal, and there are
+-- no edits if the formatted text is too long.
 use Rattle.std.proofs.Common.{◌≡◌, ◌∙◌, ℕ, ◌≤◌, List, map, length, sym, arith, subst}
 use Rattle.ob0_scan.specs.TextLexemes.{LexesInto}
 use Rattle.ob0_scan.specs.TextWithTokens.{max_text_length}

@@ -1,8 +1,9 @@
--- Proves that a text is read as at most one module: two readings have the same tokens, and the same tree over them. So
--- a claim about a module by these two is the same for both.
--- Two readings needn't be equal as a `ParsedModule`: the code's tree keeps tokens of statements that no definition reads. So
--- each definition over a `ParsedModule` is written once more over its tokens and its tree (`name_in`, `refused_at`,
--- `uses_in`, `tokens_in`).
+-- Proves that a text is read as at most one module: two readings have the same tokens, and the same
+-- tree over these tokens. So a statement about a module's tokens and tree is the same for both.
+-- As values of the type `ParsedModule` the two readings needn't be equal, because the code's tree
+-- keeps tokens of statements that no definition reads. So each definition over a `ParsedModule` is
+-- written a second time over its tokens and its tree (`name_in`, `refused_at`, `uses_in`,
+-- `tokens_in`).
 use Rattle.std.proofs.Common.{◌≡◌, ◌∙◌, ℕ, Option, List, [], ◌∷◌, map, sym, ap, arith}
 use Rattle.std.specs.Prelude.{option_and_then}
 use Rattle.std.specs.List.{find, zip}

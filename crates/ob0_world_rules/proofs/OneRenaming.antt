@@ -1,5 +1,5 @@
--- Proves that a new name is written in at most one way: two lists of edits are equal, and there are none if the name is
--- refused.
+-- Proves that a renaming is made in at most one way: two lists of edits are equal, and there are no
+-- edits if the new name is refused.
 use Rattle.std.proofs.Common.{◌≡◌, ◌∙◌, ℕ, ◌<◌, ◌≤◌, Bool, true, false, Some, None, List, [], map, length, refl, sym, ap, arith, subst, inl, inr, if◌then◌else◌}
 use Rattle.std.specs.Prelude.{◌⊎◌, option_and_then, option_map, slice_get}
 use Rattle.std.specs.List.{filter}

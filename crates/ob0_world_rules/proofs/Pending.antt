@@ -1,12 +1,13 @@
--- Defines which announced documents still wait for the server, and proves that the server will publish them in order.
--- For each message that announces a document, the server will have that document once it has taken the message. The
--- document is as it was in the editor when the message was sent.
+-- Defines which announced documents still wait for the server, and proves that the server will
+-- publish their diagnostics in order.
+-- Once the server has taken a message that announces a document, it has the document as it was in
+-- the editor when the message was sent.
 use Rattle.std.proofs.Common.{◌≡◌, ◌∙◌, ℕ, List, [], ◌∷◌, ◌++◌, map, append-nil, append_assoc, refl, sym, ap, subst}
 use Rattle.std.specs.Prelude.{fold, Option, Some, None, option_map}
 use Rattle.std.proofs.lemmas.List.{map-append}
 use Rattle.ob0_text.specs.OpenDocuments.{OpenDocuments, Opened, Changed, Lost, Closed, documents_after_event, document_at}
 use Rattle.ob0_world_rules.specs.ClientAndServer.{OpenDocument, MessageToServer, notifies, requests, MessageToEditor, PublicationWithText, ClientAndServer, documents_after_message}
-use Rattle.ob0_world_rules.specs.ServerReplies.{SendsDiagnostics, RepliesToMessage}
+use Rattle.ob0_world_rules.specs.ServerReplies.{ServerSendsDiagnostics, ServerRepliesToMessage}
 use Rattle.ob0_world_rules.specs.Events.{ServerTakesFirstMessage}
 use Rattle.ob0_world_rules.specs.MirroredDocuments.{in_step_document}
 use Rattle.ob0_world_rules.specs.PublicationsAreInOrder.{AnnouncedDocument, announced_document_if_open, uri_and_version_announced_by_message, uris_and_versions_announced_in_queue, uri_and_version_of, AreMadeForDocumentsInOrder}
@@ -48,17 +49,17 @@ made_append (m ∷ made) more (t ∷ announced) later h k = (h.0, made_append ma
 made_append [] more (t ∷ announced) later h k = absurd h
 made_append (m ∷ made) more [] later h k = absurd h
 
-published : (uri : List ℕ) (o : Option OpenDocument) (said : List MessageToEditor) (made : List PublicationWithText) → SendsDiagnostics uri (option_map in_step_document o) said made → AreMadeForDocumentsInOrder made (announced_document_if_open uri o)
+published : (uri : List ℕ) (o : Option OpenDocument) (said : List MessageToEditor) (made : List PublicationWithText) → ServerSendsDiagnostics uri (option_map in_step_document o) said made → AreMadeForDocumentsInOrder made (announced_document_if_open uri o)
 published uri (Some d) said made (empty, right, is_said, is_made) = subst (λ ms. AreMadeForDocumentsInOrder ms (announced_document_if_open uri (Some d))) (sym is_made) ((refl, refl, refl), tt)
 published uri None said made h = subst (λ ms. AreMadeForDocumentsInOrder ms []) (sym h.1) tt
 
-awaited : (held : OpenDocuments) (uri : List ℕ) (said : List MessageToEditor) (made : List PublicationWithText) (now : List AnnouncedDocument) → SendsDiagnostics uri (document_at held uri) said made → AwaitedAt held uri now → AreMadeForDocumentsInOrder made now
-awaited held uri said made now may (o, at, is) = subst (AreMadeForDocumentsInOrder made) (sym is) (published uri o said made (subst (λ d. SendsDiagnostics uri d said made) at may))
+awaited : (held : OpenDocuments) (uri : List ℕ) (said : List MessageToEditor) (made : List PublicationWithText) (now : List AnnouncedDocument) → ServerSendsDiagnostics uri (document_at held uri) said made → AwaitedAt held uri now → AreMadeForDocumentsInOrder made now
+awaited held uri said made now may (o, at, is) = subst (AreMadeForDocumentsInOrder made) (sym is) (published uri o said made (subst (λ d. ServerSendsDiagnostics uri d said made) at may))
 
 none_made : (made : List PublicationWithText) (now : List AnnouncedDocument) → made ≡ [] → now ≡ [] → AreMadeForDocumentsInOrder made now
 none_made made now no_made none_announced = subst (AreMadeForDocumentsInOrder made) (sym none_announced) (subst (λ ms. AreMadeForDocumentsInOrder ms []) (sym no_made) tt)
 
-pub message_made : (held : OpenDocuments) (m : MessageToServer) (said : List MessageToEditor) (made : List PublicationWithText) (now : List AnnouncedDocument) → RepliesToMessage held m said made → Awaits held m now → AreMadeForDocumentsInOrder made now
+pub message_made : (held : OpenDocuments) (m : MessageToServer) (said : List MessageToEditor) (made : List PublicationWithText) (now : List AnnouncedDocument) → ServerRepliesToMessage held m said made → Awaits held m now → AreMadeForDocumentsInOrder made now
 message_made held (notifies (Opened uri version text)) said made now may awaits = awaited (documents_after_event held (Opened uri version text)) uri said made now may awaits
 message_made held (notifies (Changed uri version how)) said made now may awaits = awaited (documents_after_event held (Changed uri version how)) uri said made now may awaits
 message_made held (notifies (Lost uri)) said made now may awaits = none_made made now may.1 awaits

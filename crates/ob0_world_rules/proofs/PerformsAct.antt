@@ -1,17 +1,17 @@
--- Lists the possible results of an act of the editor. A claim that holds of each of these seven cases holds of every
--- act.
+-- Lists the possible results of an act of the editor, as seven cases. A claim that holds in each
+-- case holds for every act.
 use Rattle.std.proofs.Common.{◌≡◌, ℕ, cond, List, [], ◌∷◌, refl, sym, subst}
 use Rattle.std.specs.Prelude.{Option, Some, None, is_some, unwrap_or, option_and_then}
 use Rattle.std.proofs.lemmas.Option.{same_Some, none-some}
 use Rattle.ob0_text.specs.OpenDocuments.{TextChange}
 use Rattle.ob0_world_rules.specs.TextEdits.{Replacement, text_after_edits, whole_text_change, text_after_changes}
 use Rattle.ob0_world_rules.specs.Asks.{Ask}
-use Rattle.ob0_world_rules.specs.ClientAndServer.{OpenDocument, SentAsk, Editor, sent_ask_with_number, editor_document_with_uri, Applied}
+use Rattle.ob0_world_rules.specs.ClientAndServer.{OpenDocument, SentAsk, Editor, sent_ask_with_number, editor_document_with_uri, AppliedEdit}
 use Rattle.ob0_world_rules.specs.EditorActs.{EditorAct, open_document, change_document, close_document, request_edits, apply, discard, ActResult, result_without_messages, result_of_opening_document, result_of_changing_text, result_of_closing_document, result_of_sending_ask, edits_of_answer_to_request, editor_without_answer, document_if_unchanged_since_ask, result_of_applying_answer, act_result}
 use Rattle.ob0_world_rules.proofs.SameDocument.{Same, same_from}
 
 -- the edit that gives the document d the text `text`
-abbrev pub edit_of : List ℕ → OpenDocument → List ℕ → Applied
+abbrev pub edit_of : List ℕ → OpenDocument → List ℕ → AppliedEdit
 edit_of uri d text = record { uri = uri; before = d.text; after = text }
 
 pub record OfEach (e : Editor) (P : ActResult → Type 0) : Type 0 where

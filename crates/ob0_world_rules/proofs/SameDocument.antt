@@ -1,5 +1,6 @@
--- Proves that a document with the same opening and version as at a request has the text that it had then. No act makes
--- such a document of another one, since opening numbers are fresh and versions only rise.
+-- Proves that a document with the opening number and the version that are stored with a request
+-- also has the text that is stored with it. The reason is that opening numbers are never reused,
+-- and that each change of a document's text raises its version.
 use Rattle.std.proofs.Common.{◌≡◌, ◌∙◌, ℕ, zero, suc, ◌+◌, ◌≤◌, ◌<◌, Bool, true, false, cond, List, [], ◌∷◌, ◌++◌, refl, sym, ap, subst, arith, ◌&&◌}
 use Rattle.std.specs.Prelude.{ℤ, pos, negsuc, Option, Some, None, All, option_and_then, slice_get, ◌==◌}
 use Rattle.std.specs.Str.{bytes_eq}
@@ -11,7 +12,7 @@ use Rattle.std.proofs.lemmas.Option.{cond_some, same_Some, none-some}
 use Rattle.std.proofs.lemmas.List.Elements.{All-nil, All-head, All-tail, All-weaker, All-push}
 use Rattle.ob0_text.specs.declared.position_types.Unit.{Unit}
 use Rattle.ob0_text.specs.OpenDocuments.{TextChange}
-use Rattle.ob0_world_rules.specs.ClientAndServer.{OpenDocument, EditorDocuments, SentAsk, ReceivedAnswer, Editor, new_editor, sent_ask_with_number, editor_document_with_uri, Applied}
+use Rattle.ob0_world_rules.specs.ClientAndServer.{OpenDocument, EditorDocuments, SentAsk, ReceivedAnswer, Editor, new_editor, sent_ask_with_number, editor_document_with_uri, AppliedEdit}
 use Rattle.ob0_world_rules.specs.Asks.{Ask}
 use Rattle.ob0_world_rules.specs.EditorActs.{version_as_natural, next_version, is_same_version, result_of_opening_document, result_of_changing_text, result_of_closing_document, result_of_sending_ask, document_if_unchanged_since_ask}
 use Rattle.ob0_world_rules.proofs.UriLaws.{get_put, get_removed, same_uri}
@@ -167,7 +168,7 @@ knows_open e uri text knows =
       asks = later_asks e (result_of_opening_document e uri text).editor (later_open e uri d refl) e.requested knows.asks;
     }
 
-pub knows_rewrite : (e : Editor) (uri : List ℕ) (d : OpenDocument) (text : List ℕ) (how : List TextChange) (applied : List Applied) → editor_document_with_uri e uri ≡ Some d → Knows e → Knows (result_of_changing_text e uri d text how applied).editor
+pub knows_rewrite : (e : Editor) (uri : List ℕ) (d : OpenDocument) (text : List ℕ) (how : List TextChange) (applied : List AppliedEdit) → editor_document_with_uri e uri ≡ Some d → Knows e → Knows (result_of_changing_text e uri d text how applied).editor
 knows_rewrite e uri d text how applied was_open knows =
     let new : OpenDocument = record d { version = next_version d.version; text = text } in
     record {

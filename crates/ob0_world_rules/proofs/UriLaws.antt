@@ -1,4 +1,4 @@
--- Proves how documents are found by uri after an insertion or a removal.
+-- Proves which document is found under a uri after an insertion or a removal.
 use Rattle.std.proofs.Common.{◌≡◌, ◌∙◌, ℕ, Bool, true, false, cond, List, refl, ap}
 use Rattle.std.specs.Prelude.{Option, Some, None, option_map}
 use Rattle.std.specs.Ordering.{nat_cmp}

@@ -39,26 +39,28 @@ AreRequestedEdits unit text (inline_here position) edits = InlinesConstantAtPosi
 AreRequestedEdits unit text (inline_all position) edits = InlinesConstantAtPosition Everywhere unit text position edits
 AreRequestedEdits unit text (format indent) edits = FormatsText unit (clamped_indent indent) text edits
 
--- states that the server refuses this request for edits: the new name or the inlining isn't
--- allowed, or the formatted text would be too long
-abbrev pub RefusesAsk : Unit → List ℕ → Ask → Type 0
-RefusesAsk unit text (rename position name) =
+-- states that the server refuses this request for edits, because the new name or the inlining isn't
+-- allowed, or because the formatted text would be too long
+abbrev pub ServerRefusesAsk : Unit → List ℕ → Ask → Type 0
+ServerRefusesAsk unit text (rename position name) =
     (refusal : EditRefusal) × IsRenameRefusedInText unit text position name refusal
-RefusesAsk unit text (inline_here position) =
+ServerRefusesAsk unit text (inline_here position) =
     IsInliningRefusedInText OneUse unit text (position_offset unit text position)
-RefusesAsk unit text (inline_all position) =
+ServerRefusesAsk unit text (inline_all position) =
     IsInliningRefusedInText Everywhere unit text (position_offset unit text position)
-RefusesAsk unit text (format indent) = FormattedTextIsTooLong (clamped_indent indent) text
+ServerRefusesAsk unit text (format indent) = FormattedTextIsTooLong (clamped_indent indent) text
 
 -- States that the edits `given` answer this request for edits (`ask`) of the text. They are the
--- requested edits, or none if the request is refused or the text isn't a well-typed module.
+-- requested edits, or the empty list if the request is refused or the text isn't a well-typed
+-- module.
 abbrev pub IsAnswerForText : Unit → List ℕ → Ask → List Replacement → Type 0
 IsAnswerForText unit text ask given =
     ((edits : List Edit) × AreRequestedEdits unit text ask edits × (given ≡ replacements_of_edits edits))
-    ⊎ ((RefusesAsk unit text ask ⊎ ¬ WellTypedText text) × (given ≡ []))
+    ⊎ ((ServerRefusesAsk unit text ask ⊎ ¬ WellTypedText text) × (given ≡ []))
 
 -- States that the edits `given` answer this request for edits (`ask`) of the document. If the
--- document isn't open (None) or is out of step (its text isn't known), there are no edits.
+-- document is in step, they answer the request for its text (`IsAnswerForText`). If the document
+-- isn't open (None) or is out of step (its text isn't known), `given` is empty.
 abbrev pub IsAnswerForDocument : Unit → Option Document → Ask → List Replacement → Type 0
 IsAnswerForDocument unit (Some (InStep version text)) ask given = IsAnswerForText unit text ask given
 IsAnswerForDocument unit (Some OutOfStep) ask given = given ≡ []

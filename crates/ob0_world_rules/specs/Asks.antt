@@ -1,4 +1,4 @@
--- Defines the asks: the requests whose answers an editor may apply.
+-- Defines the asks. An ask is a request for edits, which the editor may apply.
 -- Rule: docs/PROTOCOL.md, Requests on documents 6 to 8.
 use Rattle.std.specs.Prelude.{ℕ, List}
 use Rattle.ob0_text.specs.declared.position_types.Position.{Position}

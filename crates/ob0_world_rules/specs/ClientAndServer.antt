@@ -1,4 +1,4 @@
--- Defines the states of a client and a server, and the messages between them.
+-- Defines the states of a client (the editor) and a server, and the messages between them.
 -- Rule: LSP 3.17: a model of client and server.
 use Rattle.std.specs.Prelude.{ℕ, zero, suc, ℤ, List, [], Bool, Option, None, slice_get}
 use Rattle.std.specs.Ordering.{nat_cmp}
@@ -69,7 +69,7 @@ editor_document_with_uri e uri = map_of.get e.documents uri
 -- a message to the server: a notification about a document, or an ask (a request for edits)
 pub data MessageToServer : Type 0 where
   notifies : DocumentEvent → MessageToServer
-  -- an ask: its number, the document's uri, and which edits are requested
+  -- an ask: its number, the document's uri, and the requested edits
   requests : ℕ → List ℕ → Ask → MessageToServer
 
 -- a message to the editor: a publication of diagnostics, or the answer to an ask (request for
@@ -84,7 +84,7 @@ pub data MessageToEditor : Type 0 where
 -- ---- records of applied edits and publications
 
 -- an edit that the editor applied: the document's uri, and its text before and after the edit
-pub record Applied : Type 0 where
+pub record AppliedEdit : Type 0 where
   pub uri : List ℕ
   pub before : List ℕ
   pub after : List ℕ
@@ -99,21 +99,21 @@ pub record PublicationWithText : Type 0 where
 
 -- ---- a client and a server with their queues
 
--- the editor, the server's documents, the two queues, and the edits and publications recorded so
--- far
+-- the editor, the server's documents, the queues in both directions, the edits that were applied
+-- and the publications that were made
 pub record ClientAndServer : Type 0 where
   pub editor : Editor
   pub to_server : List MessageToServer
   -- the documents that are open in the server
   pub held : OpenDocuments
   pub to_editor : List MessageToEditor
-  pub applied : List Applied
+  pub applied : List AppliedEdit
   pub made : List PublicationWithText
 
 -- returns the state before the first event, for a client and a server that count positions in this
 -- unit
-abbrev pub start : Unit → ClientAndServer
-start unit =
+abbrev pub initial_client_and_server : Unit → ClientAndServer
+initial_client_and_server unit =
     record {
       editor = new_editor unit;
       to_server = [];

@@ -6,7 +6,7 @@ use Rattle.ob0_text.specs.OpenDocuments.{TextChange, Opened, Changed, Closed}
 use Rattle.ob0_language_types.specs.Typing.{◌>>=◌}
 use Rattle.ob0_world_rules.specs.TextEdits.{Replacement, text_after_edits, whole_text_change, text_after_changes}
 use Rattle.ob0_world_rules.specs.Asks.{Ask}
-use Rattle.ob0_world_rules.specs.ClientAndServer.{OpenDocument, SentAsk, ReceivedAnswer, Editor, sent_ask_with_number, editor_document_with_uri, MessageToServer, notifies, requests, MessageToEditor, publishes, answers, Applied}
+use Rattle.ob0_world_rules.specs.ClientAndServer.{OpenDocument, SentAsk, ReceivedAnswer, Editor, sent_ask_with_number, editor_document_with_uri, MessageToServer, notifies, requests, MessageToEditor, publishes, answers, AppliedEdit}
 
 -- an act of the editor, which concerns a document or an answer that the editor has received
 pub data EditorAct : Type 0 where
@@ -24,7 +24,7 @@ pub data EditorAct : Type 0 where
 pub record ActResult : Type 0 where
   pub editor : Editor
   pub sent : List MessageToServer
-  pub applied : List Applied
+  pub applied : List AppliedEdit
 
 -- returns the result of an act that sends nothing, applies nothing and leaves the editor as `e`
 abbrev pub result_without_messages : Editor → ActResult
@@ -32,7 +32,7 @@ result_without_messages e = record { editor = e; sent = []; applied = [] }
 
 -- returns the result of an act that sends one message, applies these edits and leaves the editor as
 -- `e`
-abbrev pub result_with_message : Editor → MessageToServer → List Applied → ActResult
+abbrev pub result_with_message : Editor → MessageToServer → List AppliedEdit → ActResult
 result_with_message e message applied = record { editor = e; sent = message ∷ []; applied = applied }
 
 -- returns a version as a natural number: 0 if the version is negative
@@ -60,7 +60,7 @@ result_of_opening_document e uri text =
 
 -- Returns the result of an act that gives the open document `d` this text and the next version. The
 -- act notifies the server of the changes `how`. `applied` lists the edits that it applies.
-abbrev pub result_of_changing_text : Editor → List ℕ → OpenDocument → List ℕ → List TextChange → List Applied → ActResult
+abbrev pub result_of_changing_text : Editor → List ℕ → OpenDocument → List ℕ → List TextChange → List AppliedEdit → ActResult
 result_of_changing_text e uri d text how applied =
     let new : OpenDocument = record d { version = next_version d.version; text = text } in
     result_with_message (record e { documents = map_of.insert e.documents uri new })
@@ -113,12 +113,12 @@ result_of_applying_answer e k edits = do
   a ← sent_ask_with_number e.requested k
   d ← editor_document_with_uri e a.uri >>= document_if_unchanged_since_ask a
   text ← text_after_edits e.unit d.text edits
-  let made : Applied = record { uri = a.uri; before = d.text; after = text }
+  let made : AppliedEdit = record { uri = a.uri; before = d.text; after = text }
   Some (result_of_changing_text e a.uri d text (whole_text_change text ∷ []) (made ∷ []))
 
--- Returns the result of an act. Nothing happens if an open document is opened, or if a document
--- that isn't open is changed, closed or asked about. `apply` and `discard` always remove the
--- answer, even if its edits can't be made.
+-- Returns the result of an act. Nothing happens if the act opens a document that is open already,
+-- or if it changes, closes or asks about a document that isn't open. `apply` and `discard` always
+-- remove the answer, even if its edits can't be made.
 abbrev pub act_result : Editor → EditorAct → ActResult
 act_result e (open_document uri text) =
     if is_some (editor_document_with_uri e uri) then result_without_messages e else result_of_opening_document e uri text

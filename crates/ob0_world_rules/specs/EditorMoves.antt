@@ -1,5 +1,5 @@
--- Defines the rules for an editor: which moves it may make, and which messages it sends. The
--- model's editor (`act_result`) also keeps these rules, but its acts have only one result.
+-- Defines the rules for an editor: which moves it may make, and which messages it then sends. The
+-- model's editor (`act_result`) also keeps these rules, but each of its acts has only one result.
 use Rattle.std.specs.Prelude.{◌≡◌, ◌+◌, ℕ, ℤ, List, [], ◌∷◌, ◌++◌, map, Some}
 use Rattle.std.specs.FinMap as map_of
 use Rattle.ob0_text.specs.OpenDocuments.{TextChange, Opened, Changed}
@@ -24,8 +24,8 @@ pub data EditorMove : Type 0 where
   editor_revises : List ℕ → List Revision → EditorMove
   editor_closes : List ℕ → EditorMove
   editor_asks : List ℕ → Ask → EditorMove
-  -- `editor_applies` makes the edits of the answer to the request with this number, and sends them
-  -- as revisions; `editor_discards` discards the answer
+  -- `editor_applies` makes the edits of the answer to the request with this number, and sends these
+  -- revisions; `editor_discards` discards the answer
   editor_applies : ℕ → List Revision → EditorMove
   editor_discards : ℕ → EditorMove
 
@@ -40,9 +40,9 @@ abbrev pub editor_with_document : Editor → List ℕ → OpenDocument → Edito
 editor_with_document e uri d = record e { documents = map_of.insert e.documents uri d }
 
 -- States that these revisions of the open document `uri`, made in order, lead from editor `e` to
--- `new`. The list `announced` has the document as it is after each revision. The changes of each
--- revision turn the text before the revision into the revision's text. Positions are counted in the
--- editor's unit. Any version is allowed.
+-- editor `new`. The n-th document in `announced` is the document after the n-th revision. The
+-- changes of each revision turn the previous text into the revision's text. Positions are counted
+-- in the editor's unit. Any version is allowed.
 abbrev pub RevisesDocument : Editor → List ℕ → List Revision → Editor → List AnnouncedDocument → Type 0
 RevisesDocument e uri [] new announced = (new ≡ e) × (announced ≡ [])
 RevisesDocument e uri (r ∷ more) new announced =
@@ -65,9 +65,10 @@ changes_of_revisions (r ∷ more) = r.sent_changes ++ changes_of_revisions more
 
 -- ---- answers
 
--- States that all edits of the answer to request `k` are made in the document that was asked about.
--- The document's text is the same as when the request was sent. The revisions begin with the
--- changes `first`, which make the edited text. Later changes by the user (`next`) may follow.
+-- States that the editor makes all edits of the answer to request `k`, in the document that was
+-- asked about. The document must be open, with the same text as when the request was sent. The
+-- revisions begin with the changes `first`, which make the edited text. Changes by the user
+-- (`next`) may follow.
 pub record AppliesAnswer (e : Editor) (k : ℕ) (revisions : List Revision) (done : ActResult)
     (announced : List AnnouncedDocument) : Type 0 where
   pub edits : List Replacement

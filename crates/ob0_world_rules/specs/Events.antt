@@ -3,7 +3,7 @@
 use Rattle.std.specs.Prelude.{◌≡◌, List, [], ◌∷◌, ◌++◌}
 use Rattle.ob0_world_rules.specs.ClientAndServer.{MessageToServer, MessageToEditor, PublicationWithText, ClientAndServer, documents_after_message}
 use Rattle.ob0_world_rules.specs.EditorActs.{EditorAct, ActResult, act_result, editor_after_message}
-use Rattle.ob0_world_rules.specs.ServerReplies.{RepliesToMessage}
+use Rattle.ob0_world_rules.specs.ServerReplies.{ServerRepliesToMessage}
 
 -- an event: the editor acts, or the server or the editor takes a message
 pub data Event : Type 0 where
@@ -30,7 +30,7 @@ ServerTakesFirstMessage w [] new = new ≡ w
 ServerTakesFirstMessage w (message ∷ rest) new =
     (said : List MessageToEditor)
     × (made : List PublicationWithText)
-    × RepliesToMessage w.held message said made
+    × ServerRepliesToMessage w.held message said made
     × (new
     ≡ record w {
       to_server = rest;

@@ -4,9 +4,9 @@
 use Rattle.std.specs.Prelude.{◌≡◌, List, [], ◌∷◌, ◌++◌, map, Option, Some, None}
 use Rattle.ob0_text.specs.declared.position_types.Unit.{Unit}
 use Rattle.ob0_text.specs.OpenDocuments.{OpenDocuments, no_open_documents}
-use Rattle.ob0_world_rules.specs.ClientAndServer.{Editor, new_editor, MessageToServer, notifies, requests, MessageToEditor, Applied, PublicationWithText, ClientAndServer, start, documents_after_message}
+use Rattle.ob0_world_rules.specs.ClientAndServer.{Editor, new_editor, MessageToServer, notifies, requests, MessageToEditor, AppliedEdit, PublicationWithText, ClientAndServer, initial_client_and_server, documents_after_message}
 use Rattle.ob0_world_rules.specs.EditorActs.{ActResult, editor_after_message}
-use Rattle.ob0_world_rules.specs.ServerReplies.{RepliesToMessage}
+use Rattle.ob0_world_rules.specs.ServerReplies.{ServerRepliesToMessage}
 use Rattle.ob0_world_rules.specs.Events.{Event, IsCourse}
 use Rattle.ob0_world_rules.specs.Headline.{GuaranteesHold, PublicationsAreUpToDate}
 use Rattle.ob0_world_rules.specs.MirroredDocuments.{ServerWillMirrorEditor}
@@ -15,9 +15,10 @@ use Rattle.ob0_world_rules.specs.EditorMoves.{EditorMove, IsAllowedMove}
 
 -- ---- an editor and the server
 
--- An editor and the server. Their queues may contain messages outside the model (`None`). These are
--- read-only requests such as hover requests, their answers, other responses, notifications that the
--- server ignores, and JSON that isn't a message.
+-- An editor and the server, with a queue of messages in each direction. A queue may contain
+-- messages outside the model (`None`). These are read-only requests (for example hover requests),
+-- their answers, other responses, notifications that the server ignores, and JSON that isn't a
+-- message.
 pub record EditorAndServer : Type 0 where
   pub editor : Editor
   pub to_server : List (Option MessageToServer)
@@ -26,7 +27,7 @@ pub record EditorAndServer : Type 0 where
   pub to_editor : List (Option MessageToEditor)
   -- the documents that the editor has announced to the server so far
   pub announced : List AnnouncedDocument
-  pub applied : List Applied
+  pub applied : List AppliedEdit
   pub made : List PublicationWithText
 
 -- returns the state before the first turn, in which editor and server count positions in this unit
@@ -54,8 +55,8 @@ notifications_in_queue [] = []
 notifications_in_queue (notifies note ∷ queue) = notifies note ∷ notifications_in_queue queue
 notifications_in_queue (requests k uri ask ∷ queue) = notifications_in_queue queue
 
--- returns the state as a `ClientAndServer`, without the messages outside the model and the
--- announced documents
+-- returns the state as a `ClientAndServer`, without the messages outside the model and without the
+-- list of announced documents
 abbrev pub model_state_of : EditorAndServer → ClientAndServer
 model_state_of w =
     record {
@@ -103,7 +104,7 @@ ServerTakesNextMessage w (None ∷ rest) new =
 ServerTakesNextMessage w (Some message ∷ rest) new =
     (said : List MessageToEditor)
     × (made : List PublicationWithText)
-    × RepliesToMessage w.held message said made
+    × ServerRepliesToMessage w.held message said made
     × (new
     ≡ record w {
       to_server = rest;
@@ -149,11 +150,11 @@ pub record GuaranteesHoldForEditorAndServer (w : EditorAndServer) : Type 0 where
   -- If no notification waits for the server, the latest diagnostics of each open document are for
   -- its present text. This holds even if asks and messages outside the model still wait.
   pub latest : notifications_in_queue (modeled_messages w.to_server) ≡ [] → PublicationsAreUpToDate w.editor w.made
-  -- once the server has taken the waiting messages, its documents are the editor's
+  -- once the server has taken the waiting messages, it has the same documents as the editor
   pub mirrors : ServerWillMirrorEditor (model_state_of w)
-  -- The list of announced documents is cut in two. The n-th publication is for the n-th document of
-  -- the first part, `published`. The documents of the second part, `waiting`, are announced by
-  -- messages that still wait for the server.
+  -- The list of announced documents consists of `published`, followed by `waiting`. The n-th
+  -- publication is for the n-th document in `published`. The documents in `waiting` are announced
+  -- by messages that still wait for the server.
   pub published : List AnnouncedDocument
   pub waiting : List AnnouncedDocument
   pub all : w.announced ≡ published ++ waiting
@@ -173,7 +174,7 @@ GuaranteesHoldForEveryEditor =
 abbrev pub ModelEditorKeepsRules : Type 0
 ModelEditorKeepsRules =
     (unit : Unit) (events : List Event) (end : ClientAndServer)
-    → IsCourse (start unit) events end
+    → IsCourse (initial_client_and_server unit) events end
     → (turns : List ExchangeTurn)
     × (w : EditorAndServer)
     × IsCourseOfTurns (initial_editor_and_server unit) turns w

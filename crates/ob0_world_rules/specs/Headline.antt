@@ -5,7 +5,7 @@ use Rattle.std.specs.Str.{bytes_eq}
 use Rattle.ob0_text.specs.declared.position_types.Unit.{Unit}
 use Rattle.ob0_world_rules.specs.WellTypedTexts.{WellTypedText, SameRun}
 use Rattle.ob0_world_rules.specs.Answers.{NoDiagnosticsExactlyIfWellTyped}
-use Rattle.ob0_world_rules.specs.ClientAndServer.{OpenDocument, Editor, editor_document_with_uri, Applied, PublicationWithText, ClientAndServer, start}
+use Rattle.ob0_world_rules.specs.ClientAndServer.{OpenDocument, Editor, editor_document_with_uri, AppliedEdit, PublicationWithText, ClientAndServer, initial_client_and_server}
 use Rattle.ob0_world_rules.specs.Events.{Event, IsCourse}
 use Rattle.ob0_world_rules.specs.PublicationsAreInOrder.{PublicationsFollowAnnouncements}
 
@@ -13,7 +13,7 @@ use Rattle.ob0_world_rules.specs.PublicationsAreInOrder.{PublicationsFollowAnnou
 
 -- states that the texts before and after the edit are well-typed modules with the same run: the
 -- same output and the same end
-pub record PreservesRun (a : Applied) : Type 0 where
+pub record PreservesRun (a : AppliedEdit) : Type 0 where
   pub before_is_well_typed : WellTypedText a.before
   pub after_is_well_typed : WellTypedText a.after
   pub same : SameRun a.before a.after
@@ -53,15 +53,15 @@ pub record GuaranteesHold (w : ClientAndServer) : Type 0 where
   -- its present text.
   pub latest_are_up_to_date : w.to_server ≡ [] → PublicationsAreUpToDate w.editor w.made
 
--- States that a list of events leads from the initial state (`start`) to exactly one state. That
+-- States that a list of events leads from the initial state (`initial_client_and_server`) to exactly one state. That
 -- state has these applied edits and these publications, in this order. The guarantees
 -- (`GuaranteesHold`) hold in that state.
-pub record GuaranteesHoldForEvents (unit : Unit) (events : List Event) (applied : List Applied)
+pub record GuaranteesHoldForEvents (unit : Unit) (events : List Event) (applied : List AppliedEdit)
     (made : List PublicationWithText) : Type 0 where
   pub end : ClientAndServer
   -- the events lead to the state `end`, and to no other state
-  pub course : IsCourse (start unit) events end
-  pub only : (other : ClientAndServer) → IsCourse (start unit) events other → other ≡ end
+  pub course : IsCourse (initial_client_and_server unit) events end
+  pub only : (other : ClientAndServer) → IsCourse (initial_client_and_server unit) events other → other ≡ end
   pub applied_at_end : applied ≡ end.applied
   pub made_at_end : made ≡ end.made
   pub holds : GuaranteesHold end

@@ -10,7 +10,7 @@ use Rattle.ob0_world_rules.specs.WellTypedTexts.{IsModuleText, WellTypedText, Sa
 use Rattle.ob0_world_rules.specs.TextEdits.{Replacement, replacements_of_edits, text_after_edits}
 use Rattle.ob0_world_rules.specs.Asks.{Ask}
 use Rattle.ob0_world_rules.specs.Answers.{AreRequestedEdits, IsAnswerForText}
-use Rattle.ob0_world_rules.specs.ClientAndServer.{ClientAndServer, start}
+use Rattle.ob0_world_rules.specs.ClientAndServer.{ClientAndServer, initial_client_and_server}
 use Rattle.ob0_world_rules.specs.EditorActs.{open_document, change_document, close_document, request_edits, apply, discard}
 use Rattle.ob0_world_rules.specs.Events.{Event, editor_acts, serve, take_message, IsCourse, EventLeadsTo}
 use Rattle.ob0_world_rules.specs.Headline.{GuaranteesHold}
@@ -80,33 +80,34 @@ AlwaysHasAnswer ask =
 
 -- states that the event isn't a request for edits, or is a request that always has an answer
 -- (`AlwaysHasAnswer`)
-abbrev pub HasAnswerIfAsk : Event → Type 0
-HasAnswerIfAsk (editor_acts (open_document uri text)) = ⊤
-HasAnswerIfAsk (editor_acts (change_document uri how)) = ⊤
-HasAnswerIfAsk (editor_acts (close_document uri)) = ⊤
-HasAnswerIfAsk (editor_acts (request_edits uri ask)) = AlwaysHasAnswer ask
-HasAnswerIfAsk (editor_acts (apply k)) = ⊤
-HasAnswerIfAsk (editor_acts (discard k)) = ⊤
-HasAnswerIfAsk serve = ⊤
-HasAnswerIfAsk take_message = ⊤
+abbrev pub AlwaysHasAnswerIfAsk : Event → Type 0
+AlwaysHasAnswerIfAsk (editor_acts (open_document uri text)) = ⊤
+AlwaysHasAnswerIfAsk (editor_acts (change_document uri how)) = ⊤
+AlwaysHasAnswerIfAsk (editor_acts (close_document uri)) = ⊤
+AlwaysHasAnswerIfAsk (editor_acts (request_edits uri ask)) = AlwaysHasAnswer ask
+AlwaysHasAnswerIfAsk (editor_acts (apply k)) = ⊤
+AlwaysHasAnswerIfAsk (editor_acts (discard k)) = ⊤
+AlwaysHasAnswerIfAsk serve = ⊤
+AlwaysHasAnswerIfAsk take_message = ⊤
 
--- States that each list of events leads from the initial state to some state. The condition is that
--- each request for edits in the list has an answer. So the laws about all courses of events aren't
--- vacuous. The formula is a double negation: it is impossible that the events lead to no state.
+-- States that a list of events leads from the initial state to some state if each request for edits
+-- in the list always has an answer. So the laws about all courses of events aren't vacuous. The
+-- formula is a double negation: it is impossible that the events lead to no state.
 abbrev pub CourseExistsIfAsksHaveAnswers : Type 0
 CourseExistsIfAsksHaveAnswers =
     (unit : Unit) (events : List Event)
-    → All HasAnswerIfAsk events
-    → ¬ ((end : ClientAndServer) → ¬ IsCourse (start unit) events end)
+    → All AlwaysHasAnswerIfAsk events
+    → ¬ ((end : ClientAndServer) → ¬ IsCourse (initial_client_and_server unit) events end)
 
 -- states that the guarantees (`GuaranteesHold`) hold in each state to which events lead from the
 -- initial state
 abbrev pub GuaranteesHoldInEveryInterleaving : Type 0
 GuaranteesHoldInEveryInterleaving =
-    (u : Unit) (events : List Event) (w : ClientAndServer) → IsCourse (start u) events w → GuaranteesHold w
+    (u : Unit) (events : List Event) (w : ClientAndServer) → IsCourse (initial_client_and_server u) events w → GuaranteesHold w
 
--- States that the server's documents are the editor's once the server has taken all waiting
--- messages. This holds in each state to which a list of events leads from the initial state.
+-- States that the server and the editor have the same documents once the server has taken all
+-- waiting messages. This holds in each state to which a list of events leads from the initial
+-- state.
 abbrev pub ServerMirrorsEditor : Type 0
 ServerMirrorsEditor =
-    (u : Unit) (events : List Event) (w : ClientAndServer) → IsCourse (start u) events w → ServerWillMirrorEditor w
+    (u : Unit) (events : List Event) (w : ClientAndServer) → IsCourse (initial_client_and_server u) events w → ServerWillMirrorEditor w

@@ -6,7 +6,7 @@ use Rattle.std.specs.Prelude.{◌≡◌, ⊤, ℕ, ℤ, List, [], ◌∷◌, ◌
 use Rattle.std.specs.List.{flat_map}
 use Rattle.ob0_text.specs.declared.position_types.Unit.{Unit}
 use Rattle.ob0_text.specs.OpenDocuments.{Opened, Changed, Lost, Closed}
-use Rattle.ob0_world_rules.specs.ClientAndServer.{OpenDocument, Editor, editor_document_with_uri, MessageToServer, notifies, requests, PublicationWithText, ClientAndServer, start}
+use Rattle.ob0_world_rules.specs.ClientAndServer.{OpenDocument, Editor, editor_document_with_uri, MessageToServer, notifies, requests, PublicationWithText, ClientAndServer, initial_client_and_server}
 use Rattle.ob0_world_rules.specs.EditorActs.{ActResult, act_result}
 use Rattle.ob0_world_rules.specs.Events.{Event, editor_acts, serve, take_message, EventLeadsTo, IsCourse}
 
@@ -87,17 +87,17 @@ uris_and_versions_announced_in_queue (message ∷ queue) = uri_and_version_annou
 abbrev pub uri_and_version_of : AnnouncedDocument → List ℕ × ℤ
 uri_and_version_of t = (t.uri, t.document.version)
 
--- States which documents the publications `made` are for. The editor's announced documents are the
--- lists `announced` and `waiting`, in this order. The n-th publication was made for the n-th
--- document in `announced`. Messages that still wait for the server announce the documents in
--- `waiting`.
+-- States that the publications `made` follow the documents that the editor announces by these
+-- events. These documents are the list `announced` followed by the list `waiting`. The n-th
+-- publication was made for the n-th document in `announced`. The documents in `waiting` are
+-- announced by messages that still wait for the server.
 pub record PublicationsFollowAnnouncements (unit : Unit) (events : List Event) (made : List PublicationWithText) : Type 0 where
   pub announced : List AnnouncedDocument
   pub waiting : List AnnouncedDocument
-  pub all : EventsAnnounceDocuments (start unit) events (announced ++ waiting)
+  pub all : EventsAnnounceDocuments (initial_client_and_server unit) events (announced ++ waiting)
   pub are_made_for_documents : AreMadeForDocumentsInOrder made announced
   pub unpublished_are_queued : (end : ClientAndServer)
-      → IsCourse (start unit) events end
+      → IsCourse (initial_client_and_server unit) events end
       → map uri_and_version_of waiting ≡ uris_and_versions_announced_in_queue end.to_server
 
 -- ---- the law
@@ -107,5 +107,5 @@ pub record PublicationsFollowAnnouncements (unit : Unit) (events : List Event) (
 abbrev pub PublicationsAreInOrder : Type 0
 PublicationsAreInOrder =
     (unit : Unit) (events : List Event) (end : ClientAndServer)
-    → IsCourse (start unit) events end
+    → IsCourse (initial_client_and_server unit) events end
     → PublicationsFollowAnnouncements unit events end.made

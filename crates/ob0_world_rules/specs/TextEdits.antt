@@ -1,5 +1,6 @@
--- Defines the text after edits, which are all made in the same text, and the text after changes,
--- which are made one after another.
+-- Defines the text after edits and the text after changes. The ranges of edits all refer to the
+-- same text. Changes are made one after another, and the range of each change refers to the text
+-- that results from the previous change.
 use Rattle.std.specs.Prelude.{◌≡◌, ℕ, List, map, fold, Option, None, string_bytes}
 use Rattle.std.specs.Str.{chars}
 use Rattle.ob0_text.specs.declared.edits.Edit.{Edit}
@@ -32,8 +33,8 @@ text_after_edits unit text edits =
 abbrev pub whole_text_change : List ℕ → TextChange
 whole_text_change text = record { range = None; text = text }
 
--- Returns the text after these changes, each made in the text that results from the previous one.
--- If the text is unknown (None), only a change of the whole text makes it known.
+-- Returns the text after these changes, each made in the text that results from the previous
+-- change. If the text is unknown (None), only a change of the whole text makes it known.
 abbrev pub text_after_changes : Unit → Option (List ℕ) → List TextChange → Option (List ℕ)
 text_after_changes unit text changes = fold (changed_text unit) text changes
 

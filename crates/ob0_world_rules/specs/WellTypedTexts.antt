@@ -15,7 +15,7 @@ use Rattle.ob0_language_types.specs.WellTyped.{WellTyped}
 use Rattle.ob0_language_runs.specs.EditLaws.{HaveSameRuns}
 use Rattle.ob0_edits.specs.TextBytes.{utf8}
 
--- returns the leaves of a syntax tree that stand for a lexeme: one for a token, none for white
+-- returns the leaves (terminals) of a syntax tree for a lexeme: one for a token, none for white
 -- space or a comment
 abbrev pub terminals_of_lexeme : LexemeKind → List ℕ → List (Terminal Name)
 terminals_of_lexeme lexeme.WhiteSpace text = []

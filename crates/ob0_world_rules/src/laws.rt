@@ -36,15 +36,14 @@ pub fn course_is_determined()
     ensures { CourseIsDetermined }
 {}
 
-/// Proves that each list of events leads from the initial state to some state. The condition is
-/// that each request for edits in the list has an answer. So the laws about all courses of events
-/// aren't vacuous.
+/// Proves that a list of events leads from the initial state to some state if each request for
+/// edits in the list always has an answer. So the laws about all courses of events aren't vacuous.
 pub fn course_exists_if_asks_have_answers()
     ensures { CourseExistsIfAsksHaveAnswers }
 {}
 
-/// Proves that the server's documents are the editor's once the server has taken all waiting
-/// messages: they have the same uris, versions and texts.
+/// Proves that the server and the editor have the same documents once the server has taken all
+/// waiting messages. The documents then have the same uris, versions and texts.
 pub fn server_mirrors_editor()
     ensures { ServerMirrorsEditor }
 {}
@@ -57,9 +56,10 @@ pub fn publications_are_in_order()
 {}
 
 /// Proves the guarantees for every editor that keeps ob0's rules, in every order of the editor's
-/// and the server's turns. Every applied edit keeps the module's run. All diagnostics are correct,
-/// and are made for the announced documents in order. Once the server has taken all notifications,
-/// the latest diagnostics of each open document are for its present text.
+/// and the server's turns. Every applied edit keeps the module's run. All diagnostics are correct.
+/// The n-th publication with a version is for the n-th document that the editor announced. Once the
+/// server has taken all notifications, the latest diagnostics of each open document are for its
+/// present text.
 pub fn guarantees_hold_for_every_editor()
     ensures { GuaranteesHoldForEveryEditor }
 {}

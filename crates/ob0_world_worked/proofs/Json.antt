@@ -1,4 +1,4 @@
--- Contents by their JSON values: the compact text of a value reads back as the value.
+-- Proves that the compact texts of the example's JSON values read back as these values.
 use Rattle.std.proofs.Common.{◌≡◌, ◌≤◌, ℕ, true, false, List, [], ◌∷◌, ◌++◌, Some, refl, arith}
 use Rattle.std.specs.Prelude.{decimal, nat_lt, ⊤}
 use Rattle.std.proofs.lemmas.Bool.{ltb-true}

@@ -1,4 +1,5 @@
--- Each well-typed module has an answer to a request for formatting: the edits, or that its formatted text is too long.
+-- Proves that a request to format a well-typed module has an answer: the edits, or the refusal that
+-- the formatted text is too long.
 use Rattle.std.proofs.Common.{◌≡◌, ◌≤◌, ℕ, Bool, true, false, List, [], length, inl, inr, refl, sym}
 use Rattle.std.specs.Prelude.{nat_lt}
 use Rattle.std.specs.Str.{IsUtf8, chars}

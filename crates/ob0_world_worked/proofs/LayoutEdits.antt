@@ -1,4 +1,5 @@
--- Edits for the gaps that formatting changes, and the text that they leave.
+-- Proves that each gap that formatting changes has an edit, if the formatted text isn't too long.
+-- Also proves which text results from these edits.
 use Rattle.std.proofs.Common.{◌≡◌, ◌∙◌, ◌<◌, ◌≤◌, ℕ, zero, suc, true, List, [], ◌∷◌, Some, map, length, refl, ap, arith}
 use Rattle.std.specs.Str.{chars}
 use Rattle.ob0_scan.specs.TextWithTokens.{IsScan, TextWithTokens}
@@ -8,7 +9,7 @@ use Rattle.ob0_text.specs.declared.position_types.Unit.{Unit}
 use Rattle.ob0_text.specs.Patches.{Cut, patched_text}
 use Rattle.ob0_text.specs.Units.{width_of}
 use Rattle.ob0_tree.specs.Tree.{Tree, module_text}
-use Rattle.ob0_edits_tokens.specs.ByteCuts.{edit_of_cut, length_from_place_with_cuts}
+use Rattle.ob0_edits_tokens.specs.ByteCuts.{edit_of_cut, length_after_cuts_from_offset}
 use Rattle.ob0_edits_tokens.specs.Replacements.{range_and_text}
 use Rattle.ob0_edits_tokens.proofs.TextCuts.{AreCuts}
 use Rattle.ob0_layout.specs.Layout.{formatted_lexemes, formatted_text}
@@ -18,7 +19,7 @@ use Rattle.ob0_layout.proofs.Gaps.{all_changed_are, changed_length, gaps_patched
 use Rattle.ob0_world_worked.proofs.WorkedValues.{string_of}
 
 -- each gap has an edit, if the text that they leave isn't too long
-pub gap_edits : (unit : Unit) (content text : List ℕ) (len at : ℕ) (cs : List Cut) → AreCuts text at cs → length_from_place_with_cuts len at cs ≤ 1048576 → (edits : List Edit) × (map range_and_text edits ≡ map (edit_of_cut unit content) cs)
+pub gap_edits : (unit : Unit) (content text : List ℕ) (len at : ℕ) (cs : List Cut) → AreCuts text at cs → length_after_cuts_from_offset len at cs ≤ 1048576 → (edits : List Edit) × (map range_and_text edits ≡ map (edit_of_cut unit content) cs)
 gap_edits unit content text len at [] are short = ([], refl)
 gap_edits unit content text len at (c ∷ cs) are short =
     let more = gap_edits unit content text len c.to cs are.1 (omega (arith, short)) in
@@ -27,7 +28,7 @@ gap_edits unit content text len at (c ∷ cs) are short =
 
 -- the changes that formatting makes to a text
 module _ (unit : Unit) (indent : Indent) (text : List ℕ) (s : TextWithTokens) (scan : IsScan s) (tree : Tree (List ℕ) module_text) where
-  the_length : length_from_place_with_cuts (length s.text) 0 (changed_gaps s.text (all_gaps indent s.text (line_roles 0 tree) scan.lexemes)) ≡ length (formatted_text indent tree scan.lexemes)
+  the_length : length_after_cuts_from_offset (length s.text) 0 (changed_gaps s.text (all_gaps indent s.text (line_roles 0 tree) scan.lexemes)) ≡ length (formatted_text indent tree scan.lexemes)
   unfolding formatted_lexemes
   the_length = changed_length indent s scan (line_roles 0 tree)
 

@@ -1,4 +1,5 @@
--- A test that computes whether lexemes are the lexemes of a text.
+-- Defines a test for lists of lexemes. Proves that a list that passes the test has the lexemes of
+-- its text (`LexesInto`).
 use Rattle.std.proofs.Common.{◌≡◌, ◌∙◌, ℕ, Bool, true, false, ◌&&◌, ◌==◌, not, List, [], ◌∷◌, length, refl, sym, subst, arith, eqb-true}
 use Rattle.std.specs.Prelude.{nat_lt, slice_index, bytes_eq}
 use Rattle.std.specs.List.{list_all, list_any}

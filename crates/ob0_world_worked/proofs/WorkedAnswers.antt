@@ -1,4 +1,4 @@
--- The worked answers.
+-- Proves which answers the four requests about the example text get.
 use Rattle.std.proofs.Common.{◌≡◌, ◌∙◌, ◌≤◌, ℕ, pos, List, [], ◌∷◌, Some, Ok, Err, Vec, map, length, inl, inr, refl, sym, ap, subst, arith}
 use Rattle.std.specs.Prelude.{codes}
 use Rattle.std.specs.declared.alloc.Global.{Global}
@@ -46,7 +46,7 @@ use Rattle.ob0_world_rules.specs.Asks.{Ask, rename, inline_here, inline_all}
 use Rattle.ob0_world_rules.specs.Answers.{IsAnswerForText}
 use Rattle.ob0_world_rules.specs.TextEdits.{Replacement}
 use Rattle.ob0_world_rules.specs.Laws.{AnswersAreUnique}
-use Rattle.ob0_world_worked.specs.WorkedText.{line_position, example_text}
+use Rattle.ob0_world_worked.specs.WorkedText.{position_on_line, example_text}
 use Rattle.ob0_world_worked.specs.WorkedAnswers.{CapturingRenameIsRefused, RenameAnswerHasThreeEdits, InlineHereAnswerHasOneEdit, InlineAllAnswerHasTwoEdits, IsAnsweredOnlyBy, range_on_line, replacement_on_line}
 use Rattle.ob0_world_worked.proofs.WorkedValues.{vec_of}
 use Rattle.ob0_world_worked.proofs.LexemeTests.{identifier_of}
@@ -86,12 +86,12 @@ nothing_is = sym (chars_so [] refl)
 -- ---- the rename
 
 renaming : List ℕ → Renaming
-renaming new = renaming_at_place Utf16 example_text worked_names (line_position 4 2) new
+renaming new = renaming_at_place Utf16 example_text worked_names (position_on_line 4 2) new
 
-names_x : (new : List ℕ) → TargetsDeclaration (renaming_at_place Utf16 example_text worked_names (line_position 4 2) new) 8
+names_x : (new : List ℕ) → TargetsDeclaration (renaming_at_place Utf16 example_text worked_names (position_on_line 4 2) new) 8
 names_x new = ap (rename_target_at worked_names) x_is_at ∙ refl
 
-renames_x : RenamingToFreeNameKeepsTypingAndRuns → RenamesDeclaration (renaming_at_place Utf16 example_text worked_names (line_position 4 2) (codes "y")) 8 renames
+renames_x : RenamingToFreeNameKeepsTypingAndRuns → RenamesDeclaration (renaming_at_place Utf16 example_text worked_names (position_on_line 4 2) (codes "y")) 8 renames
 renames_x keeps =
     let kept = keeps (named_tree_of worked_module) 8 (codes "y") (refl, refl) worked_fits in
     record {
@@ -109,28 +109,28 @@ renames_x keeps =
       };
     }
 
-pub renames_in : RenamingToFreeNameKeepsTypingAndRuns → RenamesInText Utf16 example_text (line_position 4 2) (codes "y") renames
+pub renames_in : RenamingToFreeNameKeepsTypingAndRuns → RenamesInText Utf16 example_text (position_on_line 4 2) (codes "y") renames
 renames_in keeps =
-    new_name_found Utf16 example_text example_text (line_position 4 2) (codes "y") (Some (Ok (vec_of renames (omega (arith))))) (utf8_so example_text refl) (chars_so example_text refl)
+    new_name_found Utf16 example_text example_text (position_on_line 4 2) (codes "y") (Some (Ok (vec_of renames (omega (arith))))) (utf8_so example_text refl) (chars_so example_text refl)
     (worked_names, worked_in, inl (8, names_x (codes "y"), renames_x keeps))
 
 pub rename_answer_has_three_edits : RenamingToFreeNameKeepsTypingAndRuns → AnswersAreUnique → RenameAnswerHasThreeEdits
 rename_answer_has_three_edits keeps one =
-    answered_by one (rename (line_position 4 2) (codes "y")) (replacement_on_line 4 2 3 (codes "y") ∷ replacement_on_line 6 2 3 (codes "y") ∷ replacement_on_line 7 8 9 (codes "y") ∷ [])
+    answered_by one (rename (position_on_line 4 2) (codes "y")) (replacement_on_line 4 2 3 (codes "y") ∷ replacement_on_line 6 2 3 (codes "y") ∷ replacement_on_line 7 8 9 (codes "y") ∷ [])
     (inl (renames, renames_in keeps, ap (λ t. replacement_on_line 4 2 3 t ∷ replacement_on_line 6 2 3 t ∷ replacement_on_line 7 8 9 t ∷ []) y_is))
 
-refused : IsRenameRefusal (renaming_at_place Utf16 example_text worked_names (line_position 4 2) (codes "Write")) (Captures (range_on_line 7 2 7))
+refused : IsRenameRefusal (renaming_at_place Utf16 example_text worked_names (position_on_line 4 2) (codes "Write")) (Captures (range_on_line 7 2 7))
 refused = inl (8, names_x (codes "Write"), (identifier_of (codes "Write") refl, (3, refl, ap Some write_is_at)))
 
-pub refused_in : IsRenameRefusedInText Utf16 example_text (line_position 4 2) (codes "Write") (Captures (range_on_line 7 2 7))
+pub refused_in : IsRenameRefusedInText Utf16 example_text (position_on_line 4 2) (codes "Write") (Captures (range_on_line 7 2 7))
 refused_in =
-    new_name_found Utf16 example_text example_text (line_position 4 2) (codes "Write") (Some (Err (Captures (range_on_line 7 2 7)))) (utf8_so example_text refl) (chars_so example_text refl)
+    new_name_found Utf16 example_text example_text (position_on_line 4 2) (codes "Write") (Some (Err (Captures (range_on_line 7 2 7)))) (utf8_so example_text refl) (chars_so example_text refl)
     (worked_names, worked_in, refused)
 
 pub capturing_rename_is_refused : AnswersAreUnique → CapturingRenameIsRefused
 capturing_rename_is_refused one = record {
   refused = refused_in;
-  no_edits = answered_by one (rename (line_position 4 2) (codes "Write")) [] (inr (inl (Captures (range_on_line 7 2 7), refused_in), refl));
+  no_edits = answered_by one (rename (position_on_line 4 2) (codes "Write")) [] (inr (inl (Captures (range_on_line 7 2 7), refused_in), refl));
 }
 
 -- ---- inlining
@@ -198,7 +198,7 @@ inlines_here_in alone keeps =
 
 pub inline_here_answer_has_one_edit : ConstantUsesAreFactors → InliningKeepsTypingAndRuns → AnswersAreUnique → InlineHereAnswerHasOneEdit
 inline_here_answer_has_one_edit alone keeps one =
-    answered_by one (inline_here (line_position 6 7)) (replacement_on_line 6 7 8 (codes "2") ∷ [])
+    answered_by one (inline_here (position_on_line 6 7)) (replacement_on_line 6 7 8 (codes "2") ∷ [])
     (inl (
       puts_two ∷ [],
       (vec_of (puts_two ∷ []) (omega (arith)), subst (λ n. InlinesInText OneUse Utf16 example_text n (vec_of (puts_two ∷ []) (omega (arith)))) (sym n_is_at) (inlines_here_in alone keeps), refl),
@@ -238,7 +238,7 @@ inlines_everywhere_in alone keeps =
 
 pub inline_all_answer_has_two_edits : ConstantUsesAreFactors → InliningEverywhereKeepsTypingAndRuns → AnswersAreUnique → InlineAllAnswerHasTwoEdits
 inline_all_answer_has_two_edits alone keeps one =
-    answered_by one (inline_all (line_position 6 7)) (replacement_on_line 2 2 8 [] ∷ replacement_on_line 6 7 8 (codes "2") ∷ [])
+    answered_by one (inline_all (position_on_line 6 7)) (replacement_on_line 2 2 8 [] ∷ replacement_on_line 6 7 8 (codes "2") ∷ [])
     (inl (
       takes_out ∷ puts_two ∷ [],
       (vec_of (takes_out ∷ puts_two ∷ []) (omega (arith)), subst (λ n. InlinesInText Everywhere Utf16 example_text n (vec_of (takes_out ∷ puts_two ∷ []) (omega (arith)))) (sym n_is_at) (inlines_everywhere_in alone keeps), refl),

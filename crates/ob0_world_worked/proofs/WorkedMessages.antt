@@ -1,4 +1,4 @@
--- The contents of the worked exchange, by their JSON values.
+-- Proves that the JSON values of the messages in the example exchange read back from their texts.
 use Rattle.std.proofs.Common.{◌≡◌, ◌<◌, ◌^◌, ℕ, pos, true, List, [], ◌∷◌, Some, Vec, refl, ap, arith}
 use Rattle.std.specs.Prelude.{codes, nat_lt}
 use Rattle.std.specs.declared.alloc.Global.{Global}
@@ -10,15 +10,15 @@ use Rattle.ob0_text.specs.declared.edits.Edit.{Edit}
 use Rattle.ob0_rpc.specs.AppendedJson.{ReadsBack}
 use Rattle.ob0_rpc.specs.JsonShapes.{edit_value, position_value, range_value, result_message}
 use Rattle.ob0_rpc.proofs.AppendedJson.{position_read, range_read}
-use Rattle.ob0_session_json.specs.JsonShapes.{capabilities, publication}
+use Rattle.ob0_session_json.specs.JsonShapes.{initialize_result, publication}
 use Rattle.ob0_session_answers.specs.Actions.{VersionedActionsRequest, inlining_action_value, actions_array}
 use Rattle.ob0_session_server.specs.Answers.{SendsMessage}
 use Rattle.ob0_world_editor.specs.InitializeRequest.{text_document_capabilities, client_features_for_unit, initialize_message, workspace_capabilities}
-use Rattle.ob0_world_worked.specs.WorkedText.{line_position}
+use Rattle.ob0_world_worked.specs.WorkedText.{position_on_line}
 use Rattle.ob0_world_editor.specs.Shapes.{change_value_of_range_and_text}
 use Rattle.ob0_edits.specs.declared.inline_question.InliningKind.TheVariants.{OneUse, Everywhere}
 use Rattle.ob0_world_worked.specs.WorkedAnswers.{range_on_line}
-use Rattle.ob0_world_worked.specs.WorkedExchange.{example_code_action_request, hover_request, inlining_context, change_notification, initialized_notification, open_notification, uri}
+use Rattle.ob0_world_worked.specs.WorkedExchange.{example_code_action_request, example_hover_request, example_inlining_context, example_change_notification, initialized_notification, example_open_notification, example_uri}
 use Rattle.ob0_world_worked.proofs.WorkedValues.{vec_of}
 use Rattle.ob0_world_worked.proofs.WorkedTexts.{is_ascii_text}
 use Rattle.ob0_world_worked.proofs.WorkedEdits.{puts_two, takes_out}
@@ -27,10 +27,10 @@ use Rattle.ob0_world_worked.proofs.Json.{array_read, content_of, count_read, emp
 -- ---- the contents
 
 abbrev pub initialized_with : Data
-initialized_with = result_message (string (codes "initialize")) (capabilities (client_features_for_unit Utf16))
+initialized_with = result_message (string (codes "initialize")) (initialize_result (client_features_for_unit Utf16))
 
 abbrev pub shows_none : Data
-shows_none = publication uri (Some (pos 0)) []
+shows_none = publication example_uri (Some (pos 0)) []
 
 abbrev pub no_hover : Data
 no_hover = result_message (number (unsigned 1)) null
@@ -39,9 +39,9 @@ abbrev pub requested_actions : VersionedActionsRequest
 requested_actions = record {
   id = number (unsigned 2);
   client = client_features_for_unit Utf16;
-  uri = uri;
+  uri = example_uri;
   version = pos 0;
-  range = record { start = line_position 6 7; end = line_position 6 8 };
+  range = record { start = position_on_line 6 7; end = position_on_line 6 8 };
   only = Some (codes "refactor.inline" ∷ []);
 }
 
@@ -54,10 +54,10 @@ everywhere_edits = vec_of (takes_out ∷ puts_two ∷ []) (omega (arith))
 abbrev pub two_actions : Data
 two_actions = result_message (number (unsigned 2)) (actions_array requested_actions (Some here_edits) (Some everywhere_edits))
 
-document_read : ReadsBack (object (member (codes "uri") (string uri) no_members))
+document_read : ReadsBack (object (member (codes "uri") (string example_uri) no_members))
 document_read = object_read refl refl (text_read refl, tt)
 
-versioned_read : (n : ℕ) → ReadsBack (number (unsigned n)) → ReadsBack (object (member (codes "uri") (string uri) (member (codes "version") (number (unsigned n)) no_members)))
+versioned_read : (n : ℕ) → ReadsBack (number (unsigned n)) → ReadsBack (object (member (codes "uri") (string example_uri) (member (codes "version") (number (unsigned n)) no_members)))
 versioned_read n r = object_read refl refl (text_read refl, (r, tt))
 
 zero_read : ReadsBack (number (unsigned 0))
@@ -69,14 +69,14 @@ one_read = count_read 1 refl (ap is_ascii_text one_text)
 two_read : ReadsBack (number (unsigned 2))
 two_read = count_read 2 refl (ap is_ascii_text two_text)
 
-place_read : (line character : ℕ) → nat_lt line 1000 ≡ true → nat_lt character 1000 ≡ true → ReadsBack (position_value (line_position line character))
-place_read line character l c = position_read (line_position line character) (below character c) (below line l)
+place_read : (line character : ℕ) → nat_lt line 1000 ≡ true → nat_lt character 1000 ≡ true → ReadsBack (position_value (position_on_line line character))
+place_read line character l c = position_read (position_on_line line character) (below character c) (below line l)
   where
     below : (n : ℕ) → nat_lt n 1000 ≡ true → n < 2 ^ 64
     below n h = let low = ltb-true n 1000 h in omega (arith, low)
 
-part_read : (line from to : ℕ) → nat_lt line 1000 ≡ true → nat_lt from 1000 ≡ true → nat_lt to 1000 ≡ true → ReadsBack (range_value (line_position line from) (line_position line to))
-part_read line from to l f t = range_read (line_position line from) (line_position line to) (place_read line from l f) (place_read line to l t)
+part_read : (line from to : ℕ) → nat_lt line 1000 ≡ true → nat_lt from 1000 ≡ true → nat_lt to 1000 ≡ true → ReadsBack (range_value (position_on_line line from) (position_on_line line to))
+part_read line from to l f t = range_read (position_on_line line from) (position_on_line line to) (place_read line from l f) (place_read line to l t)
 
 capabilities_taken : ReadsBack (object (member (codes "textDocument") text_document_capabilities (member (codes "workspace") workspace_capabilities no_members)))
 capabilities_taken =
@@ -98,7 +98,7 @@ initialize_read = message_taken
 pub initialized_read : ReadsBack initialized_notification
 initialized_read = object_read refl refl (text_read refl, (text_read refl, (empty_read, tt)))
 
-pub open_read : ReadsBack open_notification
+pub open_read : ReadsBack example_open_notification
 open_read =
     object_read refl refl (
       text_read refl,
@@ -111,11 +111,11 @@ open_read =
       ),
     )
 
-pub hover_read : ReadsBack hover_request
+pub hover_read : ReadsBack example_hover_request
 hover_read =
     object_read refl refl (one_read, (text_read refl, (text_read refl, (object_read refl refl (place_read 0 0 refl refl, (document_read, tt)), tt))))
 
-only_read : ReadsBack inlining_context
+only_read : ReadsBack example_inlining_context
 only_read = object_read refl refl (array_read [] tt, (array_read (string (codes "refactor.inline") ∷ []) (text_read refl, tt), tt))
 
 pub actions_read : ReadsBack example_code_action_request
@@ -134,7 +134,7 @@ actions_read =
       ),
     )
 
-pub change_read : ReadsBack change_notification
+pub change_read : ReadsBack example_change_notification
 change_read =
     object_read refl refl (
       text_read refl,
@@ -214,12 +214,12 @@ taken_out = object_read refl refl (text_read refl, (part_read 2 2 8 refl refl re
 
 action_read : (es : List Data) (title : List ℕ) → ReadsBack (array (items_of es)) → ReadsBack (string title)
     → ReadsBack (object (member (codes "edit") (object (member (codes "documentChanges")
-    (array (item (object (member (codes "edits") (array (items_of es)) (member (codes "textDocument") (object (member (codes "uri") (string uri) (member (codes "version") (number (unsigned 0)) no_members))) no_members))) no_items)) no_members))
+    (array (item (object (member (codes "edits") (array (items_of es)) (member (codes "textDocument") (object (member (codes "uri") (string example_uri) (member (codes "version") (number (unsigned 0)) no_members))) no_members))) no_items)) no_members))
     (member (codes "kind") (string (codes "refactor.inline")) (member (codes "title") (string title) no_members))))
 action_read es title r t =
     object_read refl refl (
       object_read refl refl (
-        array_read (object (member (codes "edits") (array (items_of es)) (member (codes "textDocument") (object (member (codes "uri") (string uri) (member (codes "version") (number (unsigned 0)) no_members))) no_members)) ∷ [])
+        array_read (object (member (codes "edits") (array (items_of es)) (member (codes "textDocument") (object (member (codes "uri") (string example_uri) (member (codes "version") (number (unsigned 0)) no_members))) no_members)) ∷ [])
             (object_read refl refl (r, (versioned_read 0 zero_read, tt)), tt),
         tt,
       ),

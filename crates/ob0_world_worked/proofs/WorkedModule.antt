@@ -1,4 +1,5 @@
--- The worked text's tree and bindings.
+-- Defines the tree and the bindings of the example text, and proves that the text is a well-typed
+-- module with this tree and these bindings.
 use Rattle.std.proofs.Common.{◌≡◌, ◌+◌, ℕ, zero, suc, Bool, true, false, ◌&&◌, List, [], ◌∷◌, Option, Some, None, refl, subst, arith}
 use Rattle.std.specs.Prelude.{slice_index_or}
 use Rattle.std.proofs.lemmas.Bool.{and_parts}

@@ -1,4 +1,5 @@
--- The worked text and the texts that its edits leave, cut into lexemes.
+-- Defines the lexemes of the example text and of the texts that result from its edits, and proves
+-- that they are the scans of these texts.
 use Rattle.std.proofs.Common.{◌≡◌, ◌∙◌, ◌≤◌, ℕ, zero, suc, Bool, true, List, [], ◌∷◌, ◌++◌, length, encode_utf8_all, refl, sym, ap, arith}
 use Rattle.std.specs.Prelude.{codes, nat_lt}
 use Rattle.std.specs.List.{list_all}

@@ -1,4 +1,4 @@
--- Values of the code's types, made without a run.
+-- Makes values of the code's types (lists, texts and boxes) for proofs, without running code.
 use Rattle.std.proofs.Common.{◌≤◌, ℕ, List, [], ◌∷◌, Vec, Box, String, length, refl, arith}
 use Rattle.std.specs.Str.{IsUtf8}
 use Rattle.std.specs.declared.alloc.Global.{Global}

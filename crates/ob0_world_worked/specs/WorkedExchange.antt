@@ -12,11 +12,11 @@ use Rattle.ob0_world_rules.specs.Asks.{inline_all}
 use Rattle.ob0_world_rules.specs.EditorMoves.{Revision, editor_applies, editor_asks, editor_opens}
 use Rattle.ob0_world_rules.specs.EveryEditor.{ExchangeTurn, editor_moves, editor_sends_unmodeled_message, editor_takes_message, server_takes_message}
 use Rattle.ob0_world.specs.Exchanges.{IsInitialExchange, Exchange, IsExchangeCourse}
-use Rattle.ob0_world_worked.specs.WorkedText.{line_position, with_line_feed, example_text}
+use Rattle.ob0_world_worked.specs.WorkedText.{position_on_line, with_line_feed, example_text}
 use Rattle.ob0_world_worked.specs.WorkedAnswers.{range_on_line}
 
-abbrev pub uri : List ℕ
-uri = codes "file:///m.mod"
+abbrev pub example_uri : List ℕ
+example_uri = codes "file:///m.mod"
 
 -- the text that `example_text` becomes if the constant `n` is inlined everywhere
 abbrev pub inlined_text : List ℕ
@@ -48,13 +48,13 @@ example_turns =
     editor_sends_unmodeled_message
     ∷ server_takes_message
     -- the editor opens the document with version 0
-    ∷ editor_moves (editor_opens uri (pos 0) example_text)
+    ∷ editor_moves (editor_opens example_uri (pos 0) example_text)
     ∷ server_takes_message
     -- the editor sends a hover request
     ∷ editor_sends_unmodeled_message
     ∷ server_takes_message
     -- the editor requests the code actions of one kind in a range
-    ∷ editor_moves (editor_asks uri (inline_all (line_position 6 7)))
+    ∷ editor_moves (editor_asks example_uri (inline_all (position_on_line 6 7)))
     ∷ server_takes_message
     -- the editor takes the diagnostics, and the answers to both requests
     ∷ editor_takes_message
@@ -69,48 +69,49 @@ example_turns =
 abbrev pub initialized_notification : Data
 initialized_notification = notification_message (codes "initialized") (object no_members)
 
-abbrev pub open_notification : Data
-open_notification = notification_message (codes "textDocument/didOpen") (did_open_params uri 0 example_text)
+abbrev pub example_open_notification : Data
+example_open_notification = notification_message (codes "textDocument/didOpen") (did_open_params example_uri 0 example_text)
 
-abbrev pub hover_params : Data
-hover_params =
-    object (member (codes "position") (position_value (line_position 0 0))
-    (member (codes "textDocument") (document_id_value uri) no_members))
+abbrev pub example_hover_params : Data
+example_hover_params =
+    object (member (codes "position") (position_value (position_on_line 0 0))
+    (member (codes "textDocument") (document_id_value example_uri) no_members))
 
-abbrev pub hover_request : Data
-hover_request = request_message 1 (codes "textDocument/hover") hover_params
+abbrev pub example_hover_request : Data
+example_hover_request = request_message 1 (codes "textDocument/hover") example_hover_params
 
-abbrev pub inlining_context : Data
-inlining_context =
+abbrev pub example_inlining_context : Data
+example_inlining_context =
     object (member (codes "diagnostics") (array no_items)
     (member (codes "only") (array (item (string (codes "refactor.inline")) no_items)) no_members))
 
 abbrev pub example_code_action_params : Data
 example_code_action_params =
-    object (member (codes "context") inlining_context (member (codes "range") (range_value (line_position 6 7) (line_position 6 8))
-    (member (codes "textDocument") (document_id_value uri) no_members)))
+    object (member (codes "context") example_inlining_context (member (codes "range") (range_value (position_on_line 6 7) (position_on_line 6 8))
+    (member (codes "textDocument") (document_id_value example_uri) no_members)))
 
 abbrev pub example_code_action_request : Data
 example_code_action_request = request_message 2 (codes "textDocument/codeAction") example_code_action_params
 
-abbrev pub change_notification : Data
-change_notification =
-    notification_message (codes "textDocument/didChange") (did_change_params uri 1
+abbrev pub example_change_notification : Data
+example_change_notification =
+    notification_message (codes "textDocument/didChange") (did_change_params example_uri 1
     (change_value_of_range_and_text (Some (range_on_line 6 7 8)) (codes "2")
     ∷ change_value_of_range_and_text (Some (range_on_line 2 2 8)) []
     ∷ []))
 
 -- ---- the law
 
--- States that `example_turns` lead from an initial exchange to one in which the session has taken
--- five messages, including `initialize`. The notification of the change still waits for the
--- session. The editor has applied one answer, which replaces `example_text` by `inlined_text`.
+-- States that `example_turns` lead from the initial exchange `first` to the exchange `last`. In
+-- `last`, the session has taken five messages, the first of which is `initialize`. The notification
+-- of the change still waits for the session. The editor has applied one answer, which replaced
+-- `example_text` by `inlined_text`.
 pub record ExampleExchangeExists : Type 0 where
   pub first : Exchange
   pub last : Exchange
   pub begins : IsInitialExchange Utf16 first
   pub leads : IsExchangeCourse first example_turns last
   pub taken : last.wire.taken
-      ≡ map compact_text (initialize_message Utf16 ∷ initialized_notification ∷ open_notification ∷ hover_request ∷ example_code_action_request ∷ [])
-  pub waits : last.wire.to_server ≡ compact_text change_notification ∷ []
-  pub applied : last.applied ≡ record { uri = uri; before = example_text; after = inlined_text } ∷ []
+      ≡ map compact_text (initialize_message Utf16 ∷ initialized_notification ∷ example_open_notification ∷ example_hover_request ∷ example_code_action_request ∷ [])
+  pub waits : last.wire.to_server ≡ compact_text example_change_notification ∷ []
+  pub applied : last.applied ≡ record { uri = example_uri; before = example_text; after = inlined_text } ∷ []

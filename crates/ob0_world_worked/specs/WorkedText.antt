@@ -21,5 +21,5 @@ example_text =
     ++ with_line_feed (codes "END M."))))))))
 
 -- returns the position of a character on a line; lines and characters are counted from 0
-abbrev pub line_position : ℕ → ℕ → Position
-line_position line character = record { line = line; character = character }
+abbrev pub position_on_line : ℕ → ℕ → Position
+position_on_line line character = record { line = line; character = character }

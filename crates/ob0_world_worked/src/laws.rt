@@ -1,5 +1,5 @@
-//! Proves the answers to four requests about an example text (`example_text`), and that an example
-//! exchange exists. Also proves that a request for formatting has an answer for each text.
+//! Proves which answers four requests about an example text (`example_text`) get, and that an
+//! example exchange exists. Also proves that a request for formatting has an answer for each text.
 ghost use Rattle.ob0_world_worked.specs.Formatting.{FormattingAlwaysHasAnswer};
 ghost use Rattle.ob0_world_worked.specs.WorkedExchange.{ExampleExchangeExists};
 ghost use Rattle.ob0_world_worked.specs.WorkedAnswers.{CapturingRenameIsRefused, RenameAnswerHasThreeEdits, InlineHereAnswerHasOneEdit, InlineAllAnswerHasTwoEdits};
@@ -52,7 +52,8 @@ pub fn inline_all_answer_has_two_edits()
     answers_are_unique();
 }
 
-/// Proves that a request for formatting has an answer for each text.
+/// Proves that a request for formatting has an answer for each text: it is impossible that there is
+/// none (`AlwaysHasAnswer`).
 pub fn formatting_always_has_answer()
     ensures { FormattingAlwaysHasAnswer }
 {
@@ -62,8 +63,8 @@ pub fn formatting_always_has_answer()
 }
 
 /// Proves that the example exchange exists. An editor initializes a session and opens a document
-/// with version 0. It sends a hover request, and a request for the code actions of one kind in a
-/// range. It applies the answer to the second request as two changes in one notification.
+/// with version 0. The editor sends a hover request, and a request for the code actions of one kind
+/// in a range. It applies the answer to the second request as two changes in one notification.
 pub fn example_exchange_exists()
     ensures { ExampleExchangeExists }
 {

@@ -21,7 +21,7 @@ use std::alloc::{AllocError, Global};
 #[derive(Drop)]
 pub(crate) enum Meaning {
     /// A type's name, with the type to which the name refers.
-    Named(TypeId),
+    TypeName(TypeId),
     /// A constant with this value, or with None if its right side has a fault.
     Constant(Option<Scalar>),
     Variable(TypeId),
@@ -34,8 +34,8 @@ pub(crate) fn predeclared_meanings(alloc: Global) -> Result<Vec<Option<Meaning>>
     ensures { IfOk result (λ ms. map (option_map meaning_view) ms.items ≡ predeclared_meanings) }
 {
     let mut meanings = Vec::new(alloc);
-    meanings.push(Some(Meaning::Named(TypeId::Integer)))?;
-    meanings.push(Some(Meaning::Named(TypeId::Boolean)))?;
+    meanings.push(Some(Meaning::TypeName(TypeId::Integer)))?;
+    meanings.push(Some(Meaning::TypeName(TypeId::Boolean)))?;
     meanings.push(Some(Meaning::Constant(Some(Scalar::Truth(true)))))?;
     meanings.push(Some(Meaning::Constant(Some(Scalar::Truth(false)))))?;
     meanings.push(Some(one_parameter_procedure(alloc, true)?))?;
@@ -59,8 +59,8 @@ fn one_parameter_procedure(alloc: Global, by_place: bool) -> Result<Meaning, All
     Ok(Meaning::Procedure(formals))
 }
 
-/// The size of a type: the number of INTEGER and BOOLEAN values in it (its scalars), and the depth
-/// to which its arrays and records are nested.
+/// The size of a type: the number of INTEGER and BOOLEAN values in it (its scalars), and its depth.
+/// The depth is the number of levels in which arrays and records are nested.
 #[derive(Clone, Copy)]
 pub(crate) struct TypeSize {
     pub(crate) scalars: usize,
@@ -124,8 +124,8 @@ impl TypeSize {
     }
 }
 
-/// Returns the sum of two numbers, or an error if the sum doesn't fit in 64 bits. The callers add
-/// numbers of types in a text. No text is long enough to cause this error.
+/// Returns the sum of two numbers, or an error if the sum doesn't fit in 64 bits. The callers count
+/// array and record types in a text. No text has enough of them to cause this error.
 pub(crate) fn sum_or_error(a: usize, b: usize) -> Result<usize, AllocError>
     ensures { MatchResult result (λ n. n ≡ a + b) (λ _. 2 ^ 64 ≤ a + b) }
 {
@@ -164,8 +164,7 @@ pub(crate) fn report_fault_at_token(
 #[derive(Drop)]
 pub(crate) struct CheckerState<'t> {
     pub(crate) resolved: &'t Resolved<'t>,
-    /// The meaning of each declaration, by ordinal. The meaning is None until the walk has found
-    /// it. A name can only be bound to a declaration before it in the text.
+    /// The meaning of each declaration, by ordinal, or None until the walk has found it.
     pub(crate) meanings: Vec<Option<Meaning>>,
     /// The array and record types found so far. A `TypeId` refers to such a type by its index in
     /// this list.
@@ -306,8 +305,8 @@ impl<'t> CheckerState<'t> {
     }
 
     /// Appends an array or record type to `composites` and returns the `TypeId` that refers to it.
-    /// `token` is the type's word ARRAY or RECORD. If the type is too large, reports `TypeTooLarge`
-    /// at `token` and returns the unknown type.
+    /// `token` is the type's word ARRAY or RECORD. If the type is too large, appends nothing,
+    /// reports `TypeTooLarge` at `token` and returns the unknown type.
     pub(crate) fn make_composite_type(
         &mut self,
         faults: &mut Vec<FaultAtTokens>,

@@ -1,9 +1,9 @@
 //! Walks the declarations in text order and reports their faults. Records the meaning of each
-//! declaration, because it is needed to check the text after the declaration.
+//! declaration, which the check of the later text needs.
 
 ghost use Rattle.std.specs.Prelude.{◌≡◌, ◌∷◌, ◌++◌, [], map, IfOk, OnOk};
 ghost use Rattle.ob0_language_names.specs.BlockParts.{formal_parameter_sections, section_constants, section_types, section_variables};
-ghost use Rattle.ob0_tree.specs.View.{block_of, body_of, constant_of, constant_section_of, formals_of, parameter_section_after_semicolon_of, items_of, procedure_of, type_declaration_of, type_section_of, variable_of, variable_section_of};
+ghost use Rattle.ob0_tree.specs.View.{block_of, body_of, constant_declaration_of, constant_section_of, formals_of, parameter_section_after_semicolon_of, items_of, procedure_of, type_declaration_of, type_section_of, variable_declaration_of, variable_section_of};
 ghost use Rattle.ob0_types_check.specs.DeclarationFaults.{body_faults, report_body_if_wanted, report_on_block, report_on_constant_declaration, report_on_constant_declarations, report_on_procedure, report_on_procedures, report_on_parameter_section, report_on_parameter_sections, report_on_type_declaration, report_on_type_declarations, report_on_variable_group, report_on_variable_declarations};
 ghost use Rattle.ob0_types_check.specs.TypesAndMeanings.{a_variable};
 ghost use Rattle.ob0_types_check.specs.OperandFaults.{ReturnsAndReports};
@@ -15,16 +15,16 @@ use crate::reporting::checker_state::{CheckerState, Meaning};
 use crate::reporting::{BodiesToWalk, ReportingWalk};
 use ob0_scope_table::FaultAtTokens;
 use ob0_tree::{
-    Block, ConstantDeclaration, Names, ParameterSection, Procedure, Statement, TypeDeclaration,
-    VariableDeclaration,
+    Block, ConstantDeclaration, IdentifierList, ParameterSection, Procedure, Statement,
+    TypeDeclaration, VariableDeclaration,
 };
 use ob0_types_table::{FormalParameter, TypeId};
 use std::alloc::AllocError;
 
-/// Appends the parameter `formal` to `formals`, once for each name in `names`. The names share one
-/// type and one mode.
+/// Appends the parameter `formal` to `formals`, once for each name in `names`. All these parameters
+/// have the same type, and all are VAR or all are value parameters.
 fn add_formal_parameters(
-    names: &Names,
+    names: &IdentifierList,
     formal: FormalParameter,
     formals: &mut Vec<FormalParameter>,
 ) -> Result<(), AllocError>
@@ -39,8 +39,8 @@ fn add_formal_parameters(
 }
 
 impl<'t> CheckerState<'t> {
-    /// Records each name in `names` as a variable of the type `of`.
-    fn define_listed_names(&mut self, names: &Names, of: TypeId)
+    /// Records that each name in `names` is a variable of the type `of`.
+    fn define_listed_names(&mut self, names: &IdentifierList, of: TypeId)
         ensures { declarations_in_state self.new
             ≡ define_listed_names (declarations_in_state self.old) (a_variable of)
             (names.now.first ∷ names.now.more.items) }
@@ -206,7 +206,7 @@ impl<'t> ReportingWalk<'t> {
         Ok(())
     }
 
-    /// Reports the faults of the type of one section of a heading. For each of the section's names,
+    /// Reports the faults of the type in one section of a heading. For each name in the section,
     /// appends a parameter of this type to `formals` and declares a variable.
     fn report_parameter_section(
         &mut self,
@@ -247,7 +247,7 @@ impl<'t> ReportingWalk<'t> {
     ) -> Result<(), AllocError>
         ensures { OnOk result (ReturnsAndReports self.old.faults.items self.new.faults.items
             (declarations_in_state self.new.checker_state) (report_on_constant_declarations (declarations_in_state self.old.checker_state)
-            (items_of constant_of constants.now))) }
+            (items_of constant_declaration_of constants.now))) }
     {
         for c in constants {
             self.report_constant_declaration(c)?;
@@ -258,11 +258,11 @@ impl<'t> ReportingWalk<'t> {
     fn report_constant_declaration(&mut self, c: &ConstantDeclaration) -> Result<(), AllocError>
         ensures { OnOk result (ReturnsAndReports self.old.faults.items self.new.faults.items
             (declarations_in_state self.new.checker_state)
-            (report_on_constant_declaration (declarations_in_state self.old.checker_state) (constant_of c.now))) }
+            (report_on_constant_declaration (declarations_in_state self.old.checker_state) (constant_declaration_of c.now))) }
     {
         let value = self
             .checker_state
-            .constant_value(&mut self.faults, &c.value)?;
+            .check_constant_expression(&mut self.faults, &c.value)?;
         self.checker_state
             .define_name_at_token(c.name, Meaning::Constant(value));
         Ok(())
@@ -300,7 +300,7 @@ impl<'t> ReportingWalk<'t> {
     {
         let of = self.check_written_type(&d.written)?;
         self.checker_state
-            .define_name_at_token(d.name, Meaning::Named(of));
+            .define_name_at_token(d.name, Meaning::TypeName(of));
         Ok(())
     }
 
@@ -324,7 +324,7 @@ impl<'t> ReportingWalk<'t> {
     ) -> Result<(), AllocError>
         ensures { OnOk result (ReturnsAndReports self.old.faults.items self.new.faults.items
             (declarations_in_state self.new.checker_state) (report_on_variable_declarations (declarations_in_state self.old.checker_state)
-            (items_of variable_of variables.now))) }
+            (items_of variable_declaration_of variables.now))) }
     {
         for v in variables {
             self.report_variable_group(v)?;
@@ -335,7 +335,7 @@ impl<'t> ReportingWalk<'t> {
     fn report_variable_group(&mut self, v: &VariableDeclaration) -> Result<(), AllocError>
         ensures { OnOk result (ReturnsAndReports self.old.faults.items self.new.faults.items
             (declarations_in_state self.new.checker_state)
-            (report_on_variable_group (declarations_in_state self.old.checker_state) (variable_of v.now))) }
+            (report_on_variable_group (declarations_in_state self.old.checker_state) (variable_declaration_of v.now))) }
     {
         let of = self.check_written_type(&v.written)?;
         self.checker_state.define_listed_names(&v.names, of);

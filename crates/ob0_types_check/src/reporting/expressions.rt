@@ -1,5 +1,5 @@
-//! Reports the faults of expressions, and finds their types and, if they are constant, their
-//! values.
+//! Reports the faults of expressions. Finds their types, and their values if constants determine
+//! them.
 
 ghost use Rattle.std.specs.Prelude.{◌≡◌, ◌++◌, [], false, true, if◌then◌else◌, IfOk, OnOk, option_map};
 ghost use Rattle.ob0_language_values.specs.Scalars.{scalar_value};
@@ -7,8 +7,8 @@ ghost use Rattle.ob0_types_table.specs.declared.types.TypeId.TheVariants as type
 ghost use Rattle.ob0_tree.specs.View.{compound_expression_of, expression_of, factor_of, selector_of, simple_expression_of, term_of};
 ghost use Rattle.ob0_language_types.specs.DesignatorSelectors.{selectors_of_designator};
 ghost use Rattle.ob0_types_check.specs.ExpressionFaults.{report_on_expression, report_on_factor, report_on_selector, report_on_selectors, report_on_simple_expression, report_on_term};
-ghost use Rattle.ob0_types_check.specs.OperandFaults.{ReturnsAndReports, constant_name_operand, number_operand, add_operands, require_type, require_type_of_both_operands, fault_at_operand, prefixed_operand, negated_operand, element_type_from_form, element_operand, operand_in_parentheses, field_type_from_form, field_operand, may_be_same_type, operand_of_operation, multiply_operands, name_operand, operand_with_selector, relate_operands, signed_operand, comparison_type, operand_type_of_addition, operand_type_of_equality, operand_type_of_multiplication, operand_type_of_relation, value_type};
-ghost use Rattle.ob0_types_check.specs.TypeFaults.{operand_value, report_on_constant_expression};
+ghost use Rattle.ob0_types_check.specs.OperandFaults.{ReturnsAndReports, constant_name_operand, number_operand, check_sum, require_type, require_type_of_both_operands, fault_at_operand, prefixed_operand, check_negation, element_type_from_form, element_operand, operand_in_parentheses, field_type_from_form, field_operand, may_be_same_type, operand_of_operation, check_product, name_operand, operand_with_selector, check_relation, check_sign, comparison_type, operand_type_of_addition, operand_type_of_equality, operand_type_of_multiplication, operand_type_of_relation, type_of_constant_value};
+ghost use Rattle.ob0_types_check.specs.TypeFaults.{require_constant_value, report_on_constant_expression};
 ghost use Rattle.ob0_types_check.specs.KnownDeclarations.{is_same_type};
 ghost use Rattle.ob0_types_check.specs.CheckerViews.{facts_in, form_of_type_in, operand_of, type_id_representation};
 
@@ -30,9 +30,11 @@ use std::alloc::AllocError;
 #[derive(Clone, Copy)]
 pub(crate) struct Operand {
     pub(crate) of: TypeId,
-    /// The value if the expression is constant, or None if it isn't constant or has a fault.
+    /// The value, or None if constants don't determine it. In `FALSE & x` they do, even if `x` is a
+    /// variable or has a fault.
     pub(crate) value: Option<Scalar>,
-    /// True if the expression is only a name with selectors, and the name isn't a constant's.
+    /// True if the expression is only a name with its selectors, if any, and the name isn't a
+    /// constant's.
     pub(crate) may_be_variable: bool,
     /// The index of the expression's first token. `last` is the index of its last token.
     pub(crate) first: usize,
@@ -62,9 +64,9 @@ fn operand_type_of_multiplication(operator: MultiplyOperator) -> TypeId
     }
 }
 
-/// Returns the type that a relation requires of both operands. For `=` and `#` this is INTEGER or
-/// BOOLEAN, depending on the left operand's type. If `left` is the unknown type, the result is
-/// also the unknown type, and nothing is required. All other relations require INTEGER.
+/// Returns the type that a relation requires of both operands. All relations except `=` and `#`
+/// require INTEGER. `=` and `#` require INTEGER or BOOLEAN, depending on the left operand's type
+/// `left`. If `left` is unknown, `=` and `#` require nothing, and the result is the unknown type.
 fn operand_type_of_relation(relation: Relation, left: TypeId) -> TypeId
     ensures { result ≡ operand_type_of_relation (type_id_representation []) relation left }
 {
@@ -114,8 +116,8 @@ pub(crate) fn is_same_type(a: TypeId, b: TypeId) -> bool
     a == b
 }
 
-/// Returns whether the two types are equal, or one of them is the unknown type. If not, an
-/// expression of the type `of` is a mismatch for the required type `wanted`.
+/// Returns whether the two types are equal or at least one of them is unknown. An expression of the
+/// type `of` is accepted as one of the type `wanted` only if this is true.
 fn may_be_same_type(of: TypeId, wanted: TypeId) -> bool
     ensures { result ≡ may_be_same_type (type_id_representation []) of wanted }
 {
@@ -167,8 +169,9 @@ impl Operand {
         }
     }
 
-    /// Returns the operand for this operand's designator followed by one more selector. `last` is
-    /// the last token of that selector. The result has the type `of` and no value.
+    /// Returns the operand for a designator with one more selector. `self` is the operand for the
+    /// designator without that selector. `last` is the last token of that selector. The result has
+    /// the type `of` and no value.
     fn operand_with_selector(self, of: TypeId, last: usize) -> Operand
         ensures { operand_of result ≡ operand_with_selector (operand_of self) of last }
     {
@@ -195,8 +198,8 @@ pub(crate) fn report_fault_at_operand(
 }
 
 impl<'t> CheckerState<'t> {
-    /// Reports a mismatch if the operand's type and the required type `wanted` are both known and
-    /// differ. Returns `wanted` if the operand has this type, otherwise the unknown type.
+    /// Reports `TypeMismatch` at the operand if its type and the required type `wanted` are both
+    /// known and differ. Returns `wanted` if the operand has this type, otherwise the unknown type.
     pub(crate) fn require_type(
         &self,
         faults: &mut Vec<FaultAtTokens>,
@@ -212,9 +215,10 @@ impl<'t> CheckerState<'t> {
         Ok(required_type_or_unknown(operand.of, wanted))
     }
 
-    /// Requires the type `wanted` of both operands of an operation. Reports a mismatch at the left
-    /// operand or, if the left operand has no mismatch, at the right operand. Returns `wanted` if
-    /// both operands have this type, otherwise the unknown type.
+    /// Requires the type `wanted` of both operands of an operation. If `wanted` and an operand's
+    /// type are both known and differ, reports `TypeMismatch` at that operand; if both operands
+    /// differ, only at the left one. Returns `wanted` if both operands have this type, otherwise
+    /// the unknown type.
     fn require_type_of_both_operands(
         &self,
         faults: &mut Vec<FaultAtTokens>,
@@ -280,8 +284,8 @@ impl<'t> CheckerState<'t> {
         }
     }
 
-    /// Reports a mismatch if the operands of a relation don't have the required type, and returns
-    /// the operand for the whole comparison.
+    /// Returns the operand for the comparison of `left` and `right`. Reports `TypeMismatch` if one
+    /// of them has a known type other than the required one.
     fn check_relation(
         &self,
         faults: &mut Vec<FaultAtTokens>,
@@ -290,7 +294,7 @@ impl<'t> CheckerState<'t> {
         right: Operand,
     ) -> Result<Operand, AllocError>
         ensures { IfOk result (λ o. ReturnsAndReports faults.old.items faults.new.items (operand_of o)
-            (relate_operands (facts_in self.now false) relation (operand_of left)
+            (check_relation (facts_in self.now false) relation (operand_of left)
             (operand_of right))) }
     {
         let wanted = operand_type_of_relation(relation, left.of);
@@ -318,8 +322,8 @@ impl<'t> CheckerState<'t> {
         Ok(so_far)
     }
 
-    /// Reports a mismatch if the operands of `+`, `-` or OR don't have the required type, and
-    /// returns the operand for the whole expression.
+    /// Returns the operand for `left` and `right` joined by `+`, `-` or OR. Reports `TypeMismatch`
+    /// if one of them has a known type other than the required one.
     fn check_sum(
         &self,
         faults: &mut Vec<FaultAtTokens>,
@@ -328,7 +332,7 @@ impl<'t> CheckerState<'t> {
         right: Operand,
     ) -> Result<Operand, AllocError>
         ensures { IfOk result (λ o. ReturnsAndReports faults.old.items faults.new.items (operand_of o)
-            (add_operands (facts_in self.now false) operator (operand_of left)
+            (check_sum (facts_in self.now false) operator (operand_of left)
             (operand_of right))) }
     {
         let of = self.require_type_of_both_operands(
@@ -341,8 +345,9 @@ impl<'t> CheckerState<'t> {
         Ok(left.joined_operand(right, of, value))
     }
 
-    /// Returns the operand for an expression that consists of a sign and `operand`. A sign requires
-    /// INTEGER, and a mismatch is reported. Without a sign (None), `operand` is returned unchanged.
+    /// Returns the operand for `operand` with the optional sign `sign` before it. If there is a
+    /// sign and `operand` has a known type other than INTEGER, reports `TypeMismatch`. Without a
+    /// sign (None), returns `operand` unchanged.
     fn check_sign(
         &self,
         faults: &mut Vec<FaultAtTokens>,
@@ -350,7 +355,7 @@ impl<'t> CheckerState<'t> {
         operand: Operand,
     ) -> Result<Operand, AllocError>
         ensures { IfOk result (λ o. ReturnsAndReports faults.old.items faults.new.items (operand_of o)
-            (signed_operand (facts_in self.now false) sign (operand_of operand))) }
+            (check_sign (facts_in self.now false) sign (operand_of operand))) }
     {
         match sign {
             None => Ok(operand),
@@ -380,8 +385,8 @@ impl<'t> CheckerState<'t> {
         Ok(so_far)
     }
 
-    /// Reports a mismatch if the operands of `*`, DIV, MOD or `&` don't have the required type, and
-    /// returns the operand for the whole expression.
+    /// Returns the operand for `left` and `right` joined by `*`, DIV, MOD or `&`. Reports
+    /// `TypeMismatch` if one of them has a known type other than the required one.
     fn check_product(
         &self,
         faults: &mut Vec<FaultAtTokens>,
@@ -390,7 +395,7 @@ impl<'t> CheckerState<'t> {
         right: Operand,
     ) -> Result<Operand, AllocError>
         ensures { IfOk result (λ o. ReturnsAndReports faults.old.items faults.new.items (operand_of o)
-            (multiply_operands (facts_in self.now false) operator (operand_of left)
+            (check_product (facts_in self.now false) operator (operand_of left)
             (operand_of right))) }
     {
         let of = self.require_type_of_both_operands(
@@ -463,23 +468,23 @@ impl<'t> CheckerState<'t> {
         }
     }
 
-    /// Reports a mismatch if the operand of `~` has a known type other than BOOLEAN. Returns the
-    /// operand for the whole negation.
+    /// Returns the operand for the negation `~` of `operand`. Reports `TypeMismatch` if `operand`
+    /// has a known type other than BOOLEAN.
     fn check_negation(
         &self,
         faults: &mut Vec<FaultAtTokens>,
         operand: Operand,
     ) -> Result<Operand, AllocError>
         ensures { IfOk result (λ o. ReturnsAndReports faults.old.items faults.new.items (operand_of o)
-            (negated_operand (facts_in self.now false) (operand_of operand))) }
+            (check_negation (facts_in self.now false) (operand_of operand))) }
     {
         let of = self.require_type(faults, TypeId::Boolean, operand)?;
         Ok(operand.prefixed_operand(of, operators::value_of_negation(operand.value)))
     }
 
-    /// Returns the operand for the name at a token. The name must be a constant's or a variable's,
-    /// and any other name is reported. If `only_constants` is true, a variable's name is also
-    /// reported. A name without a known meaning isn't reported here.
+    /// Returns the operand for the name at a token. Reports `WrongKind` if the name is a type's or
+    /// a procedure's, and `NotConstant` if it is a variable's and `only_constants` is true. In
+    /// these cases, and if the name has no known meaning, the operand's type is unknown.
     fn operand_of_name(
         &self,
         faults: &mut Vec<FaultAtTokens>,
@@ -507,7 +512,7 @@ impl<'t> CheckerState<'t> {
                     }
                     Ok(unknown.operand_with_selector(*of, token))
                 }
-                Meaning::Named(_) => {
+                Meaning::TypeName(_) => {
                     report_fault_at_token(faults, FaultCode::WrongKind, token)?;
                     Ok(unknown)
                 }
@@ -579,9 +584,9 @@ impl<'t> CheckerState<'t> {
         Ok(base.operand_with_selector(of, self.next_token_index(index.last)))
     }
 
-    /// Returns the element type of the array type `base`, and reports `NotArray` if `base` is known
-    /// and isn't an array. The result is the unknown type if `base` isn't an array or `index_type`
-    /// isn't INTEGER.
+    /// Returns the element type of the array type `base`. Reports `NotArray` at the `[` before
+    /// `index` if `base` is known and isn't an array type. Returns the unknown type if `base` isn't
+    /// an array type or `index_type` isn't INTEGER.
     fn array_element_type(
         &self,
         faults: &mut Vec<FaultAtTokens>,
@@ -677,9 +682,9 @@ impl<'t> CheckerState<'t> {
         Ok(TypeId::Unknown)
     }
 
-    /// Reports the faults of a constant's right side. Returns the value of the right side, or None
-    /// if the right side has a fault.
-    pub(crate) fn constant_value(
+    /// Reports the faults of the right side of a constant's declaration. Returns its value, or None
+    /// if its type is unknown or its evaluation fails.
+    pub(crate) fn check_constant_expression(
         &self,
         faults: &mut Vec<FaultAtTokens>,
         e: &Expression,
@@ -689,20 +694,20 @@ impl<'t> CheckerState<'t> {
             (report_on_constant_expression (facts_in self.now true) (expression_of e.now))) }
     {
         let constant_operand = self.check_expression(faults, e, true)?;
-        self.operand_value(faults, constant_operand)
+        self.require_constant_value(faults, constant_operand)
     }
 
     /// Returns the value of a constant expression, given its operand. If the operand's type is
-    /// unknown, the result is None, and nothing is reported. If the type is known and there is no
-    /// value, the evaluation failed. Then the result is None, and `ConstFault` is reported.
-    fn operand_value(
+    /// unknown, returns None and reports nothing. If the type is known and there is no value, the
+    /// evaluation failed: returns None and reports `ConstFault`.
+    fn require_constant_value(
         &self,
         faults: &mut Vec<FaultAtTokens>,
         constant_operand: Operand,
     ) -> Result<Option<Scalar>, AllocError>
         ensures { IfOk result (λ v. ReturnsAndReports faults.old.items faults.new.items
             (option_map scalar_value v)
-            (operand_value (facts_in self.now false) (operand_of constant_operand))) }
+            (require_constant_value (facts_in self.now false) (operand_of constant_operand))) }
     {
         if is_same_type(constant_operand.of, TypeId::Unknown) {
             return Ok(None);
@@ -721,7 +726,7 @@ fn constant_operand(value: Option<Scalar>, token: usize) -> Operand
         ≡ constant_name_operand (type_id_representation []) (option_map scalar_value value) token }
 {
     Operand {
-        of: constant_type(value),
+        of: type_of_constant_value(value),
         value,
         may_be_variable: false,
         first: token,
@@ -730,8 +735,8 @@ fn constant_operand(value: Option<Scalar>, token: usize) -> Operand
 }
 
 /// Returns the type of a constant with this value, or the unknown type for None.
-fn constant_type(value: Option<Scalar>) -> TypeId
-    ensures { result ≡ value_type (type_id_representation []) (option_map scalar_value value) }
+fn type_of_constant_value(value: Option<Scalar>) -> TypeId
+    ensures { result ≡ type_of_constant_value (type_id_representation []) (option_map scalar_value value) }
 {
     match value {
         None => TypeId::Unknown,

@@ -42,7 +42,7 @@ fn object_of_meaning(meaning: Meaning) -> Object
     ensures { result ≡ table_object_of_meaning meaning }
 {
     match meaning {
-        Meaning::Named(of) => Object::Named(of),
+        Meaning::TypeName(of) => Object::TypeName(of),
         Meaning::Constant(value) => match value {
             None => Object::FaultyConstant,
             Some(value) => Object::Constant(value),

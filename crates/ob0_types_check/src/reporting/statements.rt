@@ -5,7 +5,7 @@ ghost use Rattle.ob0_scan.specs.declared.fault.FaultCode.TheVariants as code;
 ghost use Rattle.ob0_tree.specs.View.{assignment_of, call_of, elsifs_of_vec, expression_of, if_of, sequence_of_vec, statement_of};
 ghost use Rattle.ob0_types_check.specs.TypesAndMeanings.{a_procedure};
 ghost use Rattle.ob0_types_check.specs.OperandFaults.{ReturnsAndReports, fault_at_token};
-ghost use Rattle.ob0_types_check.specs.StatementFaults.{target_name_type, call_faults_from_meaning, require_type_of_argument, faults_of_argument, faults_of_expression_of_type, call_faults, condition_faults, elsif_faults, untyped_argument_faults, sequence_faults, statement_faults};
+ghost use Rattle.ob0_types_check.specs.StatementFaults.{check_assigned_name, call_faults_from_meaning, require_type_of_argument, faults_of_argument, faults_of_expression_of_type, call_faults, condition_faults, elsif_faults, untyped_argument_faults, sequence_faults, statement_faults};
 ghost use Rattle.ob0_types_check.specs.CheckerViews.{facts_in, known_parameter_of, operand_of};
 
 use crate::reporting::checker_state::{CheckerState, Meaning, report_fault_at_token};
@@ -29,14 +29,14 @@ impl<'t> CheckerState<'t> {
             ++ sequence_faults (facts_in self.now false) (sequence_of_vec statements.now)) }
     {
         for s in statements {
-            self.report_statement(faults, s)?;
+            self.report_statement_faults(faults, s)?;
         }
         Ok(())
     }
 
     /// Reports the faults of a statement, including the statements inside it.
     #[cycle(statements)]
-    fn report_statement(
+    fn report_statement_faults(
         &self,
         faults: &mut Vec<FaultAtTokens>,
         s: &Statement,
@@ -104,11 +104,11 @@ impl<'t> CheckerState<'t> {
             ≡ faults.old.items
             ++ condition_faults (facts_in self.now false) (expression_of e.now)) }
     {
-        self.check_expression_of_type(faults, TypeId::Boolean, e)
+        self.report_expression_of_type(faults, TypeId::Boolean, e)
     }
 
     /// Reports the faults of an expression that must have the type `wanted`.
-    fn check_expression_of_type(
+    fn report_expression_of_type(
         &self,
         faults: &mut Vec<FaultAtTokens>,
         wanted: TypeId,
@@ -136,26 +136,26 @@ impl<'t> CheckerState<'t> {
     {
         let token = a.target.name;
         let base = Operand {
-            of: self.target_type(faults, token)?,
+            of: self.check_assigned_name(faults, token)?,
             value: None,
             may_be_variable: true,
             first: token,
             last: token,
         };
         let target = self.check_designator_selectors(faults, base, &a.target, false)?;
-        self.check_expression_of_type(faults, target.of, &a.value)
+        self.report_expression_of_type(faults, target.of, &a.value)
     }
 
     /// Returns the type of the variable or parameter to which the assigned name at `token` refers.
-    /// If the name refers to something else, a fault is reported. If the name has no known meaning,
-    /// nothing is reported. In both cases the result is the unknown type.
-    fn target_type(
+    /// Reports `NotVariable` at a constant's name, and `WrongKind` at a type's or procedure's. In
+    /// these cases, and if the name has no known meaning, returns the unknown type.
+    fn check_assigned_name(
         &self,
         faults: &mut Vec<FaultAtTokens>,
         token: usize,
     ) -> Result<TypeId, AllocError>
         ensures { IfOk result (λ t. ReturnsAndReports faults.old.items faults.new.items t
-            (target_name_type (facts_in self.now false) token)) }
+            (check_assigned_name (facts_in self.now false) token)) }
     {
         match self.meaning_of_name(token) {
             None => Ok(TypeId::Unknown),
@@ -165,7 +165,7 @@ impl<'t> CheckerState<'t> {
                     report_fault_at_token(faults, FaultCode::NotVariable, token)?;
                     Ok(TypeId::Unknown)
                 }
-                Meaning::Named(_) => {
+                Meaning::TypeName(_) => {
                     report_fault_at_token(faults, FaultCode::WrongKind, token)?;
                     Ok(TypeId::Unknown)
                 }
@@ -192,8 +192,8 @@ impl<'t> CheckerState<'t> {
     }
 
     /// Reports the faults of a call. The arguments must fit the parameters of the called procedure.
-    /// If the called name refers to something other than a procedure, the name is reported. In this
-    /// case, and if the name has no known meaning, the arguments may have any type.
+    /// If the called name isn't a procedure's, `WrongKind` is reported at the name. In this case,
+    /// and if the name has no known meaning, the arguments may have any type.
     fn report_call(
         &self,
         faults: &mut Vec<FaultAtTokens>,
@@ -211,7 +211,7 @@ impl<'t> CheckerState<'t> {
                 Meaning::Procedure(formals) => {
                     self.report_arguments(faults, procedure, formals.as_slice(), arguments)
                 }
-                Meaning::Named(_) => self.report_not_a_procedure(faults, procedure, arguments),
+                Meaning::TypeName(_) => self.report_not_a_procedure(faults, procedure, arguments),
                 Meaning::Constant(_) => self.report_not_a_procedure(faults, procedure, arguments),
                 Meaning::Variable(_) => self.report_not_a_procedure(faults, procedure, arguments),
             },
@@ -252,7 +252,7 @@ impl<'t> CheckerState<'t> {
     }
 
     /// Reports the faults of a procedure call's arguments. If the number of arguments is wrong,
-    /// that is the only fault reported.
+    /// reports only `ArgumentCount`, at the token `procedure`.
     fn report_arguments(
         &self,
         faults: &mut Vec<FaultAtTokens>,
@@ -291,10 +291,10 @@ impl<'t> CheckerState<'t> {
         Ok(())
     }
 
-    /// Reports a fault if an argument doesn't fit its formal parameter. `operand` is the result of
-    /// checking the argument. An argument for a VAR parameter must be a variable, and every
-    /// argument must have its parameter's type. Returns this type if the argument has it and
-    /// nothing is reported, otherwise the unknown type.
+    /// Reports a fault if an argument, given its operand, doesn't fit its formal parameter. Reports
+    /// `NotVariable` if a VAR parameter gets an argument that can't be a variable, otherwise
+    /// `TypeMismatch` if both types are known and differ. Returns the parameter's type if the
+    /// argument has it and nothing is reported, otherwise the unknown type.
     fn check_argument_operand(
         &self,
         faults: &mut Vec<FaultAtTokens>,

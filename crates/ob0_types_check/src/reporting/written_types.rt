@@ -1,5 +1,5 @@
-//! Reports the faults of the types that are written in the text: type names, array types and record
-//! types. Makes the checker's representation of these types (`TypeId`).
+//! Reports the faults of written types, which are type names, array types and record types. Makes
+//! the checker's representation of each (`TypeId`).
 
 ghost use Rattle.std.specs.Prelude.{◌≡◌, ◌∷◌, ◌++◌, [], false, IfOk, OnOk, Some};
 ghost use Rattle.ob0_types_table.specs.declared.types.TypeId.TheVariants as type;
@@ -11,8 +11,8 @@ ghost use Rattle.ob0_types_check.specs.TypesAndMeanings.{a_variable};
 ghost use Rattle.ob0_types_check.specs.OperandFaults.{ReturnsAndReports};
 ghost use Rattle.ob0_types_check.specs.KnownDeclarations.{zero_size};
 ghost use Rattle.ob0_types_check.specs.CheckerViews.{CodeFindsFieldsAndReports, CodeFieldsMatchKnownFields, facts_in, known_fields_of, operand_of, size_of, declarations_in_state};
-ghost use Rattle.ob0_types_check.specs.TypeFaults.{length_from_operand, type_from_meaning, type_named_by_token};
-ghost use Rattle.ob0_types_check.specs.WrittenTypeFaults.{made_array_type, no_known_fields, made_record_type, record_keyword_token, report_on_field_group, report_on_further_field_groups, report_on_written_type, append_known_field, append_known_fields};
+ghost use Rattle.ob0_types_check.specs.TypeFaults.{length_from_operand, type_from_meaning, check_type_name};
+ghost use Rattle.ob0_types_check.specs.WrittenTypeFaults.{make_array_type, no_known_fields, make_record_type, record_keyword_token, report_on_field_group, report_on_further_field_groups, report_on_written_type, append_known_field, append_known_fields};
 ghost use Rattle.ob0_types_check.specs.WrittenTypeFaults as spec;
 
 use crate::reporting::ReportingWalk;
@@ -23,7 +23,9 @@ use crate::reporting::expressions::{Operand, is_same_type, report_fault_at_opera
 use ob0_language_values::Scalar;
 use ob0_scan::FaultCode;
 use ob0_scope_table::FaultAtTokens;
-use ob0_tree::{ArrayType, FieldGroup, Names, OptionalFieldGroup, RecordType, WrittenType};
+use ob0_tree::{
+    ArrayType, FieldGroup, IdentifierList, OptionalFieldGroup, RecordType, WrittenType,
+};
 use ob0_types_table::{ArrayShape, Field, FieldTable, MAX_SCALARS, RecordShape, TypeEntry, TypeId};
 use std::alloc::{AllocError, Global};
 
@@ -99,21 +101,20 @@ fn record_keyword_token(groups: &[OptionalFieldGroup]) -> usize
 }
 
 impl<'t> CheckerState<'t> {
-    /// Returns the type to which the name at `token` refers. If the name refers to something other
-    /// than a type, a fault is reported. If the name has no known meaning, nothing is reported. In
-    /// both cases the result is the unknown type.
-    fn type_named_by_token(
+    /// Returns the type to which the name at `token` refers. Reports `WrongKind` if the name isn't
+    /// a type's. In this case, and if the name has no known meaning, returns the unknown type.
+    fn check_type_name(
         &self,
         faults: &mut Vec<FaultAtTokens>,
         token: usize,
     ) -> Result<TypeId, AllocError>
         ensures { IfOk result (λ t. ReturnsAndReports faults.old.items faults.new.items t
-            (type_named_by_token (facts_in self.now false) token)) }
+            (check_type_name (facts_in self.now false) token)) }
     {
         match self.meaning_of_name(token) {
             None => Ok(TypeId::Unknown),
             Some(meaning) => match meaning {
-                Meaning::Named(of) => Ok(*of),
+                Meaning::TypeName(of) => Ok(*of),
                 Meaning::Constant(_) => self.report_not_a_type(faults, token),
                 Meaning::Variable(_) => self.report_not_a_type(faults, token),
                 Meaning::Procedure(_) => self.report_not_a_type(faults, token),
@@ -134,9 +135,10 @@ impl<'t> CheckerState<'t> {
         Ok(TypeId::Unknown)
     }
 
-    /// Returns the length of an array. `operand` is the result of checking the length's expression.
-    /// A length that isn't INTEGER, has no value or isn't valid is reported. Returns None if a
-    /// fault is reported or the operand's type is unknown.
+    /// Returns the length of an array, given the operand of its length expression. Reports
+    /// `TypeMismatch` if the operand isn't INTEGER, `ConstFault` if it has no value, and
+    /// `ArrayLength` if the value isn't from 1 to 65,536. In these cases, and if the operand's type
+    /// is unknown, returns None. An unknown type isn't reported.
     fn check_array_length(
         &self,
         faults: &mut Vec<FaultAtTokens>,
@@ -183,9 +185,7 @@ impl<'t> ReportingWalk<'t> {
             (type_of t.now))) }
     {
         match t {
-            WrittenType::Named(name) => self
-                .checker_state
-                .type_named_by_token(&mut self.faults, *name),
+            WrittenType::Named(name) => self.checker_state.check_type_name(&mut self.faults, *name),
             WrittenType::Array(a) => self.check_array_type(a, around),
             WrittenType::Record(r) => self.check_record_type(r, around),
         }
@@ -213,10 +213,11 @@ impl<'t> ReportingWalk<'t> {
         self.make_array_type(ordinal, size, length, element)
     }
 
-    /// Makes an array type and returns it. `size` is the result of checking the length's
-    /// expression. If the length has a fault (`length` is None), the result is the unknown type,
-    /// although the element type has been checked. An array type that is too large is reported at
-    /// its word ARRAY, the token before the length.
+    /// Makes an array type and returns it. `size` is the operand of the length's expression.
+    /// `ordinal` counts the words ARRAY and RECORD before the type's own word ARRAY, which is the
+    /// token before the length. If the length has a fault (`length` is None), returns the unknown
+    /// type. If the type is too large, reports `TypeTooLarge` at the word ARRAY and returns the
+    /// unknown type.
     fn make_array_type(
         &mut self,
         ordinal: usize,
@@ -225,7 +226,7 @@ impl<'t> ReportingWalk<'t> {
         element: TypeId,
     ) -> Result<TypeId, AllocError>
         ensures { IfOk result (λ of. ReturnsAndReports self.old.faults.items self.new.faults.items
-            (record { of = of; following = declarations_in_state self.new.checker_state }) (made_array_type ordinal
+            (record { of = of; following = declarations_in_state self.new.checker_state }) (make_array_type ordinal
             (operand_of size) length
             (record { of = element; following = declarations_in_state self.old.checker_state }))) }
     {
@@ -286,8 +287,8 @@ impl<'t> ReportingWalk<'t> {
     }
 
     /// Makes a record type of the gathered fields and returns it. `word` is the token of its word
-    /// RECORD. `ordinal` is the type's number: how many words ARRAY and RECORD come before this
-    /// token in the text. A record type that is too large is reported at `word`.
+    /// RECORD. `ordinal` counts the words ARRAY and RECORD before this token. If the type is too
+    /// large, reports `TypeTooLarge` at `word` and returns the unknown type.
     fn make_record_type(
         &mut self,
         word: usize,
@@ -298,7 +299,7 @@ impl<'t> ReportingWalk<'t> {
             → CodeFieldsMatchKnownFields g self.old.checker_state gathered
             → IfOk result (λ of. ReturnsAndReports self.old.faults.items self.new.faults.items
             (record { of = of; following = declarations_in_state self.new.checker_state })
-            (made_record_type word ordinal g)) }
+            (make_record_type word ordinal g)) }
     {
         let KnownFields { fields, size } = gathered;
         let size = size.size_of_record();
@@ -360,7 +361,7 @@ impl<'t> CheckerState<'t> {
     fn add_known_fields(
         &self,
         alloc: Global,
-        names: &Names,
+        names: &IdentifierList,
         of: TypeId,
         gathered: &mut KnownFields,
     ) -> Result<(), AllocError>

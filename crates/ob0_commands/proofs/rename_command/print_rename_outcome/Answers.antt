@@ -11,7 +11,7 @@ returns g c =
       ends = record {
         status_at_most_one = omega arith;
         good = λ no. absurd (omega (arith, no));
-        other = λ one. (subst (λ (r : Result (Vec Edit Global) EditRefusal). IsErrAndPrintsRefusal r (PrintsOptionalLine g.E.Write.contents g.E.TrackedOutput.is_flushed g.E.TrackedOutput.has_failed c.args.err.now c.print-in-Err.new.out)) (sym c.in-Err.is) (search rules), refl);
+        other = λ one. (subst (λ (r : Result (Vec Edit Global) EditRefusal). IsErrAndPrintsRefusal r (PrintsOptionalLine g.E.Write.contents g.E.TrackedOutput.is_flushed g.E.TrackedOutput.has_failed c.args.err.now c.write_and_flush-in-Err.new.out)) (sym c.in-Err.is) (search rules), refl);
         both = refl;
       };
       fault = tt;

@@ -4,7 +4,7 @@ use Rattle.ob0_scan.specs.TextWithTokens.{max_text_length}
 use Rattle.ob0_scan.specs.declared.lexeme.Span.{Span}
 use Rattle.ob0_scan.specs.declared.lexeme.Token.{Token}
 use Rattle.ob0_text.specs.Units.{width_of}
-use Rattle.ob0_edits_tokens.specs.ByteCuts.{length_from_place_with_cuts}
+use Rattle.ob0_edits_tokens.specs.ByteCuts.{length_after_cuts_from_offset}
 use Rattle.ob0_edits_tokens.specs.WordReplacements.{words_of_text, changed_words, changes_at_indexes}
 use Rattle.ob0_edits_tokens.specs.Ranges.{range_of}
 use Rattle.ob0_edits_tokens.specs.Removals.{changes_with_removal, span_of_tokens}
@@ -21,7 +21,7 @@ returns-then-is_edited_text_too_long-clause-too_long g c = λ _.
     let first = c.token_span_or_empty-start.ensures ∙ ap (λ (ts : List Token). token_span_or_empty ts c.args.first) c.tokens.ensures in
     let last = c.token_span_or_empty-end.ensures ∙ ap (λ (ts : List Token). token_span_or_empty ts c.args.last) c.tokens-2.ensures in
     subst (λ n. max_text_length < n)
-    ((λ i. (first i).start + length_from_place_with_cuts (length s.text) (last i).end (map (replacement_cut s.tokens c.args.new.now) c.args.token_indexes.now))
+    ((λ i. (first i).start + length_after_cuts_from_offset (length s.text) (last i).end (map (replacement_cut s.tokens c.args.new.now) c.args.token_indexes.now))
     ∙ length_after_removal s c.text-text.ensures.scan c.args.new.now c.utf8.new c.args.first c.args.last c.args.token_indexes.now c.requires.declaration c.requires.names)
     (ltb-true max_text_length _ (sym c.is_edited_text_too_long.ensures ∙ c.if-is_edited_text_too_long.true))
 
@@ -45,7 +45,7 @@ returns-clause-short g c =
     let first = c.token_span_or_empty-start.ensures ∙ ap (λ (ts : List Token). token_span_or_empty ts c.args.first) c.tokens.ensures in
     let last = c.token_span_or_empty-end.ensures ∙ ap (λ (ts : List Token). token_span_or_empty ts c.args.last) c.tokens-2.ensures in
     subst (λ n. n ≤ max_text_length)
-    ((λ i. (first i).start + length_from_place_with_cuts (length s.text) (last i).end (map (replacement_cut s.tokens c.args.new.now) c.args.token_indexes.now))
+    ((λ i. (first i).start + length_after_cuts_from_offset (length s.text) (last i).end (map (replacement_cut s.tokens c.args.new.now) c.args.token_indexes.now))
     ∙ length_after_removal s c.text-text.ensures.scan c.args.new.now c.utf8.new c.args.first c.args.last c.args.token_indexes.now c.requires.declaration c.requires.names)
     (ltb-false max_text_length _ (sym c.is_edited_text_too_long.ensures ∙ c.if-is_edited_text_too_long.false))
 

@@ -10,5 +10,5 @@ returns-in-Some-constant c =
     let r = c.args.«module».now in
     let back = c.resolved-names.ensures.value in
     constant_named r.module_read c.args.offset c.in-Some.found
-    (sym c.in-Some.is ∙ (c.name_at_offset.ensures ∙ ap (λ (q : Resolution). name_at_offset q.module_read c.args.offset) back)) c.constant_with_tokens.result
-    (subst (λ (q : Resolution). IsSomeAnd c.constant_with_tokens.result (λ x. (x.ordinal ≡ c.in-Some.found.ordinal) × IsDeclaredConstant q.module_read x)) back c.constant_with_tokens.ensures)
+    (sym c.in-Some.is ∙ (c.name_at_offset.ensures ∙ ap (λ (q : Resolution). name_at_offset q.module_read c.args.offset) back)) c.constant_with_declaration_tokens.result
+    (subst (λ (q : Resolution). IsSomeAnd c.constant_with_declaration_tokens.result (λ x. (x.ordinal ≡ c.in-Some.found.ordinal) × IsDeclaredConstant q.module_read x)) back c.constant_with_declaration_tokens.ensures)

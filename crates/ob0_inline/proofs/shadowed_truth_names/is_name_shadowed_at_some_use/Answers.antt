@@ -13,6 +13,6 @@ returns c =
     let m = named_tree_of r.module_read in
     let found = c.deref.ensures.value ∙ c.in_ok-bound.ensures in
     let many = as_many_bindings r c.module-module.ensures.resolved in
-    c.has_use_with_other_binding.ensures
+    c.has_use_with_shadowed_name.ensures
     ∙ ((λ i. list_any (λ k. same_ordinal (ordinal_bound_at_occurrence m k) c.args.constant && not (same_ordinal (option_and_then (λ o. o) (slice_get (found i) k)) c.args.ordinal)) (range_with_len 0 (length r.uses)))
     ∙ (λ i. list_any (λ k. same_ordinal (ordinal_bound_at_occurrence m k) c.args.constant && not (same_ordinal (sees_entry m c.args.name.now k i) c.args.ordinal)) (range_with_len 0 (many i))))

@@ -9,7 +9,7 @@ use Rattle.ob0_text.specs.Units.{width_of}
 use Rattle.ob0_text.specs.declared.edits.Indent.{Indent}
 use Rattle.ob0_tree.specs.ParsedModule.{ParsedModule, tree_of, named_tree_of}
 use Rattle.ob0_tree.specs.TokenIndexLeaves.{token_text_at, token_value_at}
-use Rattle.ob0_edits_tokens.specs.ByteCuts.{edit_of_cut, length_from_place_with_cuts}
+use Rattle.ob0_edits_tokens.specs.ByteCuts.{edit_of_cut, length_after_cuts_from_offset}
 use Rattle.ob0_edits_tokens.proofs.TextCuts.{AreCuts}
 use Rattle.ob0_layout.specs.Layout.{formatted_lexemes, formatted_text}
 use Rattle.ob0_text.specs.Patches.{Cut, patched_text}
@@ -37,10 +37,10 @@ lie_in_source {t = t} e indent len read is scan long h =
     subst (λ (n : ℕ). All (GapLiesInText n) read) (sym long) lie
 
 -- The counted length is the length of the formatted text.
-counted : (m : ParsedModule) (indent : Indent) (scan : IsScan m.source) → length_from_place_with_cuts (length m.source.text) 0 (changed_in indent (line_roles 0 (tree_of m)) m.source scan) ≡ length (formatted_text indent (named_tree_of m) scan.lexemes)
+counted : (m : ParsedModule) (indent : Indent) (scan : IsScan m.source) → length_after_cuts_from_offset (length m.source.text) 0 (changed_in indent (line_roles 0 (tree_of m)) m.source scan) ≡ length (formatted_text indent (named_tree_of m) scan.lexemes)
 unfolding formatted_lexemes
 counted m indent scan =
-    ap (λ (ss : List LineRole). length_from_place_with_cuts (length m.source.text) 0 (changed_in indent ss m.source scan)) (sym (roles_mapped (token_text_at m.source) (token_value_at m.source) 0 (tree_of m)))
+    ap (λ (ss : List LineRole). length_after_cuts_from_offset (length m.source.text) 0 (changed_in indent ss m.source scan)) (sym (roles_mapped (token_text_at m.source) (token_value_at m.source) 0 (tree_of m)))
     ∙ changed_length indent m.source scan (line_roles 0 (named_tree_of m))
 
 past : (b : Bool) (n m : ℕ) → (n ≤ m → IsTrue b) → b ≡ false → m < n
@@ -60,7 +60,7 @@ pub returns-then-not-is_formatted_text_within_limit-clause-too_long : goal.retur
 returns-then-not-is_formatted_text_within_limit-clause-too_long g c = λ scan reported.
     let long = ap length (c.text.ensures.value ∙ ap (λ (x : TextWithTokens). x.text) c.tokens-tokens.ensures.source) in
     let same = of_source c.tokens-tokens.ensures.source c.args.indent c.in_ok-gap_sites.gap_sites.items c.deref-2.result.now c.deref.result.now (line_roles 0 (tree_of c.args.module.now)) c.deref-2.ensures.value (c.deref.ensures.value ∙ c.in_ok-roles.ensures) c.in_ok-gap_sites.ensures scan in
-    subst (λ (n : ℕ). max_text_length < n) ((λ i. length_from_place_with_cuts (long i) 0 (same i)) ∙ counted c.args.module.now c.args.indent scan) (past c.is_formatted_text_within_limit.result _ max_text_length c.is_formatted_text_within_limit.ensures.1 c.if-not-is_formatted_text_within_limit.true)
+    subst (λ (n : ℕ). max_text_length < n) ((λ i. length_after_cuts_from_offset (long i) 0 (same i)) ∙ counted c.args.module.now c.args.indent scan) (past c.is_formatted_text_within_limit.result _ max_text_length c.is_formatted_text_within_limit.ensures.1 c.if-not-is_formatted_text_within_limit.true)
 
 pub returns-clause-edits : goal.returns-clause-edits
 returns-clause-edits g c = λ scan.
@@ -74,7 +74,7 @@ pub returns-clause-fits : goal.returns-clause-fits
 returns-clause-fits g c = λ scan.
     let long = ap length (c.text.ensures.value ∙ ap (λ (x : TextWithTokens). x.text) c.tokens-tokens.ensures.source) in
     let same = of_source c.tokens-tokens.ensures.source c.args.indent c.in_ok-gap_sites.gap_sites.items c.deref-2.result.now c.deref.result.now (line_roles 0 (tree_of c.args.module.now)) c.deref-2.ensures.value (c.deref.ensures.value ∙ c.in_ok-roles.ensures) c.in_ok-gap_sites.ensures scan in
-    subst (λ (n : ℕ). n ≤ max_text_length) ((λ i. length_from_place_with_cuts (long i) 0 (same i)) ∙ counted c.args.module.now c.args.indent scan) (c.is_formatted_text_within_limit.ensures.0 c.if-not-is_formatted_text_within_limit.false)
+    subst (λ (n : ℕ). n ≤ max_text_length) ((λ i. length_after_cuts_from_offset (long i) 0 (same i)) ∙ counted c.args.module.now c.args.indent scan) (c.is_formatted_text_within_limit.ensures.0 c.if-not-is_formatted_text_within_limit.false)
 
 pub returns-clause-patched_text : goal.returns-clause-patched_text
 unfolding formatted_lexemes

@@ -26,11 +26,11 @@ returns-in-StandardProcedure c =
     let scene = c.args.scene.now in
     MatchResult-weaker c.lower_standard_call.result c.lower_standard_call.ensures (λ made h. h (label_at_token scene.resolved.now c.args.c.now.procedure) (sym c.in-Some.ensures ∙ ap (object_view (shapes_of scene.types.now)) c.in-StandardProcedure.is)) (λ y h. h)
 
-pub returns-in-Named : goal.returns-in-Named
-returns-in-Named c =
+pub returns-in-TypeName : goal.returns-in-TypeName
+returns-in-TypeName c =
     let scene = c.args.scene.now in
     let lower_call_statement = c.args.c.now in
-    uncallable scene (label_at_token scene.resolved.now lower_call_statement.procedure) (tree_with_labels scene.resolved.now (arguments_of lower_call_statement.arguments)) writes_line (sym (ap signature_of c.in-Some.ensures) ∙ ap (λ o. signature_of (object_view (shapes_of scene.types.now) o)) c.in-Named.is)
+    uncallable scene (label_at_token scene.resolved.now lower_call_statement.procedure) (tree_with_labels scene.resolved.now (arguments_of lower_call_statement.arguments)) writes_line (sym (ap signature_of c.in-Some.ensures) ∙ ap (λ o. signature_of (object_view (shapes_of scene.types.now) o)) c.in-TypeName.is)
 
 pub returns-in-Constant : goal.returns-in-Constant
 returns-in-Constant c =

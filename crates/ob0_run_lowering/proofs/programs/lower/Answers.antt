@@ -18,6 +18,6 @@ returns c = λ well known.
     let same : c.in_ok-types.types ≡ c.args.known.now = c.in_ok-types.ensures in
     let is : module_block (numbered m) ≡ tree_with_labels r (block_of c.block.result.now) =
     ap module_block c.module.ensures.resolved.numbering ∙ ap (λ b. tree_with_labels r (block_of b)) (sym (c.block.ensures ∙ ap (λ read. read.block) c.module.ensures.value)) in
-    program_means c.in_ok-types.types m (record { visible = c.new-2.result; procedures = c.new-3.result }) c.lower_block.new.self (tree_with_labels r (block_of c.block.result.now)) c.in_ok-entry.entry
-    (record { cells = c.in_ok-entry.entry.cells; body = c.in_ok-entry.entry.body; procedures = c.lower_block.new.self.procedures }) well (λ k. subst (λ (t : DeclarationTableView). declared_object_in t k ≡ declared_object m k) (sym same) (known k)) is
-    c.new-2.ensures c.in_ok-entry.ensures refl
+    program_means c.in_ok-types.types m (record { sites = c.new-2.result; routines = c.new-3.result }) c.lower_block.new.self (tree_with_labels r (block_of c.block.result.now)) c.in_ok-entry.entry
+    (record { cells = c.in_ok-entry.entry.cells; body = c.in_ok-entry.entry.body; procedures = c.lower_block.new.self.routines }) well (λ k. subst (λ (t : DeclarationTableView). declared_object_in t k ≡ declared_object m k) (sym same) (known k)) is
+    c.new-2.ensures.items c.in_ok-entry.ensures refl

@@ -6,5 +6,5 @@ use Rattle.ob0_scope.proofs.body_range.+blocks.Given as goal
 
 abbrev pub invariant-find_body_in_block-loop-p : goal.invariant-find_body_in_block-loop-p
 invariant-find_body_in_block-loop-p l =
-    place_left l.low l.own (body_of (out-Block l.inner).body) l.p-index l.p-items
-    ≡ from_procedures l.low l.own (items_of procedure_of l.p-items) (body_of (out-Block l.inner).body)
+    place_left l.low l.own (body_of (out-Block l.inner).body) l.p-index l.p-items l.names.items
+    ≡ from_procedures l.low l.own (items_of procedure_of l.p-items) (body_of (out-Block l.inner).body) l.initial.names.items

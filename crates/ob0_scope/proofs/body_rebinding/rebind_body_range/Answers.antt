@@ -1,11 +1,11 @@
-use Rattle.std.proofs.Common.{◌≡◌, ◌≤◌, ◌++◌, [], ℕ, List, Option, length, not, sym, ap, ◌∙◌, subst, arith}
+use Rattle.std.proofs.Common.{◌≡◌, ◌≤◌, ◌++◌, [], length, not, sym, ap, ◌∙◌, arith}
 use Rattle.std.specs.List.{list_any}
 use Rattle.ob0_scan.specs.TextWithTokens.{TextWithTokens}
-use Rattle.ob0_tree.specs.ParsedModule.{tree_of}
+use Rattle.ob0_tree.specs.View.{body_of}
 use Rattle.ob0_scope_table.specs.Resolution.{is_duplicate_or_end_name_fault, undeclared_faults_from_table}
-use Rattle.ob0_scope_numbering.specs.BodyWalk.{renumber_body_in_module, initial_walk_state_with_table}
-use Rattle.ob0_scope_numbering.specs.IdentifierSpellings.{original_spellings}
-use Rattle.ob0_scope.specs.BindingsOutsideBody.{tokens_in_changed_text, ordinals_in_changed_text}
+use Rattle.ob0_scope_numbering.specs.BodyScope.{scope_from_table, state_before_body}
+use Rattle.ob0_scope_numbering.specs.IdentifierWalk.{visit_nondeclaring_tree}
+use Rattle.ob0_scope.specs.BindingsOutsideBody.{tokens_in_changed_text}
 use Rattle.ob0_scope.proofs.NewBody.{new_body_bound}
 use Rattle.ob0_scope.proofs.StillOnce.{still_once}
 use Rattle.ob0_scope.proofs.body_rebinding.rebind_body_range.Goals as goal
@@ -13,7 +13,7 @@ use Rattle.ob0_scope.proofs.body_rebinding.rebind_body_range.Goals as goal
 pub recheck_declarations-requires : goal.recheck_declarations-requires
 recheck_declarations-requires c =
     let was = c.requires.was_bound in
-    ap (list_any is_duplicate_or_end_name_fault) c.deref-5.ensures.value
+    ap (list_any is_duplicate_or_end_name_fault) c.deref-4.ensures.value
     ∙ (was.resolved.reported.declared_twice ∙ ap not (sym (still_once was.old c.args.read.now was.path c.requires.same was.replaced)))
 
 pub returns : goal.returns
@@ -21,15 +21,16 @@ returns c =
     let m = c.args.read.now in
     let b = c.args.old.now in
     let range = c.args.range in
-    let own = c.args.own.now in
-    let table : c.in_ok-table.table.items ≡ ordinals_in_changed_text range b.ordinals.items = c.in_ok-table.ensures ∙ ap (ordinals_in_changed_text range) c.deref.ensures.value in
+    let table = c.args.table in
+    let statements = body_of c.args.statements.now in
+    let parts = c.into_tokens_and_ordinals-declared in
     let count : length c.tokens.result.now ≡ length m.source.tokens = ap length (c.tokens.ensures ∙ ap (λ (s : TextWithTokens). s.tokens) c.tokens-tokens.ensures.source) in
-    let within : length m.source.tokens ≤ length c.in_ok-table.table.items = omega (arith, c.if-len-tokens.false, c.len.ensures, count, c.in_ok-table.table.ok) in
-    let long : length m.source.tokens ≤ length (ordinals_in_changed_text range b.ordinals.items) = subst (λ (t : List (Option ℕ)). length m.source.tokens ≤ length t) table within in
-    let declared : c.in_ok-declaration_tokens.declaration_tokens.items ≡ tokens_in_changed_text range b.declaration_tokens.items [] = c.in_ok-declaration_tokens.ensures ∙ ap (λ is. tokens_in_changed_text range is []) c.deref-2.ensures.value in
-    let numbered = c.in_ok-ordinals.ensures ∙ (λ i. (renumber_body_in_module (c.deref-3.ensures.value i) range.first (tree_of m) (initial_walk_state_with_table (original_spellings m.source) (table i))).marks) in
-    let used : c.in_ok-occurrences.occurrences.items ≡ tokens_in_changed_text range b.occurrences.items own = c.in_ok-occurrences.ensures ∙ ap (λ is. tokens_in_changed_text range is own) c.deref-4.ensures.value in
+    let within : length m.source.tokens ≤ length table.items = omega (arith, c.if-len-tokens.false, c.len.ensures, count, table.ok) in
+    let walked = c.in_ok-numbering.ensures
+    ∙ (λ i. visit_nondeclaring_tree statements (state_before_body (c.tokens-tokens.ensures.source i) (scope_from_table (c.tokens-tokens.ensures.source i) table.items c.args.names.now) table.items)) in
+    let declared : c.in_ok-declaration_tokens.declaration_tokens.items ≡ tokens_in_changed_text range b.declaration_tokens.items [] = c.in_ok-declaration_tokens.ensures ∙ ap (λ is. tokens_in_changed_text range is []) c.deref.ensures.value in
+    let used : c.in_ok-occurrences.occurrences.items ≡ tokens_in_changed_text range b.occurrences.items parts.result.1.items = c.in_ok-occurrences.ensures ∙ (λ i. tokens_in_changed_text range (c.deref-2.ensures.value i) (c.deref-3.ensures.value i)) in
     let all = c.in_ok-report_undeclared_names.ensures
-    ∙ (λ i. c.in_ok-faults.faults.items ++ undeclared_faults_from_table (c.deref-6.ensures.value i) (c.deref-7.ensures.value i)) in
-    new_body_bound m b range own c.in_ok-ordinals.ordinals.items c.in_ok-declaration_tokens.declaration_tokens.items c.in_ok-occurrences.occurrences.items c.in_ok-faults.faults.items c.report_undeclared_names.new.faults.items
-    c.requires long declared numbered used c.in_ok-faults.ensures all
+    ∙ (λ i. c.in_ok-faults.faults.items ++ undeclared_faults_from_table (c.deref-5.ensures.value i) (c.deref-6.ensures.value i)) in
+    new_body_bound m b table.items range c.args.names.now statements c.in_ok-numbering.numbering parts.result.2.items c.in_ok-declaration_tokens.declaration_tokens.items parts.result.1.items c.in_ok-occurrences.occurrences.items c.in_ok-faults.faults.items c.report_undeclared_names.new.faults.items
+    c.requires within walked parts.ensures.table parts.ensures.uses declared used c.in_ok-faults.ensures all

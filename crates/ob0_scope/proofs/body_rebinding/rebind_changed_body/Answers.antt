@@ -2,17 +2,21 @@ use Rattle.std.proofs.Common.{◌≡◌, ◌≤◌, ◌++◌, ℕ, List, Option,
 use Rattle.std.specs.List.{list_any}
 use Rattle.ob0_scan.specs.TextWithTokens.{TextWithTokens}
 use Rattle.ob0_tree.specs.ParsedModule.{tree_of}
+use Rattle.ob0_tree.specs.View.{block_of, body_of}
+use Rattle.ob0_tree.specs.declared.tree.Block.{Block}
+use Rattle.ob0_scope_table.specs.BodyReplacement.{body_at_path, body_at_path_in_block, path_to_body_in_block, path_to_body_in_module}
 use Rattle.ob0_scope_table.specs.Resolution.{is_duplicate_or_end_name_fault, ordinal_in, undeclared_faults_from_table}
-use Rattle.ob0_scope_table.specs.Bindings.{resolution_with_bindings}
-use Rattle.ob0_scope_numbering.specs.MarkWalk.{initial_walk_state}
-use Rattle.ob0_scope_numbering.specs.IdentifierWalk.{visit_module}
-use Rattle.ob0_scope_numbering.specs.BodyWalk.{renumber_body_in_module, initial_walk_state_with_table}
+use Rattle.ob0_scope_numbering.specs.BodyScope.{scope_from_table, state_before_body}
 use Rattle.ob0_scope_numbering.specs.IdentifierSpellings.{original_spellings}
-use Rattle.ob0_scope_numbering.proofs.BodyTables.{body_numbered}
+use Rattle.ob0_scope_numbering.specs.IdentifierWalk.{visit_module, visit_nondeclaring_tree}
+use Rattle.ob0_scope_numbering.specs.MarkWalk.{initial_walk_state}
+use Rattle.ob0_scope_numbering.specs.TableWalk.{WalkState}
 use Rattle.ob0_scope_numbering.proofs.Passing.{HasMarks}
+use Rattle.ob0_scope.specs.NamesVisibleInBody.{names_visible_at_path, names_visible_at_path_in_block}
+use Rattle.ob0_scope.proofs.BodyBound.{body_rebound, rebound}
+use Rattle.ob0_scope.proofs.BodyChanges.{changed_outside}
 use Rattle.ob0_scope.proofs.Made.{resolution_marked}
 use Rattle.ob0_scope.proofs.StillOnce.{still_once_written}
-use Rattle.ob0_scope.proofs.TokensWith.{marks_resolved}
 use Rattle.ob0_scope.proofs.body_rebinding.rebind_changed_body.Goals as goal
 
 pub recheck_declarations-requires : goal.recheck_declarations-requires
@@ -24,16 +28,26 @@ recheck_declarations-requires c =
 pub returns : goal.returns
 returns c =
     let m = c.args.read.now in
+    let low = c.args.low in
     let was = c.requires in
     let b = c.args.old in
-    let made_of = λ (all : List ℕ). (renumber_body_in_module all c.args.low (tree_of m) (initial_walk_state_with_table (original_spellings m.source) b.ordinals.items)).marks in
-    let made : c.in_ok-ordinals.ordinals.items ≡ made_of b.declaration_tokens.items = c.in_ok-ordinals.ensures ∙ ap made_of c.deref.ensures.value in
+    let path = path_to_body_in_module low (tree_of m) in
+    let found = c.in_ok-found in
+    let statements : body_of found.found.statements.now ≡ body_at_path path (tree_of m) = found.ensures.statements ∙ ap (λ (b : Block). body_at_path_in_block (path_to_body_in_block low (block_of b)) (block_of b)) c.block.ensures in
+    let names : c.find_body_in_block.new.names.items ≡ names_visible_at_path path (tree_of m) =
+    found.ensures.names ∙ (ap (λ (is : List ℕ). is ++ names_visible_at_path_in_block (path_to_body_in_block low (block_of c.block.result.now)) (block_of c.block.result.now)) c.new-names.ensures.items
+    ∙ ap (λ (b : Block). names_visible_at_path_in_block (path_to_body_in_block low (block_of b)) (block_of b)) c.block.ensures) in
+    let walk : c.in_ok-numbering.numbering ≡ rebound m path was.parsed b.ordinals.items =
+    c.in_ok-numbering.ensures
+    ∙ (λ i. visit_nondeclaring_tree (statements i) (state_before_body (c.tokens-tokens.ensures.source i) (scope_from_table (c.tokens-tokens.ensures.source i) b.ordinals.items ((c.deref.ensures.value ∙ names) i)) b.ordinals.items)) in
+    let parts = c.into_tokens_and_ordinals-declared in
+    let made : parts.result.2.items ≡ (rebound m path was.parsed b.ordinals.items).marks = parts.ensures.table ∙ ap (λ (v : WalkState). v.marks) walk in
     let count : length c.tokens.result.now ≡ length m.source.tokens = ap length (c.tokens.ensures ∙ ap (λ (s : TextWithTokens). s.tokens) c.tokens-tokens.ensures.source) in
     let within : length m.source.tokens ≤ length b.ordinals.items = omega (arith, c.if-len-tokens.false, c.len.ensures, count, b.ordinals.ok) in
-    let numbered = body_numbered was.old m c.args.low c.args._changed_end b.ordinals.items b.declaration_tokens.items was.parsed was.change (marks_resolved (resolution_with_bindings (record m { source = was.old }) b) was.resolved) was.resolved.declaring within in
+    let again = body_rebound m path was.parsed b.ordinals.items was.change.new_scan (changed_outside was.old m low c.args._changed_end was.parsed was.change b.ordinals.items was.resolved.binding) within in
     let all = c.in_ok-report_undeclared_names.ensures
     ∙ (λ i. c.in_ok-faults.faults.items ++ undeclared_faults_from_table (c.deref-3.ensures.value i) (c.deref-4.ensures.value i)) in
-    resolution_marked m c.in_ok-ordinals.ordinals.items b.declaration_tokens.items b.occurrences.items c.in_ok-faults.faults.items c.report_undeclared_names.new.faults.items was.parsed
-    (subst (λ (os : List (Option ℕ)). HasMarks (ordinal_in os) (visit_module (tree_of m) (initial_walk_state (original_spellings m.source))).marks) (sym made) numbered.marks)
-    (λ token e. ap (λ (os : List (Option ℕ)). ordinal_in os token) made ∙ (numbered.elsewhere token e ∙ was.resolved.ordinals_only_at_names token e))
+    resolution_marked m parts.result.2.items b.declaration_tokens.items b.occurrences.items c.in_ok-faults.faults.items c.report_undeclared_names.new.faults.items was.parsed
+    (subst (λ (os : List (Option ℕ)). HasMarks (ordinal_in os) (visit_module (tree_of m) (initial_walk_state (original_spellings m.source))).marks) (sym made) again.marks)
+    (λ token e. ap (λ (os : List (Option ℕ)). ordinal_in os token) made ∙ (again.elsewhere token e ∙ was.resolved.ordinals_only_at_names token e))
     was.resolved.declaring was.resolved.occurring c.in_ok-faults.ensures all

@@ -13,4 +13,4 @@ loop-diagnosis-preserved g c =
     let this = reported_diagnosis_of c.in-Some.diagnosis in
     rw c.in_ok-push.ensures.items
     (diagnostics_next shown c.loop-diagnosis.yielded c.in-Some.diagnosis c.loop-diagnosis.list.items c.diagnostic_with_range.result c.loop-diagnosis.invariant
-    (c.diagnostic_with_range.ensures ∙ (λ i. record { code = this.code; said = this.message; start = c.position_at-start.ensures i; end = c.position_at-end.ensures i })))
+    (c.diagnostic_with_range.ensures ∙ (λ i. record { code = this.code; message = this.message; start = c.position_at-start.ensures i; end = c.position_at-end.ensures i })))

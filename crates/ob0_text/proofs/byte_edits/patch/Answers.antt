@@ -6,7 +6,7 @@ use Rattle.std.proofs.lemmas.Str.{chars-append, encodes-chars, scalars-chars, ch
 use Rattle.std.proofs.lemmas.List.{drop_all, length-map}
 use Rattle.ob0_text.specs.Units.{width_of}
 use Rattle.ob0_text.specs.Patches.{cuts_of_edits, cuts_in_text_order}
-use Rattle.ob0_text.specs.StoredCuts.{cut_of_byte_edit, cut_in_bytes}
+use Rattle.ob0_text.specs.StoredCuts.{cut_of_byte_edit, cut_with_byte_offsets}
 use Rattle.ob0_text.proofs.CutOrder.{cuts_inside, inside_order}
 use Rattle.ob0_text.proofs.Pieces.{IsPieced, pieced_start, patched_text-none, patched_text-some, last_chars}
 use Rattle.ob0_text.proofs.PatchSteps.{find_cut, overlap_at, next_at, chars_pushed, border_of, pieced_moved}
@@ -86,7 +86,7 @@ returns-clause-ok g c =
     let inv = c.loop-cut.invariant in
     let good = ap scalars (sym inv.1) ∙ scalars-chars c.as_str-text.result.now c.as_str-text.utf8 in
     let whole = ap encode_utf8_all (sym inv.1) ∙ encodes-chars c.as_str-text.result.now c.as_str-text.utf8 in
-    let as_many = sym (length-map c.deref-cut-items.result.now cut_of_byte_edit) ∙ ap length inv.0 ∙ length-map (cuts_in_text_order cuts) (cut_in_bytes text) in
+    let as_many = sym (length-map c.deref-cut-items.result.now cut_of_byte_edit) ∙ ap length inv.0 ∙ length-map (cuts_in_text_order cuts) (cut_with_byte_offsets text) in
     let empty = drop_all c.loop-cut.cut-index (cuts_in_text_order cuts) (subst (λ n. n ≤ c.loop-cut.cut-index) as_many c.loop-cut-test.false) in
     let done = chars (string_bytes c.loop-cut.patched_text) in
     let last = subst (IsPieced text (cuts_in_text_order cuts) done c.loop-cut.kept) empty inv.2 in

@@ -6,7 +6,7 @@ use Rattle.ob0_text.specs.Texts.{offset_of}
 use Rattle.ob0_text.specs.Units.{width_of}
 use Rattle.ob0_text.specs.declared.edits.Edit.{Edit}
 use Rattle.ob0_text.specs.Patches.{cuts_of_edits}
-use Rattle.ob0_text.specs.StoredCuts.{cut_of_byte_edit, cut_in_bytes}
+use Rattle.ob0_text.specs.StoredCuts.{cut_of_byte_edit, cut_with_byte_offsets}
 use Rattle.ob0_text.proofs.PatchSteps.{cuts_further, any_default, as_long}
 use Rattle.ob0_text.proofs.byte_edits.unsorted_byte_edits.Goals as goal
 
@@ -32,4 +32,4 @@ pub returns : goal.returns
 returns g c =
     let text = g.T.TextStore.content c.args.store.now in
     let width = width_of (g.T.TextStore.unit_of c.args.store.now) in
-    c.loop-i.invariant ∙ ap (λ es. map (cut_in_bytes text) (cuts_of_edits width text es)) (take_all c.loop-i.i c.args.edits.now c.loop-i-test.false)
+    c.loop-i.invariant ∙ ap (λ es. map (cut_with_byte_offsets text) (cuts_of_edits width text es)) (take_all c.loop-i.i c.args.edits.now c.loop-i-test.false)

@@ -9,8 +9,8 @@ use Rattle.ob0_tree.proofs.Firsts.{found_first, found_later}
 use Rattle.ob0_tree.proofs.Viewed.{if_parts, repeat_read, while_read}
 use Rattle.ob0_tree.proofs.first_identifiers.+statements.Goals as goal
 
--- Proves the search in the four parts of an IF: if the parts before one of them have no identifier,
--- it has the first one.
+-- Proves that the first identifier of an IF statement is found part by part: it is the first
+-- identifier of the first of the four parts that has one.
 module _ (i : If) where
   abbrev condition : List (Role × ℕ)
   condition = identifiers role.DeclaringName (expression_of (out-If i).condition)

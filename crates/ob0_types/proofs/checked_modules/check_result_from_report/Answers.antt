@@ -13,12 +13,11 @@ returns c =
     let none_law = c.typed_modules_have_no_fault.ensures in
     let is = c.module-module.ensures.resolved in
     let faults = c.in_ok-faults.faults.items in
-    let found = ap (λ fs. fs ++ filter is_duplicate_or_end_name_fault r.faults) c.requires.report.faults in
+    let found = ap (λ fs. fs ++ filter is_duplicate_or_end_name_fault r.faults) c.requires.faults in
     record {
       resolved = is;
       reported = reported_if_faulty r faults c.modules_without_fault_pass_type_check.ensures none_law is (subst (λ fs. (faults ≡ []) ↔ (fs ≡ [])) found c.in_ok-faults.ensures.none);
       first = subst (λ fs. AreFirstFaultsWhenSorted (compare_faults_by_tokens (length r.module_read.source.tokens)) fs faults) found c.in_ok-faults.ensures.first;
-      table = known_where_typed r c.args.report none_law is c.requires.report;
-      fields = c.requires.fields;
-      bodies_with_faults = subst (λ bodies. AllClosingNamesPass (is_body_in_list bodies) (faulty_bodies r)) (sym c.requires.report.bodies_with_faults) (all_among (faulty_bodies r));
+      table = known_where_typed r c.args.report none_law is c.requires;
+      bodies_with_faults = subst (λ bodies. AllClosingNamesPass (is_body_in_list bodies) (faulty_bodies r)) (sym c.requires.bodies_with_faults) (all_among (faulty_bodies r));
     }

@@ -1,40 +1,41 @@
-use Rattle.std.proofs.Common.{◌≡◌, ℕ, ◌+◌, ◌++◌, sym, ap, ◌∙◌, arith}
-use Rattle.ob0_tree.proofs.Viewed.{block_parts}
+use Rattle.std.proofs.Common.{◌≡◌, ℕ, ◌+◌, ◌++◌, refl, sym, ap, ◌∙◌}
+use Rattle.ob0_tree.proofs.Viewed.{block_parts, procedure_parts}
 use Rattle.ob0_tree.specs.declared.tree.Block.{out-Block}
-use Rattle.ob0_tree.specs.View.{block_of, items_of, procedure_of, type_section_of, variable_section_of}
-use Rattle.ob0_language_names.specs.BlockParts.{section_types, section_variables}
-use Rattle.ob0_language_types.specs.Declarations.{block_constructor_count, procedure_list_constructor_count, types_constructor_count, variables_constructor_count}
-use Rattle.ob0_types_fields.specs.FieldIdentifiers.{fields_declared_in_block, fields_declared_in_procedures}
-use Rattle.ob0_types_fields.specs.IdentifierOwners.{fields_in_types, fields_in_variables}
-use Rattle.ob0_types_fields.proofs.DeclaringWalks.{declaring_end}
-use Rattle.ob0_types_fields.proofs.MarkWalks.{joined}
+use Rattle.ob0_tree.specs.declared.tree.Procedure.{out-Procedure}
+use Rattle.ob0_tree.specs.View.{block_of, formals_of, items_of, procedure_of, type_section_of, variable_section_of}
+use Rattle.ob0_language_names.specs.BlockParts.{formal_parameter_sections, section_types, section_variables}
+use Rattle.ob0_language_types.specs.Declarations.{block_constructor_count, formals_constructor_count, procedure_constructor_count, procedure_list_constructor_count, types_constructor_count, variables_constructor_count}
+use Rattle.ob0_types_fields.specs.FieldIdentifiers.{fields_declared_in_block, fields_declared_in_procedure, fields_declared_in_procedures}
+use Rattle.ob0_types_fields.specs.IdentifierOwners.{fields_in_parameter_sections, fields_in_types, fields_in_variables}
+use Rattle.ob0_types_fields.proofs.FieldVisits.{declaration_visited, declarations_visited, on_ok, visits_as, visits_both}
 use Rattle.ob0_types_fields.proofs.declared_block_fields.+blocks.Goals as goal
 
-pub add_fields_declared_in_block-returns-clause-found : goal.add_fields_declared_in_block-returns-clause-found
-add_fields_declared_in_block-returns-clause-found t c =
-    let b = out-Block c.args.b.now in
-    let start = c.args.found.now.items in
-    let k : ℕ = c.args.word_count.now in
-    let ts = section_types (type_section_of b.types) in
-    let vs = section_variables (variable_section_of b.variables) in
-    let ps = items_of procedure_of b.procedures.items in
-    let jv : ℕ = k + types_constructor_count ts in
-    let jp : ℕ = jv + variables_constructor_count vs in
-    let first : c.add_type_section_fields.new.word_count ≡ jv = c.in_ok-add_type_section_fields.ensures.word_count in
-    let second : c.add_variable_section_fields.new.word_count ≡ jp = c.in_ok-add_variable_section_fields.ensures.word_count ∙ ap (λ n. n + variables_constructor_count vs) first in
-    let e = c.in_ok-add_variable_section_fields.ensures.found ∙ ap (λ n. c.add_type_section_fields.new.found.items ++ fields_in_variables n vs) first in
-    let ends = declaring_end c.loop-p.invariant c.loop-p-test.false in
-    let f = ends.0 ∙ (λ i. c.add_variable_section_fields.new.found.items ++ fields_declared_in_procedures (second i) (items_of procedure_of (c.deref-p-items.ensures.value i))) in
-    f ∙ (joined c.add_type_section_fields.new.found.items (fields_in_variables jv vs) (fields_declared_in_procedures jp ps) e
-    ∙ (joined start (fields_in_types k ts) (fields_in_variables jv vs ++ fields_declared_in_procedures jp ps) c.in_ok-add_type_section_fields.ensures.found
-    ∙ ap (λ t. start ++ fields_declared_in_block k t) (sym (block_parts c.args.b.now))))
+pub visit_fields_declared_in_block-loop-p-preserved : goal.visit_fields_declared_in_block-loop-p-preserved
+visit_fields_declared_in_block-loop-p-preserved g t c =
+    let p = procedure_of c.p-item.result in
+    declaration_visited procedure_of fields_declared_in_procedures procedure_list_constructor_count c.p-item.result (λ n. fields_declared_in_procedure n p) (procedure_constructor_count p)
+    (λ n rest. refl) (λ rest. refl) c.loop-p.invariant c.loop-p-test.true c.p-item.is c.in_ok-visit_fields_declared_in_procedure.ensures
 
-pub add_fields_declared_in_block-returns-clause-word_count : goal.add_fields_declared_in_block-returns-clause-word_count
-add_fields_declared_in_block-returns-clause-word_count t c =
+pub visit_fields_declared_in_block-returns : goal.visit_fields_declared_in_block-returns
+visit_fields_declared_in_block-returns g t c =
     let b = out-Block c.args.b.now in
-    let ts = section_types (type_section_of b.types) in
+    let k : ℕ = c.args.word_count.now in
     let vs = section_variables (variable_section_of b.variables) in
-    let ends = declaring_end c.loop-p.invariant c.loop-p-test.false in
-    let listed = ap (λ xs. procedure_list_constructor_count (items_of procedure_of xs)) c.deref-p-items.ensures.value in
-    let whole : block_constructor_count (block_of c.args.b.now) ≡ types_constructor_count ts + (variables_constructor_count vs + procedure_list_constructor_count (items_of procedure_of b.procedures.items)) = ap block_constructor_count (block_parts c.args.b.now) in
-    omega (arith, ends.1, listed, whole, c.in_ok-add_type_section_fields.ensures.word_count, c.in_ok-add_variable_section_fields.ensures.word_count)
+    let ps = items_of procedure_of c.deref-p-items.result.now in
+    let ends = declarations_visited procedure_of fields_declared_in_procedures procedure_list_constructor_count (λ n. refl) refl c.loop-p.invariant c.loop-p-test.false in
+    let later = visits_both (λ n. fields_declared_in_procedures n ps) c.in_ok-visit_variable_section_fields.ensures ends in
+    let all = visits_both (λ n. fields_in_variables n vs ++ fields_declared_in_procedures (n + variables_constructor_count vs) ps) c.in_ok-visit_type_section_fields.ensures later in
+    let listed = ap (items_of procedure_of) c.deref-p-items.ensures.value in
+    let types = fields_in_types k (section_types (type_section_of b.types)) in
+    let before : ℕ = k + types_constructor_count (section_types (type_section_of b.types)) in
+    visits_as
+    (ap (λ zs. types ++ (fields_in_variables before vs ++ fields_declared_in_procedures (before + variables_constructor_count vs) zs)) listed ∙ ap (fields_declared_in_block k) (sym (block_parts c.args.b.now)))
+    (ap (λ zs. types_constructor_count (section_types (type_section_of b.types)) + (variables_constructor_count vs + procedure_list_constructor_count zs)) listed ∙ ap block_constructor_count (sym (block_parts c.args.b.now)))
+    all
+
+pub visit_fields_declared_in_procedure-returns : goal.visit_fields_declared_in_procedure-returns
+visit_fields_declared_in_procedure-returns g t c =
+    let p = out-Procedure c.args.p.now in
+    let parts = sym (procedure_parts c.args.p.now) in
+    on_ok c.visit_fields_declared_in_block.result c.visit_fields_declared_in_block.ensures
+    (λ v. visits_as (ap (fields_declared_in_procedure c.args.word_count.now) parts) (ap procedure_constructor_count parts) (visits_both (λ n. fields_declared_in_block n (block_of p.block)) c.in_ok-visit_parameter_type_fields.ensures v))

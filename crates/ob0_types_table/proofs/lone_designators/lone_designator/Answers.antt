@@ -10,4 +10,4 @@ returns-in-Factor c =
 
 pub returns-in-CompoundExpression : goal.returns-in-CompoundExpression
 returns-in-CompoundExpression c =
-    c.designator_of_compound.ensures ∙ (ap (λ e. lone_designator (compound_expression_of e)) c.deref.ensures ∙ sym (ap (λ e. lone_designator (expression_of e)) c.in-CompoundExpression.is))
+    c.designator_of_compound_expression.ensures ∙ (ap (λ e. lone_designator (compound_expression_of e)) c.deref.ensures ∙ sym (ap (λ e. lone_designator (expression_of e)) c.in-CompoundExpression.is))

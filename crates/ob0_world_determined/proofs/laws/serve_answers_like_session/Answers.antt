@@ -2,4 +2,4 @@ use Rattle.ob0_world_determined.proofs.laws.serve_answers_like_session.Goals as 
 use Rattle.ob0_world_determined.proofs.Streams.{conversation_is_served}
 
 pub returns : goal.returns
-returns c = conversation_is_served c.conversation_is_determined.ensures c.feeding_is_determined.ensures c.empty_feed_completes_nothing.ensures c.written_frames_are_read.ensures
+returns c = conversation_is_served c.conversation_is_determined.ensures c.feeding_result_is_unique.ensures c.empty_feed_completes_nothing.ensures c.written_frames_are_read.ensures

@@ -2,7 +2,7 @@ use Rattle.std.specs.Prelude.{[], ◌∷◌, ◌++◌}
 use Rattle.std.proofs.Common.{◌∙◌, ap, subst}
 use Rattle.std.specs.List.{flat_map}
 use Rattle.ob0_frame.specs.Frames.{frame}
-use Rattle.ob0_session_server.specs.Answers.{start, IsConversation}
+use Rattle.ob0_session_server.specs.Answers.{initial_server_state, IsConversation}
 use Rattle.ob0_world.proofs.Conversing.{conversation_then}
 use Rattle.ob0_world_determined.proofs.laws.serve_guarantees_hold_for_every_exchange.Goals as goal
 
@@ -15,11 +15,11 @@ returns c unit begin now turns begins leads =
       written_first = λ short more put result written served. c.serve_answers_prefix_like_session.ensures now.wire.taken (now.wire.got ++ now.wire.to_editor) now.wire.session short holds.conversation more put result written served;
       ended = λ id shutdown exit is_shutdown is_exit sent end talked short more put result written served.
           c.serve_ends_like_session.ensures (now.wire.taken ++ shutdown ∷ exit ∷ []) ((now.wire.got ++ now.wire.to_editor) ++ sent) end 0 short
-          (conversation_then start now.wire.taken (now.wire.got ++ now.wire.to_editor) now.wire.session (shutdown ∷ exit ∷ []) sent end holds.conversation talked)
+          (conversation_then initial_server_state now.wire.taken (now.wire.got ++ now.wire.to_editor) now.wire.session (shutdown ∷ exit ∷ []) sent end holds.conversation talked)
           (holds.ends id shutdown exit is_shutdown is_exit sent end talked).ended more put result written served;
       written_after_memory_fault = λ taken put part are.
           part.frames
           ∙ ap (flat_map frame)
-          (c.conversation_is_determined.ensures start now.wire.taken part.sent (now.wire.got ++ now.wire.to_editor) part.after now.wire.session
-          (subst (λ contents. IsConversation start contents part.sent part.after) are part.conversation) holds.conversation).0;
+          (c.conversation_is_determined.ensures initial_server_state now.wire.taken part.sent (now.wire.got ++ now.wire.to_editor) part.after now.wire.session
+          (subst (λ contents. IsConversation initial_server_state contents part.sent part.after) are part.conversation) holds.conversation).0;
     }

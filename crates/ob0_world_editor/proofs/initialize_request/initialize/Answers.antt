@@ -11,4 +11,4 @@ shallow Utf16 = omega arith
 shallow Utf8 = omega arith
 
 pub returns : goal.returns
-returns c = if_ok c.content_of.result (λ content sent. (sent (shallow c.args.unit)).reads) c.content_of.ensures
+returns c = if_ok c.content_of_message.result (λ content sent. (sent (shallow c.args.unit)).reads) c.content_of_message.ensures

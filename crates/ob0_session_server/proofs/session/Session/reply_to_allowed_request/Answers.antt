@@ -7,5 +7,5 @@ use Rattle.ob0_session_server.proofs.session.Session.reply_to_allowed_request.Go
 
 pub returns-in-Err : goal.returns-in-Err
 returns-in-Err g c =
-    IfOk-weaker c.fault_message.result _ _ (λ sent h.
-    request_refused c.args.self.now (json_of_id c.args.id.now) (request_by_method c.args.method.now (view c.args.params.now)) c.in-Err.fault sent c.in-Err.ensures h.0 h.1) c.fault_message.ensures
+    IfOk-weaker c.fault_response.result _ _ (λ sent h.
+    request_refused c.args.self.now (json_of_id c.args.id.now) (request_by_method c.args.method.now (view c.args.params.now)) c.in-Err.fault sent c.in-Err.ensures h.0 h.1) c.fault_response.ensures

@@ -23,5 +23,5 @@ returns-in-Ok-Ignored g c =
 
 pub returns-in-Err : goal.returns-in-Err
 returns-in-Err g c =
-    IfOk-weaker c.fault_message.result _ _ (λ sent h.
-    refused c.args.self.now c.args.content.now c.in-Err.fault sent c.in-Err.ensures h.0 h.1) c.fault_message.ensures
+    IfOk-weaker c.fault_response.result _ _ (λ sent h.
+    refused c.args.self.now c.args.content.now c.in-Err.fault sent c.in-Err.ensures h.0 h.1) c.fault_response.ensures

@@ -6,8 +6,8 @@ use Rattle.ob0_types_check.specs.ExpressionFaults.{report_on_expression}
 use Rattle.ob0_types_check.specs.OperandFaults.{ReturnsAndReports, without_fault, ◌>>=◌}
 use Rattle.ob0_types_check.specs.KnownDeclarations.{TypeWithFollowingDeclarations, facts_from_declarations}
 use Rattle.ob0_types_check.specs.CheckerViews.{operand_of, declarations_in_state}
-use Rattle.ob0_types_check.specs.TypeFaults.{length_from_operand, type_named_by_token}
-use Rattle.ob0_types_check.specs.WrittenTypeFaults.{KnownFields, made_array_type, append_field_group, no_known_fields, next_type_ordinal, record_keyword_token, report_on_field_group, report_on_further_field_groups, report_on_written_type}
+use Rattle.ob0_types_check.specs.TypeFaults.{length_from_operand, check_type_name}
+use Rattle.ob0_types_check.specs.WrittenTypeFaults.{KnownFields, make_array_type, append_field_group, no_known_fields, next_type_ordinal, record_keyword_token, report_on_field_group, report_on_further_field_groups, report_on_written_type}
 use Rattle.ob0_types_check.specs.WrittenTypeFaults as spec
 use Rattle.ob0_types_check.proofs.Chains.{chain_ends, steps, reports_nothing, reports_same}
 use Rattle.ob0_types_check.proofs.GatheredFields.{gathers, groups_begin, groups_go_on}
@@ -22,9 +22,9 @@ check_nested_type-returns-in-Named t c =
     let p = declarations_in_state s in
     let n = c.args.around in
     let name = c.in-Named.name in
-    IfOk-weaker c.type_named_by_token.result _ _ (λ of h. reports_same
-    (steps (λ u. without_fault (record { of = u; following = p })) (reports_same h (ap (λ facts. type_named_by_token facts name) (facts_same s false))) (reports_nothing c.type_named_by_token.new.faults.items (record { of = of; following = p })))
-    (sym (ap (λ z. report_on_written_type n p (type_of z)) c.in-Named.is ∙ named_reported n p name))) c.type_named_by_token.ensures
+    IfOk-weaker c.check_type_name.result _ _ (λ of h. reports_same
+    (steps (λ u. without_fault (record { of = u; following = p })) (reports_same h (ap (λ facts. check_type_name facts name) (facts_same s false))) (reports_nothing c.check_type_name.new.faults.items (record { of = of; following = p })))
+    (sym (ap (λ z. report_on_written_type n p (type_of z)) c.in-Named.is ∙ named_reported n p name))) c.check_type_name.ensures
 
 pub check_nested_type-returns-in-Record : goal.check_nested_type-returns-in-Record
 check_nested_type-returns-in-Record t c =
@@ -47,9 +47,9 @@ check_array_type-returns t c =
     let length = reports_same c.in_ok-length.ensures (ap (λ facts. length_from_operand facts o) (facts_same s false)) in
     let element = reports_same c.in_ok-element.ensures (λ i. report_on_written_type (deeper i) p (ap type_of c.deref.ensures i)) in
     IfOk-weaker c.make_array_type.result _ _ (λ of h. reports_same
-    (steps (λ x. length_from_operand (facts_from_declarations p false) x >>= (λ k. report_on_written_type (suc around) p u >>= made_array_type ordinal x k)) size
-    (steps (λ k. report_on_written_type (suc around) p u >>= made_array_type ordinal o k) length
-    (steps (made_array_type ordinal o n) element (reports_same h (ap (λ k. made_array_type k o n (record { of = c.in_ok-element.element; following = declarations_in_state c.check_nested_type.new.self.checker_state })) c.in_ok-ordinal.ensures)))))
+    (steps (λ x. length_from_operand (facts_from_declarations p false) x >>= (λ k. report_on_written_type (suc around) p u >>= make_array_type ordinal x k)) size
+    (steps (λ k. report_on_written_type (suc around) p u >>= make_array_type ordinal o k) length
+    (steps (make_array_type ordinal o n) element (reports_same h (ap (λ k. make_array_type k o n (record { of = c.in_ok-element.element; following = declarations_in_state c.check_nested_type.new.self.checker_state })) c.in_ok-ordinal.ensures)))))
     (sym (array_reported around p e u))) c.make_array_type.ensures
 
 pub check_optional_field_group-returns-in-Empty : goal.check_optional_field_group-returns-in-Empty
@@ -94,6 +94,6 @@ check_record_type-returns t c =
     let deeper : c.in_ok-inside.inside ≡ suc around = omega (arith, c.in_ok-inside.ensures) in
     let word = c.record_keyword_token-word.ensures ∙ ap (λ fs. record_keyword_token (items_of field_group_after_semicolon_of fs)) c.deref.ensures.value in
     let all = report_on_further_field_groups c.in_ok-inside.inside (no_known_fields p) (items_of field_group_after_semicolon_of c.as_slice.result.now) in
-    let whole = (λ j. report_on_further_field_groups (deeper j) (no_known_fields p) (items_of field_group_after_semicolon_of (c.as_slice.ensures.value j)) >>= spec.made_record_type (word j) (c.in_ok-ordinal.ensures j)) ∙ sym (record_reported around p gs) in
-    IfOk-weaker c.make_record_type.result _ _ (λ of h. reports_same (steps {x = all.known} (spec.made_record_type c.record_keyword_token-word.result c.in_ok-ordinal.ordinal) (record { reported = g.reported; known = refl }) h) whole)
+    let whole = (λ j. report_on_further_field_groups (deeper j) (no_known_fields p) (items_of field_group_after_semicolon_of (c.as_slice.ensures.value j)) >>= spec.make_record_type (word j) (c.in_ok-ordinal.ensures j)) ∙ sym (record_reported around p gs) in
+    IfOk-weaker c.make_record_type.result _ _ (λ of h. reports_same (steps {x = all.known} (spec.make_record_type c.record_keyword_token-word.result c.in_ok-ordinal.ordinal) (record { reported = g.reported; known = refl }) h) whole)
     (c.make_record_type.ensures all.known g.now)

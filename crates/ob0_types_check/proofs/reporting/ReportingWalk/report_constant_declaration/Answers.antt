@@ -16,5 +16,5 @@ returns c =
     let x = c.args.c.now.name in
     let e = expression_of c.args.c.now.value in
     reports_same
-    (steps (λ v. without_fault (define_name_at_token (declarations_in_state s) (a_constant v) x)) (reports_same c.in_ok-value.ensures (ap (λ facts. report_on_constant_expression facts e) (facts_same s true))) (reports_known c.constant_value.new.faults.items c.define_name_at_token.ensures))
+    (steps (λ v. without_fault (define_name_at_token (declarations_in_state s) (a_constant v) x)) (reports_same c.in_ok-value.ensures (ap (λ facts. report_on_constant_expression facts e) (facts_same s true))) (reports_known c.check_constant_expression.new.faults.items c.define_name_at_token.ensures))
     (sym (constant_reported (declarations_in_state s) x e))

@@ -1,45 +1,53 @@
-use Rattle.std.proofs.Common.{◌≡◌, ℕ, ◌+◌, ◌++◌, IfOk, Result, Ok, Err, sym, ap, ◌∙◌, subst, arith}
-use Rattle.ob0_tree.proofs.Viewed.{block_parts}
-use Rattle.ob0_tree.specs.declared.tree.Block.{out-Block}
-use Rattle.ob0_tree.specs.View.{block_of, body_of, items_of, procedure_of, type_section_of, variable_section_of}
-use Rattle.ob0_language_names.specs.BlockParts.{section_types, section_variables}
-use Rattle.ob0_language_types.specs.Declarations.{block_constructor_count, procedure_list_constructor_count, types_constructor_count, variables_constructor_count}
-use Rattle.ob0_types_fields.specs.IdentifierOwners.{fields_in_tree, fields_in_block, fields_in_procedures, fields_in_types, fields_in_variables}
-use Rattle.ob0_types_fields.specs.FieldWalks.{field_walk_meanings}
-use Rattle.ob0_types_fields.proofs.DeclaredWalks.{procedures_end}
-use Rattle.ob0_types_fields.proofs.MarkWalks.{joined}
+use Rattle.std.proofs.Common.{◌≡◌, ℕ, ◌+◌, ◌≤◌, List, length, ◌++◌, refl, sym, ap, ◌∙◌}
+use Rattle.ob0_tree.proofs.Viewed.{block_parts, procedure_parts}
+use Rattle.ob0_tree.specs.declared.tree.Block.{Block, out-Block}
+use Rattle.ob0_tree.specs.declared.tree.Procedure.{Procedure, out-Procedure}
+use Rattle.ob0_tree.specs.View.{block_of, body_of, formals_of, items_of, procedure_of, type_section_of, variable_section_of}
+use Rattle.ob0_language_names.specs.BlockParts.{formal_parameter_sections, section_types, section_variables}
+use Rattle.ob0_language_types.specs.Declarations.{block_constructor_count, procedure_constructor_count, procedure_list_constructor_count, types_constructor_count, variables_constructor_count}
+use Rattle.ob0_language_types.specs.Expressions.{Meanings}
+use Rattle.ob0_language_types.specs.WellTyped.{Signature}
+use Rattle.ob0_language_values.specs.Values.{Shape}
+use Rattle.ob0_types_fields.specs.declared.field_identifier.FieldIdentifier.{FieldIdentifier}
+use Rattle.ob0_types_fields.specs.IdentifierOwners.{fields_in_block, fields_in_procedure, fields_in_procedures, fields_in_tree, fields_in_types, fields_in_variables}
+use Rattle.ob0_types_fields.specs.FieldWalks.{VisitsDeclarations, field_walk_meanings, state_after_fields}
+use Rattle.ob0_types_fields.proofs.FieldVisits.{OverDeclarations, declaration_visited, declarations_visited, on_ok, visits_after, visits_as, visits_both}
 use Rattle.ob0_types_fields.proofs.field_walk.FieldWalk.+blocks.Goals as goal
 
-always : {A E : Type 0} {P : Type 0} (r : Result A E) → P → IfOk r (λ _. P)
-always (Ok a) p = p
-always (Err e) p = tt
-
-pub add_block_fields-returns-clause-found : goal.add_block_fields-returns-clause-found
-add_block_fields-returns-clause-found t c =
-    let b = out-Block c.args.b.now in
+pub visit_block_fields-loop-p-preserved : goal.visit_block_fields-loop-p-preserved
+visit_block_fields-loop-p-preserved g t c =
     let m = field_walk_meanings c.args.self.now in
-    let start = c.args.found.now.items in
-    let k : ℕ = c.args.word_count.now in
-    let ts = section_types (type_section_of b.types) in
-    let vs = section_variables (variable_section_of b.variables) in
-    let ps = items_of procedure_of b.procedures.items in
-    let jv : ℕ = k + types_constructor_count ts in
-    let jp : ℕ = jv + variables_constructor_count vs in
-    let first : c.add_type_section_fields.new.word_count ≡ jv = c.in_ok-add_type_section_fields.ensures.word_count in
-    let second : c.add_variable_section_fields.new.word_count ≡ jp = c.in_ok-add_variable_section_fields.ensures.word_count ∙ ap (λ n. n + variables_constructor_count vs) first in
-    let e = c.in_ok-add_variable_section_fields.ensures.found ∙ ap (λ n. c.add_type_section_fields.new.found.items ++ fields_in_variables n vs) first in
-    let ends = procedures_end c.loop-p.invariant c.loop-p-test.false in
-    let f = ends.0 ∙ (λ i. c.add_variable_section_fields.new.found.items ++ fields_in_procedures m (second i) (items_of procedure_of (c.deref-p-items.ensures.value i))) in
-    let all = f ∙ (joined c.add_type_section_fields.new.found.items (fields_in_variables jv vs) (fields_in_procedures m jp ps) e ∙ joined start (fields_in_types k ts) (fields_in_variables jv vs ++ fields_in_procedures m jp ps) c.in_ok-add_type_section_fields.ensures.found) in
-    subst (λ z. IfOk c.add_body_fields.result (λ _. c.add_body_fields.new.found.items ≡ z))
-    (joined start (fields_in_types k ts ++ (fields_in_variables jv vs ++ fields_in_procedures m jp ps)) (fields_in_tree m (body_of b.body)) all ∙ ap (λ t. start ++ fields_in_block m k t) (sym (block_parts c.args.b.now))) c.add_body_fields.ensures
+    let p = procedure_of c.p-item.result in
+    declaration_visited procedure_of (fields_in_procedures m) procedure_list_constructor_count c.p-item.result (λ n. fields_in_procedure m n p) (procedure_constructor_count p)
+    (λ n rest. refl) (λ rest. refl) c.loop-p.invariant c.loop-p-test.true c.p-item.is c.in_ok-visit_procedure_fields.ensures
 
-pub add_block_fields-returns-clause-word_count : goal.add_block_fields-returns-clause-word_count
-add_block_fields-returns-clause-word_count t c =
-    let b = out-Block c.args.b.now in
-    let ts = section_types (type_section_of b.types) in
-    let vs = section_variables (variable_section_of b.variables) in
-    let ends = procedures_end c.loop-p.invariant c.loop-p-test.false in
-    let listed = ap (λ xs. procedure_list_constructor_count (items_of procedure_of xs)) c.deref-p-items.ensures.value in
-    let whole : block_constructor_count (block_of c.args.b.now) ≡ types_constructor_count ts + (variables_constructor_count vs + procedure_list_constructor_count (items_of procedure_of b.procedures.items)) = ap block_constructor_count (block_parts c.args.b.now) in
-    always c.add_body_fields.result (omega (arith, ends.1, listed, whole, c.in_ok-add_type_section_fields.ensures.word_count, c.in_ok-add_variable_section_fields.ensures.word_count))
+-- The parts of a block are visited one after another.
+block_visited : {S : Type 0} {step : FieldIdentifier → S → S} (m : Meanings ℕ Shape Signature) (b : Block) {k j i n done : ℕ} {s t u v w : S} {xs : List Procedure}
+    → VisitsDeclarations step (fields_in_types k (section_types (type_section_of (out-Block b).types))) (types_constructor_count (section_types (type_section_of (out-Block b).types))) k j s t
+    → VisitsDeclarations step (fields_in_variables j (section_variables (variable_section_of (out-Block b).variables))) (variables_constructor_count (section_variables (variable_section_of (out-Block b).variables))) j i t u
+    → OverDeclarations step procedure_of (fields_in_procedures m) procedure_list_constructor_count i u xs done n v → length xs ≤ done → xs ≡ (out-Block b).procedures.items
+    → w ≡ state_after_fields step (fields_in_tree m (body_of (out-Block b).body)) v
+    → VisitsDeclarations step (fields_in_block m k (block_of b)) (block_constructor_count (block_of b)) k n s w
+block_visited m b {k = k} {i = i} types declared loop all listed e =
+    let x = out-Block b in
+    let vs = section_variables (variable_section_of x.variables) in
+    let ps = items_of procedure_of x.procedures.items in
+    let statements = fields_in_tree m (body_of x.body) in
+    let ends = declarations_visited procedure_of (fields_in_procedures m) procedure_list_constructor_count (λ n. refl) refl loop all in
+    let procedures = visits_as (ap (λ zs. fields_in_procedures m i (items_of procedure_of zs)) listed) (ap (λ zs. procedure_list_constructor_count (items_of procedure_of zs)) listed) ends in
+    let later = visits_both (λ n. fields_in_procedures m n ps) declared procedures in
+    let whole = visits_after statements (visits_both (λ n. fields_in_variables n vs ++ fields_in_procedures m (n + variables_constructor_count vs) ps) types later) e in
+    visits_as (ap (fields_in_block m k) (sym (block_parts b))) (ap block_constructor_count (sym (block_parts b))) whole
+
+pub visit_block_fields-returns : goal.visit_block_fields-returns
+visit_block_fields-returns g t c =
+    on_ok c.visit_body_fields.result c.visit_body_fields.ensures
+    (λ e. block_visited (field_walk_meanings c.args.self.now) c.args.b.now c.in_ok-visit_type_section_fields.ensures c.in_ok-visit_variable_section_fields.ensures c.loop-p.invariant c.loop-p-test.false c.deref-p-items.ensures.value e)
+
+pub visit_procedure_fields-returns : goal.visit_procedure_fields-returns
+visit_procedure_fields-returns g t c =
+    let p = out-Procedure c.args.p.now in
+    let m = field_walk_meanings c.args.self.now in
+    let parts = sym (procedure_parts c.args.p.now) in
+    on_ok c.visit_block_fields.result c.visit_block_fields.ensures
+    (λ v. visits_as (ap (fields_in_procedure m c.args.word_count.now) parts) (ap procedure_constructor_count parts) (visits_both (λ n. fields_in_block m n (block_of p.block)) c.in_ok-visit_parameter_type_fields.ensures v))

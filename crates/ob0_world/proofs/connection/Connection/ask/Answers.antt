@@ -3,7 +3,7 @@ use Rattle.ob0_world_editor.specs.ModelValues.{model_ask_of}
 use Rattle.std.specs.Prelude.{OnOk}
 use Rattle.ob0_world_rules.specs.EditorActs.{request_edits}
 use Rattle.ob0_world.specs.Queues.{wire_from_fields}
-use Rattle.ob0_world.specs.Worlds.{Connection, QueuesAtMostOneContent}
+use Rattle.ob0_world.specs.Worlds.{Connection, AppendsAtMostOneContent}
 use Rattle.ob0_world.proofs.Moved.{sent_sound, sent_shows, writes_sent, ask_applies}
 use Rattle.ob0_world.proofs.connection.Connection.ask.Goals as goal
 
@@ -22,5 +22,5 @@ returns-clause-ok g c =
 pub returns-clause-wire : goal.returns-clause-wire
 returns-clause-wire g c =
     let i = c.self.inside in
-    subst (λ (w : Connection). OnOk c.send.result (QueuesAtMostOneContent w.wire (wire_from_fields i.session i.taken.items c.send.new.queue.items i.got.items i.to_editor.items))) c.self.view_is
+    subst (λ (w : Connection). OnOk c.send.result (AppendsAtMostOneContent w.wire (wire_from_fields i.session i.taken.items c.send.new.queue.items i.got.items i.to_editor.items))) c.self.view_is
     (writes_sent i.session i.taken.items i.to_server.items i.got.items i.to_editor.items c.send.new.queue.items c.in_ok-content.content c.send.result c.send.ensures.ok)

@@ -3,8 +3,8 @@ use Rattle.ob0_world_rules.specs.ClientAndServer.{ClientAndServer}
 use Rattle.ob0_world_rules.specs.EditorActs as acts
 use Rattle.ob0_world_rules.specs.Events.{editor_acts}
 use Rattle.ob0_world.specs.Queues.{model_from_fields, wire_from_fields}
-use Rattle.ob0_world.specs.Seen.{drops, nothing, model_report_of, EventLeadsToWithReport}
-use Rattle.ob0_world.specs.Worlds.{Connection, QueuesAtMostOneContent}
+use Rattle.ob0_world.specs.EventReport.{drops, nothing, model_report_of, EventLeadsToWithReport}
+use Rattle.ob0_world.specs.Worlds.{Connection, AppendsAtMostOneContent}
 use Rattle.ob0_world.proofs.Moved.{discard_shows, writes_none}
 use Rattle.ob0_world.proofs.connection.Connection.discard_answer.Goals as goal
 use Rattle.ob0_world.proofs.connection.Connection.discard_answer.Goals.{then-discard_answer, else-discard_answer}
@@ -25,5 +25,5 @@ returns-clause-ok g c =
 pub returns-clause-wire : goal.returns-clause-wire
 returns-clause-wire g c =
     let i = c.self.inside in
-    subst (λ (w : Connection). QueuesAtMostOneContent w.wire (wire_from_fields i.session i.taken.items i.to_server.items i.got.items i.to_editor.items)) c.self.view_is
+    subst (λ (w : Connection). AppendsAtMostOneContent w.wire (wire_from_fields i.session i.taken.items i.to_server.items i.got.items i.to_editor.items)) c.self.view_is
     (writes_none i.session i.taken.items i.to_server.items i.got.items i.to_editor.items)

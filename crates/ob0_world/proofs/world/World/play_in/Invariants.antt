@@ -3,7 +3,7 @@ use Rattle.ob0_world.specs.ModelValues.{model_event_of}
 use Rattle.ob0_world.specs.Worlds.{Connection, IsInitialConnection, IsConnectionCourse}
 use Rattle.ob0_world.proofs.world.World.play_in.Given as goal
 
--- the world is the result of the events so far, from its beginning
+-- the events so far lead from an initial connection to the world's connection
 abbrev pub invariant-loop-event : goal.invariant-loop-event
 invariant-loop-event g l =
     (begin : Connection)

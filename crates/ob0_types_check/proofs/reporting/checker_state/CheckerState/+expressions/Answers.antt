@@ -11,7 +11,7 @@ use Rattle.ob0_tree.specs.Tree.{compares, one, relates}
 use Rattle.ob0_tree.specs.View.{addend_of, compound_expression_of, expression_of, factor_of, items_of, multiplier_of, selector_of, simple_expression_of, term_of}
 use Rattle.ob0_language_types.proofs.TreeParts.{addend_parts, compound_alone, compound_related}
 use Rattle.ob0_types_check.specs.ExpressionFaults.{report_on_addends, report_on_expression, report_on_factor, report_on_multipliers, report_on_selector, report_on_selectors, report_on_simple_expression, report_on_term}
-use Rattle.ob0_types_check.specs.OperandFaults.{add_operands, negated_operand, element_operand, operand_in_parentheses, multiply_operands, relate_operands, without_fault, signed_operand, ◌>>=◌}
+use Rattle.ob0_types_check.specs.OperandFaults.{check_sum, check_negation, element_operand, operand_in_parentheses, check_product, check_relation, without_fault, check_sign, ◌>>=◌}
 use Rattle.ob0_types_check.specs.CheckerViews.{facts_in, operand_of}
 use Rattle.ob0_types_check.proofs.Chains.{chain_ends, chain_goes_on, steps, reports_nothing, reports_same}
 use Rattle.ob0_types_check.proofs.ReportedParts.{added_chain, alone_reported, designator_reported, factor_reported, field_reported, index_reported, integer_reported, multiplied_chain, negation_reported, nothing_selected, parentheses_reported, related_reported, selected_chain, simple_reported, term_reported, reported_added}
@@ -38,7 +38,7 @@ check_compound_expression-returns-in_ok-right-in-Some t c =
     let compared = out-Comparison c.deref-compared.result.now in
     let left = simple_expression_of (out-CompoundExpression c.args.c.now).left in
     let without_fault = simple_expression_of compared.right in
-    IfOk-weaker c.check_relation.result _ _ (λ o h. reports_same (steps (λ x. report_on_simple_expression facts without_fault >>= relate_operands facts compared.relation x) c.in_ok-left.ensures (steps (relate_operands facts compared.relation (operand_of c.in_ok-left.left)) c.in_ok-right-in-Some.ensures h))
+    IfOk-weaker c.check_relation.result _ _ (λ o h. reports_same (steps (λ x. report_on_simple_expression facts without_fault >>= check_relation facts compared.relation x) c.in_ok-left.ensures (steps (check_relation facts compared.relation (operand_of c.in_ok-left.left)) c.in_ok-right-in-Some.ensures h))
     (sym (ap (report_on_expression facts) (compound_related c.args.c.now c.in-Some.compared c.in-Some.is)
     ∙ sym (ap (λ k. report_on_expression facts (compares left (one (relates (out-Comparison k).relation (simple_expression_of (out-Comparison k).right))))) c.deref-compared.ensures)
     ∙ related_reported facts compared.relation left without_fault))) c.check_relation.ensures
@@ -76,8 +76,8 @@ check_factor-returns-in_ok-inside-in-Parenthesised t c =
 pub check_factor-returns-in_ok-operand-in-Not : goal.check_factor-returns-in_ok-operand-in-Not
 check_factor-returns-in_ok-operand-in-Not t c =
     let facts = facts_in c.args.self.now c.args.only_constants in
-    IfOk-weaker c.check_negation.result _ _ (λ o h. reports_same (steps (negated_operand facts) c.in_ok-operand-in-Not.ensures h)
-    (ap (λ f. report_on_factor facts f >>= negated_operand facts) (ap factor_of c.deref-in-Not.ensures) ∙ sym (ap (λ f. report_on_factor facts (factor_of f)) c.in-Not.is ∙ negation_reported facts (factor_of c.in-Not.f.value)))) c.check_negation.ensures
+    IfOk-weaker c.check_negation.result _ _ (λ o h. reports_same (steps (check_negation facts) c.in_ok-operand-in-Not.ensures h)
+    (ap (λ f. report_on_factor facts f >>= check_negation facts) (ap factor_of c.deref-in-Not.ensures) ∙ sym (ap (λ f. report_on_factor facts (factor_of f)) c.in-Not.is ∙ negation_reported facts (factor_of c.in-Not.f.value)))) c.check_negation.ensures
 
 pub check_selector-returns-in-Field : goal.check_selector-returns-in-Field
 check_selector-returns-in-Field t c =
@@ -109,7 +109,7 @@ check_simple_expression-loop-addend-preserved t c =
     let a = c.addend-item.result in
     let out = operand_of c.loop-addend.so_far in
     chain_goes_on a (added_chain facts) c.loop-addend.invariant c.loop-addend-test.true c.addend-item.is
-    (reports_same (steps (add_operands facts (out-Addend a).operator out) c.in_ok-right.ensures c.in_ok-so_far-2.ensures) (ap (reported_added facts out) (sym (addend_parts a))))
+    (reports_same (steps (check_sum facts (out-Addend a).operator out) c.in_ok-right.ensures c.in_ok-so_far-2.ensures) (ap (reported_added facts out) (sym (addend_parts a))))
 
 pub check_simple_expression-returns : goal.check_simple_expression-returns
 check_simple_expression-returns t c =
@@ -118,7 +118,7 @@ check_simple_expression-returns t c =
     let rest = items_of addend_of s.more.items in
     let chain = reports_same (chain_ends (added_chain facts) c.loop-addend.invariant c.loop-addend-test.false)
     (ap (λ xs. report_on_addends facts (operand_of c.in_ok-so_far.so_far) (items_of addend_of xs)) c.deref-addend-items.ensures.value) in
-    reports_same (steps (λ x. signed_operand facts s.sign x >>= (λ y. report_on_addends facts y rest)) c.in_ok-first.ensures (steps (λ y. report_on_addends facts y rest) c.in_ok-so_far.ensures chain))
+    reports_same (steps (λ x. check_sign facts s.sign x >>= (λ y. report_on_addends facts y rest)) c.in_ok-first.ensures (steps (λ y. report_on_addends facts y rest) c.in_ok-so_far.ensures chain))
     (sym (ap (report_on_simple_expression facts) (simple_parts c.args.s.now) ∙ simple_reported facts s.sign (term_of s.first) rest))
 
 pub check_term-loop-multiplier-preserved : goal.check_term-loop-multiplier-preserved
@@ -126,7 +126,7 @@ check_term-loop-multiplier-preserved t c =
     let facts = facts_in c.args.self.now c.args.only_constants in
     let a = c.multiplier-item.result in
     chain_goes_on a (multiplied_chain facts) c.loop-multiplier.invariant c.loop-multiplier-test.true c.multiplier-item.is
-    (steps (multiply_operands facts a.operator (operand_of c.loop-multiplier.so_far)) c.in_ok-right.ensures c.in_ok-so_far-2.ensures)
+    (steps (check_product facts a.operator (operand_of c.loop-multiplier.so_far)) c.in_ok-right.ensures c.in_ok-so_far-2.ensures)
 
 pub check_term-returns : goal.check_term-returns
 check_term-returns t c =

@@ -11,7 +11,7 @@ use Rattle.ob0_types_check.proofs.reporting.checker_state.CheckerState.+statemen
 
 pub report_sequence-loop-s-preserved : goal.report_sequence-loop-s-preserved
 report_sequence-loop-s-preserved t c =
-    each_goes_on c.s-item.result (sequence_each (facts_in c.args.self.now false)) c.loop-s.invariant c.loop-s-test.true c.s-item.is c.in_ok-report_statement.ensures
+    each_goes_on c.s-item.result (sequence_each (facts_in c.args.self.now false)) c.loop-s.invariant c.loop-s-test.true c.s-item.is c.in_ok-report_statement_faults.ensures
 
 pub report_sequence-returns : goal.report_sequence-returns
 report_sequence-returns t c =
@@ -32,13 +32,13 @@ report_elsifs-returns t c =
     each_ends (elsifs_each facts) c.loop-part.invariant c.loop-part-test.false
     ∙ ap (λ es. c.args.faults.now.items ++ elsif_faults facts (items_of elsif_of es)) c.deref-part-items.ensures.value
 
-pub report_statement-returns-in-Empty : goal.report_statement-returns-in-Empty
-report_statement-returns-in-Empty t c =
+pub report_statement_faults-returns-in-Empty : goal.report_statement_faults-returns-in-Empty
+report_statement_faults-returns-in-Empty t c =
     let facts = facts_in c.args.self.now false in
     nothing_reported c.args.faults.now.items (ap (λ s. statement_faults facts (statement_of s)) c.in-Empty.is ∙ empty_reported facts)
 
-pub report_statement-returns-in_ok-report_condition-in-While : goal.report_statement-returns-in_ok-report_condition-in-While
-report_statement-returns-in_ok-report_condition-in-While t c =
+pub report_statement_faults-returns-in_ok-report_condition-in-While : goal.report_statement_faults-returns-in_ok-report_condition-in-While
+report_statement_faults-returns-in_ok-report_condition-in-While t c =
     let facts = facts_in c.args.self.now false in
     let before = c.args.faults.now.items in
     let w = c.deref-w.result.now in
@@ -48,8 +48,8 @@ report_statement-returns-in_ok-report_condition-in-While t c =
     ∙ while_reported facts (expression_of w.condition) (sequence_of_list w.body.items) in
     on_ok_weaker c.report_sequence.result (λ h. reported_both before a b c.in_ok-report_condition-in-While.ensures h ∙ sym (ap (λ f. before ++ f) whole)) c.report_sequence.ensures
 
-pub report_statement-returns-in_ok-report_sequence-in-Repeat : goal.report_statement-returns-in_ok-report_sequence-in-Repeat
-report_statement-returns-in_ok-report_sequence-in-Repeat t c =
+pub report_statement_faults-returns-in_ok-report_sequence-in-Repeat : goal.report_statement_faults-returns-in_ok-report_sequence-in-Repeat
+report_statement_faults-returns-in_ok-report_sequence-in-Repeat t c =
     let facts = facts_in c.args.self.now false in
     let before = c.args.faults.now.items in
     let r = c.deref-r.result.now in

@@ -1,5 +1,0 @@
-use Rattle.ob0_frame.proofs.Messages.{frames_unique}
-use Rattle.ob0_frame.proofs.laws.framing_is_determined.Goals as goal
-
-pub returns : goal.returns
-returns c = frames_unique

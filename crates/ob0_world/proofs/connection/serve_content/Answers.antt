@@ -1,4 +1,0 @@
-use Rattle.ob0_world.proofs.connection.serve_content.Goals as goal
-
-pub returns-in-Ok-clause-ok : goal.returns-in-Ok-clause-ok
-returns-in-Ok-clause-ok g c = c.in-Ok.ensures.ok.answers
