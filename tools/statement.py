@@ -41,7 +41,7 @@ LATER: list[Key] = [("ob0_scan", "LexemeClasses", name) for name in ("reserved_w
 # (types of the code in them)
 LATER_TYPES = [("ob0_scan", "lexeme", "ReservedWord"), ("ob0_scan", "lexeme", "Symbol")]
 # (where the part on edits begins)
-EDITS: list[Key] = [("ob0_world_rules", "Answers", name) for name in ("AreRequestedEdits", "RefusesAsk")]
+EDITS: list[Key] = [("ob0_world_rules", "Answers", name) for name in ("AreRequestedEdits", "ServerRefusesAsk")]
 # (the parts of the second page, by the names that the template gives them)
 KINDS = ("exchange", "texts", "wire", "language", "edits", "steps")
 # (the sections of docs/LANGUAGE.md by which the language is ordered)
