@@ -1,0 +1,251 @@
+#!/usr/bin/env python3
+"""Counts lines, and what a change of a document reaches, by reading the sources.
+
+  bench/sizes.py [FOLDER]    this tree, or another one whose folder `crates` is in FOLDER (`git archive` exports one)
+
+It prints the lines of code, definitions and proofs in the rooms, and how many of them are no comment lines; how many only keep
+an analysis over a change; and how many functions, in how many crates, a `didChange` can reach. For two changes of a valid module,
+a letter in a name and a statement, it prints what they can reach, and each call that looks for the changed body.
+
+bench/size_tables.py has the tables. Which parts only keep an analysis is a judgement. We read each crate with the question which
+functions, definitions and lemmas would go if every text were analysed from scratch, and looked up who cites them. Types aren't
+counted, nor lemmas that other proofs also cite. If a name in a table doesn't exist, the script names it, and fails. For another
+tree it prints the missing names and counts the rest; if that tree has its own bench/size_tables.py, the script uses it.
+
+A function reaches the functions that it calls by name. A method's name stands for all methods of that name, except methods of
+types that no reached function names. So the counts are upper bounds. The script needs the toolchain, which cuts the sources into
+words, but no built program."""
+from __future__ import annotations
+
+import functools
+import os
+import re
+import runpy
+import sys
+from collections.abc import Iterable, Iterator
+from typing import Any, Dict, List, Set, Tuple
+
+TOP = os.path.dirname(os.path.dirname(os.path.abspath(__file__)))
+sys.dont_write_bytecode = True
+sys.path[:0] = [os.path.join(TOP, it) for it in ("bench", "tools")]
+
+import common  # noqa: E402
+import reading  # noqa: E402
+import rooms  # noqa: E402
+from reading import Function, Source  # noqa: E402
+
+PARTS = ("src", "specs", "proofs")
+# the crate in which a function that calls `did_change` applies the notification, and the type of texts that `serve` stores
+SERVER, STORE = "ob0_session_server", "Lines"
+Entry = Tuple[str, str, str, str]  # a crate, a part of it, a file without its ending, and a name in the file or nothing
+source = functools.lru_cache(None)(Source)
+
+
+@functools.lru_cache(None)
+def lines_in(path: str) -> list[str]:
+    """Returns the lines of a file, or none if there is no such file."""
+    if not os.path.exists(path):
+        return []
+    with open(path, encoding="utf-8") as file:
+        return file.read().split("\n")[:-1]
+
+
+def path_of(*steps: str) -> str:
+    return os.path.join(common.TOP, "crates", *steps)
+
+
+def files_in(*steps: str) -> list[str]:
+    """Returns the files in a folder of a crate, or none if there is no such folder."""
+    return [os.path.join(at, it) for at, _, names in os.walk(path_of(*steps)) for it in names]
+
+
+def is_comment(line: str) -> bool:
+    return line.lstrip().startswith(("//", "--"))
+
+
+def functions_of(entry: Entry) -> list[Function]:
+    """Returns the functions of a file that have an entry's name."""
+    crate, _, file, name = entry
+    return [it for it in source(crate).functions if it.file == f"src/{file}.rt" and it.name == name]
+
+
+def definition(lines: list[str], name: str) -> range:
+    """Returns which lines have a definition or lemma: those around its first one, up to empty lines."""
+    begins = re.compile(rf" *(?:(?:abbrev|unfoldable|pub|record|data) )*{re.escape(name)}(?![\w-])")
+    empty = [-1, *(at for at, line in enumerate(lines) if not line.strip()), len(lines)]
+    return next((range(low + 1, high) for low, high in zip(empty, empty[1:]) if any(map(begins.match, lines[low + 1 : high]))), range(0))
+
+
+def lines_of(entry: Entry) -> set[tuple[str, int]]:
+    """Returns the lines of an entry, and of its proofs if it is code, as paths and indexes. Returns none if it doesn't exist."""
+    crate, part, file, name = entry
+    path = path_of(crate, part, file + (".rt" if part == "src" else ".antt"))
+    lines = lines_in(path)
+    if name and part == "src":
+        functions = functions_of(entry)
+        firsts = [next(at for at in range(it.first - 1, 0, -1) if not is_comment(lines[at - 1])) for it in functions]
+        found = [(path, range(first, it.last)) for it, first in zip(functions, firsts)]
+        proofs = [it.path.replace("::", "/") for it in functions]
+    else:
+        found = [(path, definition(lines, name) if name else range(len(lines)))]
+        proofs = [file] if part == "src" else []
+    found += [(it, range(len(lines_in(it)))) for proof in proofs for it in files_in(crate, "proofs", proof)]
+    return {(it, at) for it, span in found for at in span}
+
+
+def entries(table: str, missing: list[str]) -> list[Entry]:
+    """Returns what a table names and the sources have. Appends the other names to `missing`."""
+    found: List[Entry] = []
+    for where, _, names in (line.partition(": ") for line in table.split("\n")):
+        crate, part, file = [*where.split("/", 2), "", ""][:3]
+        for name in names.split():
+            entry = (crate, part, file or name, name if file else "")
+            if os.path.isdir(path_of(crate)) and lines_of(entry):
+                found.append(entry)
+            else:
+                missing.append(f"{name} of crates/{where}")
+    return found
+
+
+class Calls:
+    """The functions of the crates below the session's server, and which of them each one calls."""
+
+    def __init__(self, listed: dict[str, list[str]]) -> None:
+        crates = [it for it in common.below(SERVER, listed) if os.path.isdir(path_of(it))]
+        self.below = {it: {*common.below(it, listed)} for it in crates}
+        self.imported = {crate: {word for words, _ in source(crate).imports for word in words} for crate in crates}
+        self.named: Dict[str, List[Function]] = {}
+        self.types: Dict[str, Set[str]] = {}  # the words in the declaration of each type
+        for it in (function for crate in crates for function in source(crate).functions):
+            if it.has_body and not it.is_test:
+                self.named.setdefault(it.name, []).append(it)
+        for words in (words for crate in crates for words in source(crate).words.values()):
+            for at in (at for at, word in enumerate(words) if word.text in ("struct", "enum")):
+                inside = {it.text for it in words[at + 2 : reading.item_end(words, at)]}
+                self.types.setdefault(words[at + 1].text, set()).update(inside)
+
+    def called(self, function: Function) -> Iterator[list[Function]]:
+        """Returns for each call in a function the functions that it may mean."""
+        words = function.words
+        for at, word in enumerate(words):
+            is_called = words[at + 1 : at + 2] == ["("] or words[at + 1 : at + 4] == [":", ":", "<"]
+            if is_called and word in self.named and words[at - 1] != "fn":
+                yield self.meant(function, words[:at], self.named[word])
+
+    def meant(self, function: Function, before: list[str], named: list[Function]) -> list[Function]:
+        """Returns the functions of a name that a call may mean, by the words before the name."""
+        crate = function.crate
+        if before[-1] == ".":
+            methods = [it for it in named if it.owner and (it.trait or it.crate in self.below[crate])]
+            own = [it for it in methods if (it.crate, it.owner) == (crate, function.owner)]
+            return own if own and before[-2] == "self" and before[-3] != "." else methods
+        free = [it for it in named if not it.owner and it.crate in self.below[crate]]
+        of = before[-3] if before[-2:] == [":", ":"] else "self"
+        if of[:1].isupper():
+            return [it for it in named if (function.owner if of == "Self" else of) in (it.owner, it.trait)]
+        if of not in ("crate", "self", "super"):
+            return [it for it in free if of in (it.crate, *it.module[-1:])]
+        near = [it for it in free if it.crate == crate and it.module == function.module]
+        return near or [it for it in free if it.crate == crate or it.name in self.imported[crate]]
+
+    def types_in(self, words: Iterable[str], known: set[str]) -> set[str]:
+        """Returns the known types, those that the words name, and those in the declarations of these."""
+        found, waiting = {*known}, [*words]
+        while waiting:
+            word = waiting.pop()
+            if word in self.types and word not in found:
+                found.add(word)
+                waiting += self.types[word]
+        return found
+
+    def reached(self, start: set[Function], without: set[Function]) -> set[Function]:
+        """Returns the functions that those of `start` can reach, but not through those of `without`."""
+        found: Set[Function] = set()
+        types = self.types_in([STORE], set())
+        # (the end of a scope calls `drop`, and `?` calls `from`)
+        ready, held = start, {it for name in ("drop", "from") for it in self.named.get(name, []) if it.trait}
+        while ready:
+            for it in ready:
+                types = self.types_in([*it.words, it.owner], types)
+                held.update(function for meant in self.called(it) for function in meant)
+            found |= ready
+            held -= found | without
+            ready = {it for it in held if it.owner not in self.types or it.owner in types}
+        # (a law's function does nothing)
+        return {it for it in found if it.words[len(it.head) :] != ["{", "}"]}
+
+
+def row(name: str, cells: Iterable[object], rest: str = "") -> None:
+    print((f"{name:24}" + "".join(f"{it:>11,}" if isinstance(it, int) else f"{it:>11}" for it in cells) + f"  {rest}").rstrip())
+
+
+def print_lines(groups: dict[str, list[str]], crates_of: dict[str, list[str]], missing: list[str]) -> None:
+    """Prints the lines of each room, in groups."""
+    for group, names in groups.items():
+        row(group, [*PARTS, "all", "no comment"])
+        total = [0] * 5
+        for name in names:
+            crates = [it for it in crates_of.get(name, [name]) if os.path.isdir(path_of(it))]
+            missing += [f"crates/{it}" for it in crates_of.get(name, [name]) if it not in crates]
+            lines = [[line for crate in crates for path in files_in(crate, part) for line in lines_in(path)] for part in PARTS]
+            counts = [*map(len, lines), sum(map(len, lines)), sum(not is_comment(line) for it in lines for line in it)]
+            total = [a + b for a, b in zip(total, counts)]
+            row(name, counts, " ".join(crates))
+        row("all", total)
+        print()
+
+
+def print_kept(table: str, missing: list[str]) -> None:
+    """Prints for each crate the lines that only keep an analysis over a change."""
+    lines = {line for entry in entries(table, missing) for line in lines_of(entry)}
+    where = [os.path.relpath(path, path_of()).split(os.sep)[:2] for path, _ in lines]
+    row("kept over a change", [*PARTS, "all"])
+    for crate in [*sorted({it[0] for it in where}), "all"]:
+        counts = [sum(it[1] == part and crate in (it[0], "all") for it in where) for part in PARTS]
+        row(crate, [*counts, sum(counts)])
+    print()
+
+
+def print_reached(tables: dict[str, Any], listed: dict[str, list[str]], missing: list[str]) -> None:
+    """Prints what a didChange reaches. Then does so for two changes, with their searches, unless a name for them is missing."""
+    calls = Calls(listed)
+    start = {it for it in source(SERVER).functions if "did_change" in it.words}
+    missing += [] if start else [f"a function of crates/{SERVER} that calls did_change"]
+    missing += [] if STORE in calls.types else [f"the type {STORE}"]
+    for change, table in {"a didChange": "", **tables["OTHER_WAYS"]}.items():
+        lacks: List[str] = []
+        searches, left_out = ({it for entry in entries(text, lacks) for it in functions_of(entry)} for text in (tables["SEARCHES"], table))
+        missing += lacks
+        if table and lacks:
+            continue
+        found = calls.reached(start, left_out)
+        print(f"{change}: {len(found):,} functions in {len({it.crate for it in found})} crates")
+        asked = sorted(f"{it.crate}::{it.path}: {of[0].name}" for it in found - searches for of in calls.called(it) if searches & {*of})
+        if table:
+            print("\n    ".join([f"  {len(asked)} searches for the changed body", *asked]))
+
+
+def main(words: List[str]) -> int:
+    folders = [os.path.abspath(it) for it in words[:1]] + [TOP]
+    if not os.path.isdir(os.path.join(folders[0], "crates")):
+        common.stop(f"{folders[0]} has no folder crates")
+
+    def with_file(*steps: str) -> str:
+        """Returns the first folder that has a file: a tree may be exported in part."""
+        return next(it for it in folders if os.path.exists(os.path.join(it, *steps)))
+
+    tables = runpy.run_path(os.path.join(with_file("bench", "size_tables.py"), "bench", "size_tables.py"))
+    common.TOP = with_file("crates.txt")
+    crates_of, listed = {it.name: it.crates for it in rooms.read_rooms()}, common.libraries()
+    common.TOP = folders[0]
+    missing: List[str] = []
+    print_lines(tables["GROUPS"], crates_of, missing)
+    print_kept(tables["KEPT"], missing)
+    print_reached(tables, listed, missing)
+    for it in dict.fromkeys(missing):
+        print(f"missing: {it}" if words else f"bench/sizes.py and its tables name {it}, which doesn't exist")
+    return 1 if missing and not words else 0
+
+
+if __name__ == "__main__":
+    sys.exit(main(sys.argv[1:]))
