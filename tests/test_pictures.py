@@ -121,8 +121,9 @@ def plotted() -> None:
         holds(word in page, f"the page says nothing of {word}")
     commit = common.match_of(r"the commit is `(\w{40})`", page)[1]
     if os.path.exists(os.path.join(TOP, ".git")):
-        known = subprocess.run(["git", "cat-file", "-e", f"{commit}^{{commit}}"], cwd=TOP, check=False, stderr=subprocess.DEVNULL)
-        same(known.returncode, 0, f"whether {commit} is a commit of this repository")
+        # (a clone on the same machine also has commits that no branch leads to)
+        known = subprocess.run(["git", "-c", f"safe.directory={TOP}", "merge-base", "--is-ancestor", commit, "HEAD"], cwd=TOP, check=False, stderr=subprocess.DEVNULL)
+        same(known.returncode, 0, f"whether {commit} is an ancestor of this commit")
 
 
 def ratios_fit(page: str) -> None:
