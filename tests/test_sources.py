@@ -7,6 +7,7 @@ import glob
 import os
 import re
 import shlex
+import sys
 
 import common
 import edits
@@ -106,6 +107,14 @@ def types_fit() -> None:
         words = ["mypy", "--config-file", os.path.join(TOP, "tools", "mypy.ini"), *files]
         status, said = run_plainly(words, dict(os.environ), TOP)
         same(status, 0, said[-3000:])
+
+
+@test("sources: bench/sizes.py counts lines, functions that a change reaches, and searches, and each name of its tables exists")
+def sizes_counted() -> None:
+    status, said = run_plainly([sys.executable, os.path.join("bench", "sizes.py")], dict(os.environ), TOP)
+    same(status, 0, said[-3000:])
+    for word in ("texts to analysis", "kept over a change", "a didChange: ", "a statement: ", "searches for the changed body"):
+        holds(word in said, f"{word}: {said}")
 
 
 # pages whose names in backticks are those of functions, definitions, types and files
