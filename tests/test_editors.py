@@ -458,7 +458,7 @@ in_each("both ways to inline a constant are offered and applied, and keep the ru
 
 # the width of a level, whether it is spaces, a text, its layout, an input, what the text prints on that before and after
 FORMATTED = [
-    # (an example, all on one line, is laid out as it is in its file)
+    # (an example, all on one line, is formatted as it is in its file)
     (2, True, " ".join(COLLATZ.split()), COLLATZ, b"15", COLLATZ_PRINTS),
     (
         2,
@@ -498,10 +498,10 @@ def formats(editor: Client, end: Steps) -> None:
         keeps_the_run(text, dict(found)["text"], out, given)
 
 
-in_each("a text is laid out, once more changes nothing, and the run is kept", CLIENTS[:2], formats)
+in_each("a text is formatted, once more changes nothing, and the run is kept", CLIENTS[:2], formats)
 
 
-@test("lsp-mode: a text is laid out, and the run is kept")
+@test("lsp-mode: a text is formatted, and the run is kept")
 def lsp_mode_format() -> None:
     for size, spaces, text, wanted, given, out in FORMATTED:
         if (size, spaces) == (2, True):  # (what ob0-mode requests)

@@ -1,7 +1,7 @@
 """The modules of examples/: checks, runs and layouts.
 
 Each is checked without a fault, prints what its file .out has on the numbers of its file .in, ends as its file .err says where it
-has one, and is laid out as the server lays it out. (What they print was written down by other means than this program.)"""
+has one, and is formatted as the server does it. (What they print was written down by other means than this program.)"""
 from __future__ import annotations
 
 import os

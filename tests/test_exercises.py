@@ -133,7 +133,7 @@ def computed() -> None:
             same(WANTED[name](given), wanted, f"what {name} prints for {given}")
 
 
-@test("exercises: every answer is marked right, has no fault and is laid out as the server does it")
+@test("exercises: every answer is marked right, has no fault and is formatted as the server does it")
 def right() -> None:
     status, said = mark(os.path.join(TOP, "tests", "answers"))
     same((status, said.count(" right\n"), said.splitlines()[-1]), (0, 13, "  12 of 12 right"), said)

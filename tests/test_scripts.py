@@ -48,18 +48,18 @@ def ran(words: list[str], work: str, environment: dict[str, str], given: str = "
     return found.returncode, found.stdout.decode(errors="surrogateescape"), found.stderr.decode(errors="surrogateescape")
 
 
-@test("scripts: ob0-format lays files out and names them, and changes neither those that are laid out nor those with faults")
+@test("scripts: ob0-format formats files and names them, and changes neither formatted files nor those with errors")
 def lays_out() -> None:
     def trial(work: str, own: dict[str, str]) -> None:
         os.chmod(os.path.join(work, "loose.ob0"), 0o640)
         os.symlink("loose.ob0", os.path.join(work, "link.mod"))
-        fault = "two words.Mod has faults, so it isn't laid out: `ob0 check` lists them\n"
+        fault = "two words.Mod has errors, so it isn't formatted: `ob0 check` lists them\n"
         same(ran(["ob0-format", "--check", "link.mod", *MODULES], work, own), (1, "link.mod\nloose.ob0\n", fault), "with --check")
         same({it: text_of(work, it) for it in MODULES}, MODULES, "what --check leaves")
         same(ran(["ob0-format", "link.mod", *MODULES], work, own), (1, "link.mod\n", fault), "without --check")
         same({it: text_of(work, it) for it in MODULES}, {**MODULES, "loose.ob0": LAID_OUT}, "the files")
         same(sorted(os.listdir(work)), sorted([*MODULES, "link.mod"]), "the names of the files")
-        same(os.stat(os.path.join(work, "loose.ob0")).st_mode & 0o777, 0o640, "the mode of a file that was laid out")
+        same(os.stat(os.path.join(work, "loose.ob0")).st_mode & 0o777, 0o640, "the mode of a file that was formatted")
         holds(os.path.islink(os.path.join(work, "link.mod")), "a symbolic link became a file")
         same(ran(["ob0-format", "--check", "good.mod", "loose.ob0"], work, own), (0, "", ""), "once more")
         paths = [os.path.join(TOP, it) for it in examples()]
@@ -233,7 +233,7 @@ def format_devices() -> None:
         same(ran(["sh", "-c", "ob0-format /dev/stdin < loose.ob0"], work, own), (4, "", refused), "a file as standard input")
         same((text_of(work, "loose.ob0"), sorted(os.listdir(work))), (LOOSE, sorted(MODULES)), "the files")
         same(ran(["ob0-format", "/dev/stdin"], work, own, LOOSE), (4, "", refused), "a pipe")
-        endless = "/dev/zero has faults, so it isn't laid out: `ob0 check` lists them\n"
+        endless = "/dev/zero has errors, so it isn't formatted: `ob0 check` lists them\n"
         same(ran(["ob0-format", "/dev/zero"], work, own), (1, "", endless), "a device without an end")
 
     in_folder(MODULES, trial)
@@ -410,7 +410,7 @@ def hook() -> None:
         os.chmod(os.path.join(work, ".git", "hooks", "pre-commit"), 0o755)
         git(work, own, "add", ".")
         status, out, err = git(work, own, "commit", "-q", "-m", "all")
-        same((status, "loose.ob0 isn't laid out: ob0-format -- loose.ob0\n" in err), (1, True), f"the commit of all: {out}{err}")
+        same((status, "loose.ob0 isn't formatted: ob0-format -- loose.ob0\n" in err), (1, True), f"the commit of all: {out}{err}")
         holds("\n".join([*LISTED, ""]) in err, f"the faults: {out}{err}")
         # (what is in the folder doesn't count)
         write(os.path.join(work, "two words.Mod"), LAID_OUT)
@@ -439,7 +439,7 @@ def hook_names() -> None:
             same((found[0] != 0, said % ((name,) * said.count("%s")) in found[2]), (status, True), f"the commit of {name!r}: {found}")
             git(work, own, "rm", "-q", "-f", "--cached", "--", "./" + name)
 
-    for text, status, said in ((LAID_OUT, False, ""), (FAULTY, True, "%s:3:3: Undeclared: not declared\n"), (LOOSE, True, "%s isn't laid out: ob0-format -- %s\n")):
+    for text, status, said in ((LAID_OUT, False, ""), (FAULTY, True, "%s:3:3: Undeclared: not declared\n"), (LOOSE, True, "%s isn't formatted: ob0-format -- %s\n")):
         in_folder({"other.txt": ""}, functools.partial(trial, text, status, said))
 
 
@@ -479,7 +479,7 @@ def taken() -> None:
     in_folder({**{name: text for name, text, _ in TAKEN}, "hook": HOOK, "ci/pre-commit": HOOK}, trial)
 
 
-@test("scripts: the page's job finds faults and what isn't laid out, and lists them as ob0-check does")
+@test("scripts: the page's job finds faults and what isn't formatted, and lists them as ob0-check does")
 def job() -> None:
     if not shutil.which("git"):
         harness.leave_out("it wants git")
@@ -494,7 +494,7 @@ def job() -> None:
         found = ran(["sh", "-c", line], work, {**own, "GITHUB_ACTIONS": "true"})
         same((found[0] != 0, *found[1:]), (fails, functools.reduce(lambda text, pair: text.replace(*pair), zip(LISTED, MARKED), said), ""), "in GitHub")
 
-    loose = "%s isn't laid out: ob0-format -- %s\n"
+    loose = "%s isn't formatted: ob0-format -- %s\n"
     rows: list[tuple[dict[str, str], bool, str]] = [
         (MODULES, True, loose % (("loose.ob0",) * 2) + "\n".join([*LISTED, ""])),
         ({"-ugly.mod": LAID_OUT}, False, ""),

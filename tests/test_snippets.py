@@ -54,7 +54,7 @@ def filled(body: str) -> str:
 
 
 def module_of(key: str, text: str) -> str:
-    """A module, laid out, with a snippet in it."""
+    """A formatted module with a snippet in it."""
     if key == "module":
         return text + "\n"
     if key in ("array", "record"):
@@ -70,7 +70,7 @@ def alike() -> None:
     same(of_emacs(), of_vscode(), "Emacs's")
 
 
-@test("snippets: each one's text has no fault in a module, and is laid out as the server does it")
+@test("snippets: each one's text has no fault in a module, and is formatted as the server does it")
 def correct() -> None:
     with Server() as server:
         for key, _, body in of_vscode():

@@ -58,7 +58,7 @@ def commands() -> None:
     same(sorted(used), sorted(modules()), "the modules that a command on the page names")
 
 
-@test("tutorial: its modules have no fault and are laid out as the server does it, but for those that show a fault")
+@test("tutorial: its modules have no fault and are formatted as the server does it, but for those that show a fault")
 def laid_out() -> None:
     with Server() as server:
         for name, text in modules().items():
