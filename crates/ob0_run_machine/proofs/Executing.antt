@@ -1,6 +1,8 @@
 -- Steps of statements: what is left of a statement, from one step of the machine to the next.
 use Rattle.std.proofs.Common.{◌≡◌, ℕ, zero, suc, arith, Bool, true, false, ℤ, ◌+◌, ◌-◌, ◌<◌, ◌≤◌, ◌≢◌, List, [], ◌∷◌, ◌++◌, map, length, get_or, drop, refl, sym, ap, ◌∙◌, subst, Ok, Err, None, Option, Some, Result}
+use Rattle.std.specs.Prelude.{option_map}
 use Rattle.std.proofs.lemmas.List.{drop_all, drop_more}
+use Rattle.std.proofs.lemmas.Option.{none-some, same_Some}
 use Rattle.ob0_run_machine.specs.declared.code.Argument.{Argument}
 use Rattle.ob0_run_machine.specs.declared.level.Level as level
 use Rattle.ob0_run_machine.specs.Levels.{enclosing_levels, levels_of, levels_of_option}
@@ -21,7 +23,7 @@ use Rattle.ob0_run_machine.specs.declared.code.Comparator.TheVariants as relatio
 use Rattle.ob0_run_machine.specs.Evaluation.{MachineEnd, Levels, StepResult, TurnBound, place_address, cell_at, compare, ends, gives, number_value, truth_value, ◌>>=◌}
 use Rattle.ob0_run_machine.specs.Execution.{CallEffect, CallArguments, MachineProgress, MachineState, choose_by_truth, levels_in_call, execute, execute_sequence, execute_branches, continue_run, no_room, pass_arguments, running, stopped, execute_while, execute_repeat, continue_with_result}
 use Rattle.ob0_run_machine.specs.LoweredSyntax as lowered
-use Rattle.ob0_run_machine.specs.Machines.{StepHasEffect, CodeEffect, CallsHaveEffect, CallPostcondition, IsProgressAfterStep, StopsRun, StopsArgumentPassing, statement_effect, sequence_effect, elsifs_effect, procedure_entry_effect, output_items, passed_arguments, state_of}
+use Rattle.ob0_run_machine.specs.Machines.{StepHasEffect, StepRunsStatement, CodeEffect, CallsHaveEffect, CallPostcondition, IsProgressAfterStep, StopsRun, StopsArgumentPassing, progress_after_step, statement_effect, sequence_effect, elsifs_effect, procedure_entry_effect, output_items, passed_arguments, state_of}
 use Rattle.ob0_run_machine.specs.LoweredCodeViews.{branches_of_list, argument_of, conditional_of, call_of, variable_comparison, variable_increase, elsif_branches, else_statements, repeat_of, sequence_of, statement_of, truth_of, variable_of}
 
 stopped_then : (o : Option MachineEnd) (m : Machine) (p : MachineProgress) (k : MachineState → MachineProgress) → StopsRun o m p → StopsRun o m (continue_run p k)
@@ -50,6 +52,19 @@ settled h e = sym (ap gives e) ∙ h
 
 pub does_statement : {post : CallPostcondition} {r : Result (Unit {0}) StopReason} {m m' : Machine} (t : ℕ) (ls : Levels) {a b : lowered.Instruction} → a ≡ b → StepHasEffect post r m m' (statement_effect t ls a) → StepHasEffect post r m m' (statement_effect t ls b)
 does_statement {post = post} {r = r} {m = m} {m' = m'} t ls e h = subst (λ a. StepHasEffect post r m m' (statement_effect t ls a)) e h
+
+-- a statement that allocates nothing, with no call and no loop
+
+stopped_is : (o : Option MachineEnd) (m : Machine) (p : MachineProgress) → option_map (λ e. stopped e (output_items m.output.items)) o ≡ Some p → StopsRun o m p
+stopped_is (Some x) m p h = sym (same_Some (stopped x (output_items m.output.items)) p h)
+stopped_is None m p h = absurd (none-some p h)
+
+pub progress_is : (r : Result (Unit {0}) StopReason) (m : Machine) (p : MachineProgress) → progress_after_step r m ≡ Some p → IsProgressAfterStep r m p
+progress_is (Ok done) m p h = sym (same_Some (running (state_of m)) p h)
+progress_is (Err s) m p h = stopped_is (end_of_stop_reason s) m p h
+
+pub step_is : {post : CallPostcondition} {r : Result (Unit {0}) StopReason} {m m' : Machine} (t : ℕ) (ls : Levels) {a b : lowered.Instruction} → a ≡ b → StepRunsStatement r m m' ls a → StepHasEffect post r m m' (statement_effect t ls b)
+step_is {r = r} {m' = m'} t ls e h = does_statement t ls e record { has_effect = λ enters p. progress_is r m' _ (h enters t) }
 
 -- sequences
 
@@ -255,9 +270,6 @@ before_last {start = start} {m = m} t ls xs e x d = record {
   has_effect = λ enters p.
       subst (IsProgressAfterStep (Err e) m) (sym (all-after enters t ls xs x (state_of start))) (failed_then e m (execute_sequence enters t ls (sequence_of xs) (state_of start)) (execute enters t ls (statement_of x)) (d.has_effect enters p));
 }
-
-pub steps_by : (m : Machine) (r : Result (Unit {0}) StopReason) (p : MachineProgress) (e : EvaluationFault) → (y : StopReason) × (r ≡ Err y) × (end_of_stop_reason y ≡ Some (end_of e)) → stopped (end_of e) (output_items m.output.items) ≡ p → IsProgressAfterStep r m p
-steps_by m r p e q h = subst (λ r. IsProgressAfterStep r m p) (sym q.1) (subst (λ o. StopsRun o m p) (sym q.2) (sym h))
 
 pub steps_as : (enters : CallEffect) (t : ℕ) (ls : Levels) (v : Variable) (r : Result (Unit {0}) StopReason) (m : Machine) (s : MachineState) {a b : ℤ} → a ≡ b → IsProgressAfterStep r m (execute enters t ls (variable_increase v a) s) → IsProgressAfterStep r m (execute enters t ls (variable_increase v b) s)
 steps_as enters t ls v r m s e h = subst (λ n. IsProgressAfterStep r m (execute enters t ls (variable_increase v n) s)) e h

@@ -1,16 +1,15 @@
 -- States what the machine's state and the result of each of its steps mean for the run that
 -- `Execution` defines. The state has only cells, input and output, since the functions get the
 -- bound on iterations as a parameter. The contract of a step that allocates nothing is an equation
--- (`progress_after_step`). The contract of any other step has a case for each result
+-- (`StepRunsStatement`). The contract of any other step has a case for each result
 -- (`IsProgressAfterStep`, `IsOutcomeOfArgumentPassing`). `StepHasEffect` is a record, so lemmas about it
 -- can have implicit arguments. The invariants of loops in `proofs/Executing` (`InSequence`,
 -- `InBranches`, `InWhile`, `InRepeat`) are records for the same reason. There is a lemma for each
 -- way to continue a loop or to leave it.
 -- Rule: none; used in contracts of the machine.
-use Rattle.std.specs.Prelude.{◌≡◌, ℕ, ℤ, List, map, Ok, Err, None, Option, Some, Result, true}
+use Rattle.std.specs.Prelude.{◌≡◌, ℕ, ℤ, List, map, Ok, Err, None, Option, Some, option_map, Result, true}
 use denote.MutBor.{MutBor}
 use denote.Ref.{Bor}
-use Rattle.ob0_run_machine.specs.declared.stop_reasons.EvaluationFault.{EvaluationFault}
 use Rattle.ob0_run_machine.specs.declared.stop_reasons.StopReason.{StopReason}
 use Rattle.ob0_run_machine.specs.declared.level.Level as level
 use Rattle.ob0_run_machine.specs.declared.machine.Item.{Item}
@@ -18,7 +17,7 @@ use Rattle.ob0_run_machine.specs.declared.machine.Item.TheVariants as item
 use Rattle.ob0_run_machine.specs.declared.machine.Machine.{Machine}
 use Rattle.ob0_run_machine.specs.declared.memory.Memory.{Memory}
 use Rattle.ob0_run_machine.specs.Allocations.{has_failed}
-use Rattle.ob0_run_machine.specs.StepOutcomes.{end_of_stop_reason, end_of}
+use Rattle.ob0_run_machine.specs.StepOutcomes.{end_of_stop_reason}
 use Rattle.ob0_run_machine.specs.Evaluation.{MachineEnd, Levels, StepResult, ends, gives}
 use Rattle.ob0_run_machine.specs.Execution.{CallEffect, CallArguments, MachineProgress, MachineState, OutputItem, run_routine, call, levels_in_call, execute, execute_sequence, execute_branches, line_out, number_out, running, stopped}
 use Rattle.ob0_run_machine.specs.Levels.{levels_of}
@@ -41,11 +40,19 @@ state_of m =
     record { cells = m.cells.items; input = m.input.now; output = output_items m.output.items }
 
 -- Returns the progress of a run after a step that allocates nothing, from the result of the step
--- and the machine after the step. The run continues in the machine's state, or has ended with a
--- fault and the machine's output.
-abbrev pub progress_after_step : Result (Unit {0}) EvaluationFault → Machine → MachineProgress
-progress_after_step (Ok done) m = running (state_of m)
-progress_after_step (Err e) m = stopped (end_of e) (output_items m.output.items)
+-- and the machine after the step. The run continues in the machine's state, or has ended with the
+-- machine's output. Returns None if the result is a failed allocation, which no such step returns.
+abbrev pub progress_after_step : Result (Unit {0}) StopReason → Machine → Option MachineProgress
+progress_after_step (Ok done) m = Some (running (state_of m))
+progress_after_step (Err s) m =
+    option_map (λ e. stopped e (output_items m.output.items)) (end_of_stop_reason s)
+
+-- States that a step from the machine `m` to the machine `m'` with the result `r` runs the statement
+-- `a`, as `execute` defines it. `a` contains no call and no loop, so this holds for each effect of
+-- calls and for each bound `t` on iterations.
+abbrev pub StepRunsStatement : Result (Unit {0}) StopReason → (m m' : Machine) → Levels → Instruction → Type 0
+StepRunsStatement r m m' ls a =
+    (enters : CallEffect) (t : ℕ) → progress_after_step r m' ≡ Some (execute enters t ls a (state_of m))
 
 -- States that the progress `p` is a run that has ended with the given end and the output of the
 -- machine `m`. For None, states instead that an allocation has failed, and claims nothing about

@@ -37,11 +37,11 @@ pub(crate) fn cell_at(cells: &[i32], address: usize) -> i32
 
 /// Returns the address of a variable: the index of its first cell in the list of all cells.
 #[inline(always)]
-pub(crate) fn variable_address(variable: Variable, level: &Level<'_>) -> usize
+pub(crate) fn variable_address(variable: &Variable, level: &Level<'_>) -> usize
     ensures { (cells : List ℤ)
-        → place_address (levels_of level.now) cells (variable_of variable) ≡ gives result }
+        → place_address (levels_of level.now) cells (variable_of variable.now) ≡ gives result }
 {
-    match variable {
+    match *variable {
         Variable::InModule(offset) => offset,
         Variable::InOwnActivation(offset) => add_offset(level.base, offset),
         Variable::ByReference { index, offset } => {
@@ -55,9 +55,9 @@ pub(crate) fn variable_address(variable: Variable, level: &Level<'_>) -> usize
 
 /// Returns the number in a variable's cell, or 0 if that cell doesn't exist.
 #[inline(always)]
-fn variable_value(variable: Variable, level: &Level<'_>, cells: &[i32]) -> i32
-    ensures { number_value (levels_of level.now) cells.now (lowered.cell (variable_of variable))
-        ≡ gives result }
+fn variable_value(variable: &Variable, level: &Level<'_>, cells: &[i32]) -> i32
+    ensures { number_value (levels_of level.now) cells.now
+        (lowered.cell (variable_of variable.now)) ≡ gives result }
 {
     cell_at(cells, variable_address(variable, level))
 }
@@ -73,8 +73,8 @@ pub(crate) fn variable_element_address(
     ensures { outcome_of_result result ≡ place_address (levels_of level.now) cells.now
         (variable_element_of row.now) }
 {
-    let index = variable_value(row.index, level, cells);
-    let array = add_offset(variable_address(row.array, level), row.offset);
+    let index = variable_value(&row.index, level, cells);
+    let array = add_offset(variable_address(&row.array, level), row.offset);
     element_address(array, row.length, row.stride, index)
 }
 
@@ -91,7 +91,7 @@ pub(crate) fn locate_place(
         ≡ place_address (levels_of level.now) cells.now (place_of place.now) }
 {
     match place {
-        Place::Variable(variable) => Ok(variable_address(*variable, level)),
+        Place::Variable(variable) => Ok(variable_address(variable, level)),
         Place::InEnclosingActivation { up, offset } => Ok(add_offset(
             base_of_enclosing_level(level, *up),
             *offset,
@@ -142,7 +142,7 @@ pub(crate) fn evaluate_number(
 {
     match n {
         Number::Literal(n) => Ok(*n),
-        Number::Variable(variable) => Ok(variable_value(*variable, level, cells)),
+        Number::Variable(variable) => Ok(variable_value(variable, level, cells)),
         Number::Cell(place) => {
             let a = locate_place(place, level, cells)?;
             Ok(cell_at(cells, a))
@@ -167,7 +167,7 @@ fn evaluate_first_operand(
 {
     match n {
         FirstOperand::Literal(n) => Ok(*n),
-        FirstOperand::Variable(variable) => Ok(variable_value(*variable, level, cells)),
+        FirstOperand::Variable(variable) => Ok(variable_value(variable, level, cells)),
         FirstOperand::Cell(place) => {
             let a = locate_place(place, level, cells)?;
             Ok(cell_at(cells, a))
@@ -200,7 +200,7 @@ fn evaluate_operation(o: &Operation, level: &Level<'_>, cells: &[i32]) -> FlatOu
     match &o.first {
         FirstOperand::Variable(v) => into_flat_outcome(apply_link(
             &o.link,
-            variable_value(*v, level, cells),
+            variable_value(v, level, cells),
             level,
             cells,
         )),
@@ -263,21 +263,18 @@ fn apply_link(
 {
     match link {
         ChainLink::SumWithLiteral(n) => add(left, *n),
-        ChainLink::SumWithVariable(v) => add(left, variable_value(*v, level, cells)),
+        ChainLink::SumWithVariable(v) => add(left, variable_value(v, level, cells)),
         ChainLink::DifferenceWithLiteral(n) => subtract(left, *n),
-        ChainLink::DifferenceWithVariable(v) => subtract(left, variable_value(*v, level, cells)),
+        ChainLink::DifferenceWithVariable(v) => subtract(left, variable_value(v, level, cells)),
         ChainLink::ProductWithLiteral(n) => multiply(left, *n),
-        ChainLink::ProductWithVariable(v) => multiply(left, variable_value(*v, level, cells)),
+        ChainLink::ProductWithVariable(v) => multiply(left, variable_value(v, level, cells)),
         ChainLink::QuotientWithLiteral(n) => divide(left, *n),
-        ChainLink::QuotientWithVariable(v) => divide(left, variable_value(*v, level, cells)),
+        ChainLink::QuotientWithVariable(v) => divide(left, variable_value(v, level, cells)),
         ChainLink::RemainderWithLiteral(n) => modulo(left, *n),
-        ChainLink::RemainderWithVariable(v) => modulo(left, variable_value(*v, level, cells)),
-        ChainLink::SumWithLeftVariable(v) => add(variable_value(*v, level, cells), left),
-        ChainLink::DifferenceWithLeftVariable(v) => subtract(
-            variable_value(*v, level, cells),
-            left,
-        ),
-        ChainLink::ProductWithLeftVariable(v) => multiply(variable_value(*v, level, cells), left),
+        ChainLink::RemainderWithVariable(v) => modulo(left, variable_value(v, level, cells)),
+        ChainLink::SumWithLeftVariable(v) => add(variable_value(v, level, cells), left),
+        ChainLink::DifferenceWithLeftVariable(v) => subtract(variable_value(v, level, cells), left),
+        ChainLink::ProductWithLeftVariable(v) => multiply(variable_value(v, level, cells), left),
         ChainLink::Other(o, n) => into_result(apply_operator_to_expression(
             *o, left, n, level, cells,
         )),
@@ -309,14 +306,14 @@ fn apply_operator_to_expression(
 /// the result, or the fault that ends the evaluation.
 #[inline(always)]
 pub(crate) fn evaluate_update(
-    variable: Variable,
+    variable: &Variable,
     link: &ChainLink,
     level: &Level<'_>,
     cells: &[i32],
 ) -> Result<i32, EvaluationFault>
     ensures { outcome_of_result result
         ≡ number_value (levels_of level.now) cells.now
-        (operation_with_link link.now (lowered.cell (variable_of variable))) }
+        (operation_with_link link.now (lowered.cell (variable_of variable.now))) }
 {
     let left = variable_value(variable, level, cells);
     apply_link(link, left, level, cells)
@@ -367,15 +364,15 @@ pub(crate) fn evaluate_truth(
         Truth::Flag(place) => into_result(evaluate_flag(place, level, cells)),
         Truth::NegatedFlag(place) => evaluate_negated_flag(place, level, cells),
         Truth::VariableLessThanLiteral(v, n) => {
-            Ok(compare_variable(Comparator::Less, *v, *n, level, cells))
+            Ok(compare_variable(Comparator::Less, v, *n, level, cells))
         }
-        Truth::VariableComparedToLiteral(r, v, n) => Ok(compare_variable(*r, *v, *n, level, cells)),
+        Truth::VariableComparedToLiteral(r, v, n) => Ok(compare_variable(*r, v, *n, level, cells)),
         Truth::VariableComparedToVariable(r, v, w) => {
-            let right = variable_value(*w, level, cells);
-            Ok(compare_variable(*r, *v, right, level, cells))
+            let right = variable_value(w, level, cells);
+            Ok(compare_variable(*r, v, right, level, cells))
         }
         Truth::ElementComparedToVariable(r, q, v) => into_result(compare_element(
-            *r, q, *v, level, cells,
+            *r, q, v, level, cells,
         )),
         _ => evaluate_truth_out_of_line(t, level, cells),
     }
@@ -428,15 +425,15 @@ fn evaluate_general_truth(
             *relation, operands, level, cells,
         ),
         Truth::VariableLessThanLiteral(v, n) => {
-            Ok(compare_variable(Comparator::Less, *v, *n, level, cells))
+            Ok(compare_variable(Comparator::Less, v, *n, level, cells))
         }
-        Truth::VariableComparedToLiteral(r, v, n) => Ok(compare_variable(*r, *v, *n, level, cells)),
+        Truth::VariableComparedToLiteral(r, v, n) => Ok(compare_variable(*r, v, *n, level, cells)),
         Truth::VariableComparedToVariable(r, v, w) => {
-            let right = variable_value(*w, level, cells);
-            Ok(compare_variable(*r, *v, right, level, cells))
+            let right = variable_value(w, level, cells);
+            Ok(compare_variable(*r, v, right, level, cells))
         }
         Truth::ElementComparedToVariable(r, q, v) => into_result(compare_element(
-            *r, q, *v, level, cells,
+            *r, q, v, level, cells,
         )),
         Truth::Same(operands) => evaluate_truth_equality(operands, level, cells),
         Truth::Different(operands) => evaluate_truth_inequality(operands, level, cells),
@@ -447,13 +444,13 @@ fn evaluate_general_truth(
 #[inline(always)]
 fn compare_variable(
     relation: Comparator,
-    variable: Variable,
+    variable: &Variable,
     right: i32,
     level: &Level<'_>,
     cells: &[i32],
 ) -> bool
     ensures { truth_value (levels_of level.now) cells.now
-        (variable_comparison relation variable (lowered.literal right)) ≡ gives result }
+        (variable_comparison relation variable.now (lowered.literal right)) ≡ gives result }
 {
     compare(relation, variable_value(variable, level, cells), right)
 }
@@ -464,12 +461,13 @@ fn compare_variable(
 fn compare_element(
     relation: Comparator,
     left: &VariableElement,
-    right: Variable,
+    right: &Variable,
     level: &Level<'_>,
     cells: &[i32],
 ) -> FlatOutcome<bool>
     ensures { outcome_of result
-        ≡ truth_value (levels_of level.now) cells.now (element_comparison relation left.now right) }
+        ≡ truth_value (levels_of level.now) cells.now
+        (element_comparison relation left.now right.now) }
 {
     match variable_element_address(left, level, cells) {
         Ok(a) => {

@@ -1,7 +1,7 @@
 //! Computes the operators on numbers and truth values, and the addresses of parts of variables.
 
 ghost use Rattle.std.specs.Int.{w32};
-ghost use Rattle.std.specs.Prelude.{◌≡◌, ◌+ℤ◌, FitsSigned, SomeIff, neg_ℤ};
+ghost use Rattle.std.specs.Prelude.{◌≡◌, ◌+ℤ◌, ◌*ℤ◌, FitsSigned, SomeIff, neg_ℤ};
 ghost use Rattle.ob0_run_machine.specs.StepOutcomes.{number_or_overflow, outcome_of_result};
 ghost use Rattle.ob0_run_machine.specs.Evaluation.{compare, division_outcome, element_address, add_offset, checked_number, is_cell_true, truth_as_cell, apply_operator, same_truth};
 ghost use Rattle.ob0_run_machine.specs.LoweredSyntax.{difference, product, quotient, remainder, sum};
@@ -69,6 +69,22 @@ fn checked_sum(left: i32, right: i32) -> Option<i32>
     }
 }
 
+/// Returns the product, or None if it has more than 32 bits. The product is computed in 64 bits,
+/// where it always fits. `checked_mul` computes it twice, also in 32 bits.
+#[inline(always)]
+fn checked_product(left: i32, right: i32) -> Option<i32>
+    ensures { SomeIff result (FitsSigned w32 (left *ℤ right)) (left *ℤ right) }
+{
+    let product = left as i64 * right as i64;
+    if product > 2_147_483_647 {
+        return None;
+    }
+    if product < -2_147_483_648 {
+        return None;
+    }
+    Some(product as i32)
+}
+
 /// Returns the sum, or the fault Overflow if it has more than 32 bits. `subtract` and `multiply` do
 /// the same for the difference and the product.
 #[inline(always)]
@@ -89,7 +105,7 @@ pub(crate) fn subtract(left: i32, right: i32) -> Result<i32, EvaluationFault>
 pub(crate) fn multiply(left: i32, right: i32) -> Result<i32, EvaluationFault>
     ensures { outcome_of_result result ≡ apply_operator product left right }
 {
-    checked_number(left.checked_mul(right))
+    checked_number(checked_product(left, right))
 }
 
 /// Applies an operator to two numbers. Returns the result, or the fault Overflow or Divisor.

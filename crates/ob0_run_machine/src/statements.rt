@@ -1,5 +1,6 @@
 //! Executes statements. A call is performed by the closure `enter`, which is passed to each
-//! function that may reach a call.
+//! function that may reach a call. Each function returns the reason why the run stops
+//! (`StopReason`), so `run_statement` returns the results of the functions that it calls unchanged.
 
 ghost use Rattle.std.specs.Prelude.{◌≡◌, ◌++◌, ◌∷◌, [], IfSome, List, ℕ, ℤ};
 ghost use Rattle.ob0_run_machine.specs.StepOutcomes.{outcome_of_result};
@@ -10,7 +11,7 @@ ghost use Rattle.ob0_run_machine.specs.declared.code.Instruction.{Increase};
 ghost use Rattle.ob0_run_machine.specs.Execution.{CallEffect, execute};
 ghost use Rattle.ob0_run_machine.specs.Levels.{levels_of};
 ghost use Rattle.ob0_run_machine.specs.LoweredSyntax as lowered;
-ghost use Rattle.ob0_run_machine.specs.Machines.{StepHasEffect, IsProgressAfterStep, procedure_entry_effect, statement_effect, sequence_effect, elsifs_effect, progress_after_step, state_of};
+ghost use Rattle.ob0_run_machine.specs.Machines.{StepHasEffect, StepRunsStatement, IsProgressAfterStep, procedure_entry_effect, statement_effect, sequence_effect, elsifs_effect, state_of};
 ghost use Rattle.ob0_run_machine.specs.LoweredCodeViews.{operation_with_link, conditional_of, call_of, chain_of, variable_comparison, variable_increase, number_of, elsif_branches, else_statements, place_of, repeat_of, variable_element_of, sequence_of, statement_of, truth_of, variable_of, while_of};
 
 use crate::addresses::VarParameterAddresses;
@@ -38,11 +39,9 @@ fn store_number(
     n: &Number,
     level: &Level<'_>,
     machine: &mut Machine<'_>,
-) -> Result<(), EvaluationFault>
-    ensures { (enters : CallEffect) (t : ℕ)
-        → progress_after_step result machine.new
-        ≡ execute enters t (levels_of level.now)
-        (lowered.stores_number (place_of place.now) (number_of n.now)) (state_of machine.old) }
+) -> Result<(), StopReason>
+    ensures { StepRunsStatement result machine.old machine.new (levels_of level.now)
+        (lowered.stores_number (place_of place.now) (number_of n.now)) }
 {
     let a = locate_place(place, level, machine.cells.as_slice())?;
     let v = evaluate_number(n, level, machine.cells.as_slice())?;
@@ -54,15 +53,13 @@ fn store_number(
 #[tactic(auto, unfolding(crate::specs::Execution::execute))]
 #[inline(always)]
 fn store_number_in_variable(
-    variable: Variable,
+    variable: &Variable,
     n: &Number,
     level: &Level<'_>,
     machine: &mut Machine<'_>,
-) -> Result<(), EvaluationFault>
-    ensures { (enters : CallEffect) (t : ℕ)
-        → progress_after_step result machine.new
-        ≡ execute enters t (levels_of level.now)
-        (lowered.stores_number (variable_of variable) (number_of n.now)) (state_of machine.old) }
+) -> Result<(), StopReason>
+    ensures { StepRunsStatement result machine.old machine.new (levels_of level.now)
+        (lowered.stores_number (variable_of variable.now) (number_of n.now)) }
 {
     let v = evaluate_number(n, level, machine.cells.as_slice())?;
     store_in_cell(&mut machine.cells, variable_address(variable, level), v);
@@ -74,15 +71,13 @@ fn store_number_in_variable(
 #[tactic(auto, unfolding(crate::specs::Execution::execute))]
 #[inline(never)]
 fn store_chain(
-    variable: Variable,
+    variable: &Variable,
     c: &Chain,
     level: &Level<'_>,
     machine: &mut Machine<'_>,
-) -> Result<(), EvaluationFault>
-    ensures { (enters : CallEffect) (t : ℕ)
-        → progress_after_step result machine.new
-        ≡ execute enters t (levels_of level.now)
-        (lowered.stores_number (variable_of variable) (chain_of c.now)) (state_of machine.old) }
+) -> Result<(), StopReason>
+    ensures { StepRunsStatement result machine.old machine.new (levels_of level.now)
+        (lowered.stores_number (variable_of variable.now) (chain_of c.now)) }
 {
     let v = evaluate_chain(c, level, machine.cells.as_slice())?;
     store_in_cell(&mut machine.cells, variable_address(variable, level), v);
@@ -93,11 +88,10 @@ fn store_chain(
 /// more than 32 bits.
 #[tactic(auto, unfolding(crate::specs::Execution::execute))]
 #[inline(always)]
-fn increase_cell(address: usize, by: i32, machine: &mut Machine<'_>) -> Result<(), EvaluationFault>
-    ensures { (enters : CallEffect) (t : ℕ) (ls : Levels) (v : Variable)
+fn increase_cell(address: usize, by: i32, machine: &mut Machine<'_>) -> Result<(), StopReason>
+    ensures { (ls : Levels) (v : Variable)
         → address_of ls machine.old.cells.items (variable_of v) ≡ gives address
-        → progress_after_step result machine.new
-        ≡ execute enters t ls (variable_increase v by) (state_of machine.old) }
+        → StepRunsStatement result machine.old machine.new ls (variable_increase v by) }
 {
     let v = add(cell_at(machine.cells.as_slice(), address), by)?;
     store_in_cell(&mut machine.cells, address, v);
@@ -107,14 +101,13 @@ fn increase_cell(address: usize, by: i32, machine: &mut Machine<'_>) -> Result<(
 /// Adds the number `by` to a variable. Returns the fault Overflow if the sum has more than 32 bits.
 #[inline(always)]
 fn increase_variable(
-    variable: Variable,
+    variable: &Variable,
     by: i32,
     level: &Level<'_>,
     machine: &mut Machine<'_>,
-) -> Result<(), EvaluationFault>
-    ensures { (enters : CallEffect) (t : ℕ)
-        → progress_after_step result machine.new
-        ≡ execute enters t (levels_of level.now) (variable_increase variable by) (state_of machine.old) }
+) -> Result<(), StopReason>
+    ensures { StepRunsStatement result machine.old machine.new (levels_of level.now)
+        (variable_increase variable.now by) }
 {
     increase_cell(variable_address(variable, level), by, machine)
 }
@@ -124,15 +117,14 @@ fn increase_variable(
 #[tactic(auto, unfolding(crate::specs::Execution::execute))]
 #[inline(never)]
 fn update_variable(
-    variable: Variable,
+    variable: &Variable,
     link: &ChainLink,
     level: &Level<'_>,
     machine: &mut Machine<'_>,
-) -> Result<(), EvaluationFault>
-    ensures { (enters : CallEffect) (t : ℕ)
-        → progress_after_step result machine.new
-        ≡ execute enters t (levels_of level.now) (lowered.stores_number (variable_of variable)
-        (operation_with_link link.now (lowered.cell (variable_of variable)))) (state_of machine.old) }
+) -> Result<(), StopReason>
+    ensures { StepRunsStatement result machine.old machine.new (levels_of level.now)
+        (lowered.stores_number (variable_of variable.now)
+        (operation_with_link link.now (lowered.cell (variable_of variable.now)))) }
 {
     let v = evaluate_update(variable, link, level, machine.cells.as_slice())?;
     store_in_cell(&mut machine.cells, variable_address(variable, level), v);
@@ -148,11 +140,9 @@ fn store_truth(
     t: &Truth,
     level: &Level<'_>,
     machine: &mut Machine<'_>,
-) -> Result<(), EvaluationFault>
-    ensures { (enters : CallEffect) (turns : ℕ)
-        → progress_after_step result machine.new
-        ≡ execute enters turns (levels_of level.now)
-        (lowered.stores_truth (place_of place.now) (truth_of t.now)) (state_of machine.old) }
+) -> Result<(), StopReason>
+    ensures { StepRunsStatement result machine.old machine.new (levels_of level.now)
+        (lowered.stores_truth (place_of place.now) (truth_of t.now)) }
 {
     let a = locate_place(place, level, machine.cells.as_slice())?;
     let v = evaluate_truth(t, level, machine.cells.as_slice())?;
@@ -169,11 +159,9 @@ fn store_truth_constant_in_element(
     b: bool,
     level: &Level<'_>,
     machine: &mut Machine<'_>,
-) -> Result<(), EvaluationFault>
-    ensures { (enters : CallEffect) (t : ℕ)
-        → progress_after_step result machine.new
-        ≡ execute enters t (levels_of level.now)
-        (lowered.stores_truth (variable_element_of r.now) (lowered.constant b)) (state_of machine.old) }
+) -> Result<(), StopReason>
+    ensures { StepRunsStatement result machine.old machine.new (levels_of level.now)
+        (lowered.stores_truth (variable_element_of r.now) (lowered.constant b)) }
 {
     let a = variable_element_address(r, level, machine.cells.as_slice())?;
     store_in_cell(&mut machine.cells, a, truth_as_cell(b));
@@ -187,11 +175,9 @@ fn copy_block(
     count: usize,
     level: &Level<'_>,
     machine: &mut Machine<'_>,
-) -> Result<(), EvaluationFault>
-    ensures { (enters : CallEffect) (t : ℕ)
-        → progress_after_step result machine.new
-        ≡ execute enters t (levels_of level.now)
-        (lowered.copies (place_of to.now) (place_of from.now) count) (state_of machine.old) }
+) -> Result<(), StopReason>
+    ensures { StepRunsStatement result machine.old machine.new (levels_of level.now)
+        (lowered.copies (place_of to.now) (place_of from.now) count) }
 {
     let a = locate_place(to, level, machine.cells.as_slice())?;
     let b = locate_place(from, level, machine.cells.as_slice())?;
@@ -326,22 +312,18 @@ fn run_statement<F: Fn(&mut Machine<'_>, usize, &Level<'_>) -> Result<(), StopRe
         (statement_effect turns (levels_of level.now) (statement_of s.now)) }
 {
     match s {
-        Instruction::StoreNumber(place, n) => Ok(store_number(place, n, level, machine)?),
-        Instruction::StoreNumberInVariable(variable, n) => Ok(store_number_in_variable(
-            *variable, n, level, machine,
-        )?),
-        Instruction::StoreChain(variable, c) => Ok(store_chain(*variable, c, level, machine)?),
-        Instruction::Update(variable, link) => Ok(update_variable(
-            *variable, link, level, machine,
-        )?),
-        Instruction::Increase(variable, by) => Ok(increase_variable(
-            *variable, *by, level, machine,
-        )?),
-        Instruction::StoreTruth(place, t) => Ok(store_truth(place, t, level, machine)?),
-        Instruction::StoreConstantInElement(r, b) => Ok(store_truth_constant_in_element(
-            r, *b, level, machine,
-        )?),
-        Instruction::Copy(to, from, count) => Ok(copy_block(to, from, *count, level, machine)?),
+        Instruction::StoreNumber(place, n) => store_number(place, n, level, machine),
+        Instruction::StoreNumberInVariable(variable, n) => {
+            store_number_in_variable(variable, n, level, machine)
+        }
+        Instruction::StoreChain(variable, c) => store_chain(variable, c, level, machine),
+        Instruction::Update(variable, link) => update_variable(variable, link, level, machine),
+        Instruction::Increase(variable, by) => increase_variable(variable, *by, level, machine),
+        Instruction::StoreTruth(place, t) => store_truth(place, t, level, machine),
+        Instruction::StoreConstantInElement(r, b) => {
+            store_truth_constant_in_element(r, *b, level, machine)
+        }
+        Instruction::Copy(to, from, count) => copy_block(to, from, *count, level, machine),
         Instruction::Read(place) => run_read(place, level, machine),
         Instruction::Write(n) => run_write(n, level, machine),
         Instruction::WriteLine => run_write_line(level, machine),
@@ -464,23 +446,6 @@ fn run_elsifs<F: Fn(&mut Machine<'_>, usize, &Level<'_>) -> Result<(), StopReaso
     run_sequence_unless_empty(&i.otherwise, level, turns, machine, enter)
 }
 
-/// Adds the number `by` to the variable at an address, as `increase_cell` does. Returns a fault as a
-/// `StopReason`, the error type of a statement.
-#[tactic(auto, unfolding(crate::specs::Execution::execute))]
-#[inline(always)]
-fn increase_cell_or_stop_run(
-    address: usize,
-    by: i32,
-    machine: &mut Machine<'_>,
-) -> Result<(), StopReason>
-    ensures { (enters : CallEffect) (t : ℕ) (ls : Levels) (v : Variable)
-        → address_of ls machine.old.cells.items (variable_of v) ≡ gives address
-        → IsProgressAfterStep result machine.new
-        (execute enters t ls (variable_increase v by) (state_of machine.old)) }
-{
-    Ok(increase_cell(address, by, machine)?)
-}
-
 /// The limit of a counting loop: a literal, or the address of the variable that is the limit.
 #[derive(Clone, Copy, PartialEq, Eq, Debug)]
 enum CountingLimit {
@@ -509,7 +474,7 @@ fn recognize_counting_condition(condition: &Truth, level: &Level<'_>) -> Option<
         Truth::VariableComparedToVariable(relation, v, w) => match relation {
             Comparator::Less => Some(CountingCondition {
                 variable: *v,
-                limit: CountingLimit::Address(variable_address(*w, level)),
+                limit: CountingLimit::Address(variable_address(w, level)),
             }),
             _ => None,
         },
@@ -567,7 +532,7 @@ fn run_counting_loop_body<F: Fn(&mut Machine<'_>, usize, &Level<'_>) -> Result<(
         (sequence_of (statements.now ++ Increase v by ∷ []))) }
 {
     run_sequence_inline(statements, level, turns, machine, enter)?;
-    increase_cell_or_stop_run(address, by, machine)
+    increase_cell(address, by, machine)
 }
 
 /// Runs a counting loop. The condition of this WHILE is that a variable is less than a literal or a
@@ -579,7 +544,7 @@ fn run_counting_loop_body<F: Fn(&mut Machine<'_>, usize, &Level<'_>) -> Result<(
 fn run_counting_loop<F: Fn(&mut Machine<'_>, usize, &Level<'_>) -> Result<(), StopReason>>(
     condition: CountingCondition,
     statements: &[Instruction],
-    increased: Variable,
+    increased: &Variable,
     by: i32,
     level: &Level<'_>,
     turns: u32,
@@ -592,9 +557,9 @@ fn run_counting_loop<F: Fn(&mut Machine<'_>, usize, &Level<'_>) -> Result<(), St
         → StepHasEffect (F.post enter.now) result machine.old machine.new
         (statement_effect turns (levels_of level.now) (lowered.while_loop
         (variable_comparison Less condition.variable n)
-        (sequence_of (statements.now ++ Increase increased by ∷ [])))) }
+        (sequence_of (statements.now ++ Increase increased.now by ∷ [])))) }
 {
-    let compared = variable_address(condition.variable, level);
+    let compared = variable_address(&condition.variable, level);
     let changed = variable_address(increased, level);
     let mut left = turns;
     'again: loop {
@@ -627,7 +592,7 @@ fn run_while<F: Fn(&mut Machine<'_>, usize, &Level<'_>) -> Result<(), StopReason
     if let Some(condition) = recognize_counting_condition(&w.condition, level)
         && let Some((Instruction::Increase(u, by), statements)) = w.body.as_slice().split_last()
     {
-        return run_counting_loop(condition, statements, *u, *by, level, turns, machine, enter);
+        return run_counting_loop(condition, statements, u, *by, level, turns, machine, enter);
     }
     run_general_while(w, level, turns, machine, enter)
 }

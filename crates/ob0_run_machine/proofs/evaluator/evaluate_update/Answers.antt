@@ -13,4 +13,4 @@ pub returns : goal.returns
 returns c =
     let ls = levels_of c.args.level.now in
     let a : SFits w32 c.variable_value-left.result = search rules in
-    c.apply_link.ensures ∙ ap (outcome_of_applied_link ls c.args.cells.now c.args.link.now) (to_z-of_z a) ∙ ap (λ z. z >>= outcome_of_applied_link ls c.args.cells.now c.args.link.now) (sym c.variable_value-left.ensures) ∙ sym (applied_to ls c.args.cells.now (cell (variable_of c.args.variable)) c.args.link.now)
+    c.apply_link.ensures ∙ ap (outcome_of_applied_link ls c.args.cells.now c.args.link.now) (to_z-of_z a) ∙ ap (λ z. z >>= outcome_of_applied_link ls c.args.cells.now c.args.link.now) (sym c.variable_value-left.ensures) ∙ sym (applied_to ls c.args.cells.now (cell (variable_of c.args.variable.now)) c.args.link.now)
