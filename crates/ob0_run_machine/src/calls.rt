@@ -81,7 +81,7 @@ pub(crate) fn call(
         return Err(StopReason::CallBound);
     }
     let left = calls - 1;
-    // It holds the values (`move`), so that a nested call reads them without a reference.
+    // The closure captures values (`move`), so a nested call reads them without a reference.
     let enter = move |machine: &mut Machine<'_>, procedure: usize, level: &Level<'_>|
         ensures { IsProgressAfterCall result machine.old machine.new program.entry.now left turns procedure
             level.now }

@@ -69,8 +69,8 @@ fn checked_sum(left: i32, right: i32) -> Option<i32>
     }
 }
 
-/// Returns the product, or None if it has more than 32 bits. The product is computed in 64 bits,
-/// where it always fits. `checked_mul` computes it twice, also in 32 bits.
+/// Returns the product, or None if it has more than 32 bits. Computes the product in 64 bits, which
+/// it always fits. (`checked_mul` computes it a second time, in 32 bits.)
 #[inline(always)]
 fn checked_product(left: i32, right: i32) -> Option<i32>
     ensures { SomeIff result (FitsSigned w32 (left *ℤ right)) (left *ℤ right) }
