@@ -14,8 +14,7 @@ that isn't proved, and isn't refused by its clause, is tried again among others 
 there, or is proved, is tried alone.
 
 A mutant is refused by its clause if a goal of the clause that its first line names isn't proved, or an answer doesn't prove such a
-goal any more; if the line names none, any clause of the function does. One that only something else refuses, as what a callee
-requires, is listed as refused elsewhere. What each came to is written into tools/mutants.txt after each check (tools/verdicts.py),
+goal any more. One that only something else refuses, as what a callee requires, is listed as refused elsewhere. What each came to is written into tools/mutants.txt after each check (tools/verdicts.py),
 so a run that is ended can be resumed.
 
 `make test` calls `try_some` after `rt ci`, over the libraries that it has just proved. It tries two eightieths of the mutants: a part
