@@ -334,9 +334,8 @@ def many_judged() -> None:
     same(word("returns-clause-broken")[0], mutants.ELSEWHERE, "a goal of another clause")
     same(word("split_messages-requires-clause-bad")[0], mutants.ELSEWHERE, "what a callee requires")
     edit.claim = None
-    same(word("returns-clause-broken")[0], mutants.REFUSED, "any clause, where the first line names none")
-    for goal in ("split_messages-requires-clause-bad", "overflow_add-len"):
-        same(word(goal)[0], mutants.ELSEWHERE, f"{goal}, where it names none")
+    for goal in ("returns-clause-bad-in-Err", "split_messages-requires-clause-bad"):
+        same(word(goal)[0], mutants.ELSEWHERE, f"{goal}, if the first line names no clause")
 
 
 @test("mutants: of many in one check one that stands on a function that isn't proved is tried again, unless its clause refuses it")

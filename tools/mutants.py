@@ -14,8 +14,7 @@ that isn't proved, and isn't refused by its clause, is tried again among others 
 there, or is proved, is tried alone.
 
 A mutant is refused by its clause if a goal of the clause that its first line names isn't proved, or an answer doesn't prove such a
-goal any more; if the line names none, any clause of the function does. One that only something else refuses, as what a callee
-requires, is listed as refused elsewhere. What each came to is written into tools/mutants.txt after each check (tools/verdicts.py),
+goal any more. One that only something else refuses, as what a callee requires, is listed as refused elsewhere. What each came to is written into tools/mutants.txt after each check (tools/verdicts.py),
 so a run that is ended can be resumed.
 
 `make test` calls `try_some` after `rt ci`, over the libraries that it has just proved. It tries two eightieths of the mutants: a part
@@ -130,8 +129,8 @@ class Group(NamedTuple):
 class Crate:
     """The mutants of a crate that are tried in this run, and what is known of them."""
 
-    def __init__(self, name: str, chosen: List[Edit], source: reading.Source) -> None:
-        self.name, self.source, self.chosen = name, source, chosen
+    def __init__(self, name: str, chosen: List[Edit], source: reading.Source, most: int = MOST) -> None:
+        self.name, self.source, self.chosen, self.most = name, source, chosen, most
         self.below, self.size = source.below(), sum(map(len, source.words.values()))
         self.found = {it: Verdict(NOT_JUDGED, it.why) for it in chosen if it.why}
         self.next: Dict[Edit, int] = {}  # those to be tried again, and how
@@ -145,10 +144,10 @@ class Crate:
         found: List[List[Edit]] = []
         if not is_apart:
             counts = [sum(proofs(it) == proofs(other) for other in left) for it in left]
-            found = [[] for _ in range(max([-(-len(left) // MOST), *counts]))]
+            found = [[] for _ in range(max([-(-len(left) // self.most), *counts]))]
         for edit in left:
             joined: Callable[[List[Edit]], int] = lambda it: sum(self.are_joined(edit, other) for other in it)
-            open_ones = [it for it in found if len(it) < MOST and not any(proofs(edit) & proofs(other) for other in it)]
+            open_ones = [it for it in found if len(it) < self.most and not any(proofs(edit) & proofs(other) for other in it)]
             open_ones = [it for it in open_ones if proofs(edit) and not (is_apart and joined(it))]
             if open_ones:
                 min(open_ones, key=lambda it: (joined(it), len(it))).append(edit)
@@ -284,12 +283,12 @@ class Run:
         return [sum(it) for it in zip([0] * len(WORDS), *(it.counts() for it in self.crates))]
 
 
-def crates_of(chosen: Iterable[Edit], sources: Dict[str, reading.Source]) -> List[Crate]:
-    """The crates of some mutants, each with its own."""
+def crates_of(chosen: Iterable[Edit], sources: Dict[str, reading.Source], most: int = MOST) -> List[Crate]:
+    """The crates of some mutants, each with its own, and at most so many in one check."""
     found: Dict[str, List[Edit]] = {}
     for edit in chosen:
         found.setdefault(edit.crate, []).append(edit)
-    return [Crate(name, own, sources[name]) for name, own in found.items()]
+    return [Crate(name, own, sources[name], most) for name, own in found.items()]
 
 
 def part_of_commit() -> int:
@@ -325,7 +324,9 @@ def try_some(libraries: checks.Libraries) -> Tuple[int, int]:
     print(f"part {of_commit} of {PARTS}, by the commit's hash, and of the {len(mutants.current)} that were refused before those from "
           f"number {drawn} on, drawn in this run: {len(chosen)} of {len(mutants.edits)} mutants; "
           f"`tools/mutants.py --part {of_commit} --from {drawn}` tries them again", flush=True)  # fmt: skip
-    run = Run(crates_of(chosen, mutants.sources), build.lanes(), lambda settled: None)
+    # (few in a check, so that all processors have some)
+    lanes = build.lanes()
+    run = Run(crates_of(chosen, mutants.sources, -(-len(chosen) // (2 * lanes))), lanes, lambda settled: None)
     run.try_all(libraries, OF_RUN)
     counts = run.counts()
     return counts[0], sum(counts[1:])

@@ -39,13 +39,13 @@ class Row(NamedTuple):
 
 
 def is_met(edit: edits.Edit, goal: str, proof: str) -> bool:
-    """Whether a goal is of the clause that a mutant's first line names; if it names none, of any clause of a function that it
-    changes."""
+    """Whether a goal is of the clause that a mutant's first line names."""
     claim = edit.claim
+    if not claim:
+        return False
     # (functions that call each other have one proof, and the prover may refuse it under any of their names)
-    proofs = {it.proof for it in edit.turned or () if not claim or claim.is_of(it)}
-    is_goal = claim.is_goal if claim else edits.is_of_contract
-    return proof in proofs and is_goal(edits.name_of(goal))
+    proofs = {it.proof for it in edit.turned or () if claim.is_of(it)}
+    return proof in proofs and claim.is_goal(edits.name_of(goal))
 
 
 class Mutants:
