@@ -41,7 +41,9 @@ pub(crate) fn variable_address(variable: &Variable, level: &Level<'_>) -> usize
     ensures { (cells : List ℤ)
         → place_address (levels_of level.now) cells (variable_of variable.now) ≡ gives result }
 {
-    match *variable {
+    // A copy is read at once, which takes fewer instructions than a read in each arm.
+    let copy = *variable;
+    match copy {
         Variable::InModule(offset) => offset,
         Variable::InOwnActivation(offset) => add_offset(level.base, offset),
         Variable::ByReference { index, offset } => {
