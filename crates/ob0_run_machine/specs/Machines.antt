@@ -47,15 +47,12 @@ progress_after_step (Ok done) m = Some (running (state_of m))
 progress_after_step (Err s) m =
     option_map (λ e. stopped e (output_items m.output.items)) (end_of_stop_reason s)
 
--- States that a step from the machine `m` to the machine `m'` with the result `r` runs the
--- statement `a`, as `execute` defines it. This has to hold for each effect of calls and for each
--- bound `t` on iterations, since `a` contains no call and no loop.
-abbrev pub StepRunsStatement : Result (Unit {0}) StopReason → (m m' : Machine) → Levels
-    → Instruction
-    → Type 0
+-- States that a step from the machine `m` to the machine `m'` with the result `r` runs the statement
+-- `a`, as `execute` defines it. `a` contains no call and no loop, so this holds for each effect of
+-- calls and for each bound `t` on iterations.
+abbrev pub StepRunsStatement : Result (Unit {0}) StopReason → (m m' : Machine) → Levels → Instruction → Type 0
 StepRunsStatement r m m' ls a =
-    (enters : CallEffect) (t : ℕ)
-    → progress_after_step r m' ≡ Some (execute enters t ls a (state_of m))
+    (enters : CallEffect) (t : ℕ) → progress_after_step r m' ≡ Some (execute enters t ls a (state_of m))
 
 -- States that the progress `p` is a run that has ended with the given end and the output of the
 -- machine `m`. For None, states instead that an allocation has failed, and claims nothing about
