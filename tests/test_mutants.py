@@ -75,6 +75,9 @@ def proof_of_cycle() -> None:
     errors = [f"./proofs/calls/{at}/Answers.antt:9:3: error: `returns`: a type" for at in ("+call+fn-call-enter", "call", "+called+fn-called-enter")]
     said = Said("\n".join(errors), 1)
     same(said.proof_errors("ob0_run_machine::calls::call", "calls::call"), errors[:2], "of a function and its closure")
+    errors = [f"./proofs/programs/{at}/Answers.antt:9:3: error: `returns`: a type" for at in ("+count", "+counted", "other/+count")]
+    said = Said("\n".join(errors), 1)
+    same(said.proof_errors("ob0_run_lowering::programs::count", "programs::count"), errors[:1], "of a function that calls itself")
 
 
 @test("mutants: one that is made right again, doesn't compile, can't be read or isn't judged is not refused")

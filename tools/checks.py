@@ -63,11 +63,11 @@ class Said:
 
     def proof_errors(self, symbol: str, proof: str) -> list[str]:
         """The errors in the files of a function's proof."""
-        # (that of a cycle is where the prover has its functions: of methods that is below their type. A function that calls itself by
-        # a closure has one with that, without a name of its own)
+        # (that of a cycle is where the prover has its functions: of methods that is below their type. The folder of a function that
+        # calls itself begins with a plus, and goes on with the closure if it does so by one)
         *above, name = symbol.partition("::")[2].split("::")
         cycle = re.search(r"\+\w+$", proof)
-        starts = tuple("/".join(["proofs", *above, it]) for it in (f"{cycle[0] if cycle else name}/", f"+{name}+"))
+        starts = tuple("/".join(["proofs", *above, it]) for it in (f"{cycle[0] if cycle else name}/", f"+{name}/", f"+{name}+"))
         errors = ((it, ERROR.match(it)) for it in self.text.split("\n"))
         return [line for line, at in errors if at and at[1].startswith(starts)]
 

@@ -83,4 +83,4 @@ def is_at(place: str, function: reading.Function) -> bool:
         return file == function.file and function.first <= int(line) <= function.last
     *above, name = function.checked_as.split("::")
     own = "/".join([*above, function.proof.rpartition("::")[2] if "+" in function.proof else name])
-    return f"{place}/".startswith((f"{own}/", "/".join([*above, f"+{name}+"])))
+    return f"{place}/".startswith((f"{own}/", *("/".join([*above, f"+{name}{it}"]) for it in "/+")))
