@@ -138,8 +138,12 @@ module _ (L : Type 0) (f u : ℕ → L) (g v : ℕ → ℕ) (left_out : ℕ → 
 
 -- ---- two modules that are bound alike without one body
 
+-- returns a module's tree with its bindings
+abbrev labelled : Resolution → Tree ℕ module_text → Tree (Option ℕ × Name) module_text
+labelled r t = tree_with_bindings r t
+
 abbrev BoundAlike : PathToBody → Resolution → Resolution → Type 0
-BoundAlike path old new = tree_with_bindings new (module_without_body path (tree_of new.module_read)) ≡ tree_with_bindings old (module_without_body path (tree_of old.module_read))
+BoundAlike path old new = labelled new (module_without_body path (tree_of new.module_read)) ≡ labelled old (module_without_body path (tree_of old.module_read))
 
 -- returns the ordinal and the spelling of an identifier
 abbrev label_in : Resolution → ℕ → Option ℕ × Name
@@ -153,11 +157,11 @@ equal_in_place : (path : PathToBody) (old new : Resolution) (test : ℕ → Bool
 equal_in_place path old new test tree alike is_left_out =
     let t : Tree ℕ module_text = tree_of old.module_read in
     let less : Tree ℕ module_text = module_without_body path t in
-    let same : tree_with_bindings new less ≡ tree_with_bindings old less = sym (ap (λ u. tree_with_bindings new (module_without_body path u)) tree) ∙ alike in
-    ap (λ u. tree_with_bindings new (module_without_bodies test u)) tree
-    ∙ (sym (ap (tree_with_bindings new) (module_twice test path t is_left_out))
+    let same : labelled new less ≡ labelled old less = sym (ap (λ u. labelled new (module_without_body path u)) tree) ∙ alike in
+    ap (λ u. labelled new (module_without_bodies test u)) tree
+    ∙ (sym (ap (labelled new) (module_twice test path t is_left_out))
     ∙ (module_kept (Option ℕ × Name) (label_in new) (label_in old) (value_in new) (value_in old) test less same
-    ∙ ap (tree_with_bindings old) (module_twice test path t is_left_out)))
+    ∙ ap (labelled old) (module_twice test path t is_left_out)))
 
 -- If the tokens have other indexes, the same holds. A closing name's test is that of its new index.
 equal_moved : (path : PathToBody) (old new : Resolution) (test : ℕ → Bool) (move : ℕ → ℕ) → module_without_body path (tree_of new.module_read) ≡ mapped_tree move move (module_without_body path (tree_of old.module_read)) → closing_name_at_path path (tree_of new.module_read) ≡ move (closing_name_at_path path (tree_of old.module_read))
@@ -165,14 +169,14 @@ equal_moved : (path : PathToBody) (old new : Resolution) (test : ℕ → Bool) (
 equal_moved path old new test move outside closing alike is_left_out =
     let less : Tree ℕ module_text = module_without_body path (tree_of old.module_read) in
     let was_left_out : test (move (closing_name_at_path path (tree_of old.module_read))) ≡ true = sym (ap test closing) ∙ is_left_out in
-    let same : mapped_tree (λ k. label_in new (move k)) (λ k. value_in new (move k)) less ≡ tree_with_bindings old less =
-    sym (mapped_twice (label_in new) (label_in new) (value_in new) move move move less) ∙ (sym (ap (tree_with_bindings new) outside) ∙ alike) in
-    sym (ap (tree_with_bindings new) (module_twice test path (tree_of new.module_read) is_left_out))
-    ∙ (ap (λ u. tree_with_bindings new (module_without_bodies test u)) outside
-    ∙ (ap (tree_with_bindings new) (module_moved test move less)
+    let same : mapped_tree (λ k. label_in new (move k)) (λ k. value_in new (move k)) less ≡ labelled old less =
+    sym (mapped_twice (label_in new) (label_in new) (value_in new) move move move less) ∙ (sym (ap (labelled new) outside) ∙ alike) in
+    sym (ap (labelled new) (module_twice test path (tree_of new.module_read) is_left_out))
+    ∙ (ap (λ u. labelled new (module_without_bodies test u)) outside
+    ∙ (ap (labelled new) (module_moved test move less)
     ∙ (mapped_twice (label_in new) (label_in new) (value_in new) move move move (module_without_bodies (λ k. test (move k)) less)
     ∙ (module_kept (Option ℕ × Name) (λ k. label_in new (move k)) (label_in old) (λ k. value_in new (move k)) (value_in old) (λ k. test (move k)) less same
-    ∙ ap (tree_with_bindings old) (module_twice (λ k. test (move k)) path (tree_of old.module_read) was_left_out)))))
+    ∙ ap (labelled old) (module_twice (λ k. test (move k)) path (tree_of old.module_read) was_left_out)))))
 
 -- Modules with the same names without one body are bound alike there.
 bound_alike : (path : PathToBody) (old new : Resolution) → IsResolution old → IsResolution new → module_without_body path (bound new.module_read) ≡ module_without_body path (bound old.module_read) → BoundAlike path old new
@@ -189,15 +193,15 @@ module _ (r : Resolution) (types : CheckResult) (low : ℕ) (w : IsCheckResultBe
       let tree : Tree ℕ module_text = tree_of r.module_read in
       let path : PathToBody = path_to_body_in_module low tree in
       let own : ℕ = (body_with_token_in_module low tree).closing in
-      let items : List ℕ = types.bodies_with_faults.items in
-      let test : ℕ → Bool = is_body_in_list (items ++ own ∷ []) in
+      let faulty : List ℕ = types.bodies_with_faults.items in
+      let test : ℕ → Bool = is_body_in_list (faulty ++ own ∷ []) in
       record {
         old = before;
         left_out = test;
         resolved = w.types_are.resolved;
-        bodies_with_faults = all_weaker (is_body_in_list items) test (faulty_bodies before) (λ k h. among_further items (own ∷ []) k h) w.types_are.bodies_with_faults;
+        bodies_with_faults = all_weaker (is_body_in_list faulty) test (faulty_bodies before) (λ k h. among_further faulty (own ∷ []) k h) w.types_are.bodies_with_faults;
         equal = equal_in_place path before r test refl (bound_alike path before r w.types_are.resolved is (alike_outside r.module_read before.module_read path (names_kept w.old r.module_read low w.high is.parsed w.change)))
-            (ap test (sym (body_leads low tree)) ∙ among_last items own);
+            (ap test (sym (body_leads low tree)) ∙ among_last faulty own);
       }
 
 -- ---- the statements of one body were replaced
@@ -219,14 +223,14 @@ module _ (r : Resolution) (types : CheckResult) (s : CommonPrefixAndSuffix) (w :
   were_faulty_elsewhere is bodies are =
       let tree : Tree ℕ module_text = tree_of r.module_read in
       let own : ℕ = (body_with_token_in_module s.prefix tree).closing in
-      let items : List ℕ = types.bodies_with_faults.items in
+      let faulty : List ℕ = types.bodies_with_faults.items in
       let test : ℕ → Bool = is_body_in_list (bodies ++ own ∷ []) in
       let found : own ≡ closing_name_at_path w.path tree = body_leads s.prefix tree ∙ ap (λ path. closing_name_at_path path tree) w.replaced.new_path in
       record {
         old = w.old;
         left_out = λ k. test (move k);
         resolved = w.types_are.resolved;
-        bodies_with_faults = all_weaker (is_body_in_list items) (λ k. test (move k)) (faulty_bodies w.old) (λ k h. among_further bodies (own ∷ []) (move k) (ap (λ xs. is_body_in_list xs (move k)) are ∙ among_moved move items k h)) w.types_are.bodies_with_faults;
+        bodies_with_faults = all_weaker (is_body_in_list faulty) (λ k. test (move k)) (faulty_bodies w.old) (λ k h. among_further bodies (own ∷ []) (move k) (ap (λ xs. is_body_in_list xs (move k)) are ∙ among_moved move faulty k h)) w.types_are.bodies_with_faults;
         equal = equal_moved w.path w.old r test move w.replaced.outside w.replaced.closing
             (bound_alike w.path w.old r w.types_are.resolved is (alike_outside r.module_read w.old.module_read w.path (names_outside w.old.module_read r.module_read w.path s w.replaced)))
             (ap test (sym found) ∙ among_last bodies own);

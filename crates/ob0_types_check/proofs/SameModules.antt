@@ -292,10 +292,11 @@ module _ (c : TwoTexts) where
   parameters_after : (h : KnownHeading) (by_place : Bool) (xs ys : List ℕ) (t : TypeWithFollowingDeclarations) → SameNames xs ys → Heads (without_fault (heading_with_parameters (heading_old h) by_place xs (typed_old t))) (without_fault (heading_with_parameters (heading_new h) by_place ys (typed_new t)))
   parameters_after h by_place xs ys t each =
       let f : KnownParameter TypeId = record { by_place = by_place; of = t.of } in
+      let more_formals : KnownDeclarations → KnownHeading = λ p. record { formals = h.formals ++ map (λ x. f) xs; following = p } in
       let r = rightly {Near = c.Near} heading_old heading_new h in
       record {
         value = heading_with_parameters (heading_old h) by_place xs (typed_old t);
-        before = ap (λ (p : KnownDeclarations). record { formals = h.formals ++ map (λ x. f) xs; following = p }) (all_before t.following (a_variable t.of) xs);
+        before = ap more_formals (all_before t.following (a_variable t.of) xs);
         after = λ i. record { formals = h.formals ++ same_parameters f xs ys each i; following = all_after t.following (a_variable t.of) xs ys each i };
         faults = r.faults;
       }
