@@ -374,75 +374,161 @@ module _ (c : TwoTexts) where
 
     -- ---- expressions
 
+    -- Each step of the recursion is a lemma. It takes what holds for the parts.
+
+    abbrev SimplesAgree : Tree ℕ simple → Type 0
+    SimplesAgree a = (b : Tree ℕ simple) → Same a b → Operands (report_on_simple_expression fo a) (report_on_simple_expression fn b)
+
+    abbrev TermsAgree : Tree ℕ term → Type 0
+    TermsAgree a = (b : Tree ℕ term) → Same a b → Operands (report_on_term fo a) (report_on_term fn b)
+
+    abbrev FactorsAgree : Tree ℕ factor → Type 0
+    FactorsAgree a = (b : Tree ℕ factor) → Same a b → Operands (report_on_factor fo a) (report_on_factor fn b)
+
+    abbrev ExpressionsAgree : Tree ℕ expression → Type 0
+    ExpressionsAgree e = (u : Tree ℕ expression) → Same e u → Operands (report_on_expression fo e) (report_on_expression fn u)
+
+    abbrev AddendsAgree : Tree ℕ (items addend) → Type 0
+    AddendsAgree rest = (o : Of) (others : Tree ℕ (items addend)) → Same rest others → Operands (report_on_addends fo (in_old o) rest) (report_on_addends fn (in_new o) others)
+
+    abbrev MultipliersAgree : Tree ℕ (items multiplier) → Type 0
+    MultipliersAgree rest = (o : Of) (others : Tree ℕ (items multiplier)) → Same rest others → Operands (report_on_multipliers fo (in_old o) rest) (report_on_multipliers fn (in_new o) others)
+
+    abbrev SelectorsAgree : Tree ℕ (items selector) → Type 0
+    SelectorsAgree path = (o : Of) (way : Tree ℕ (items selector)) → Same path way → Operands (report_on_selectors fo (in_old o) path) (report_on_selectors fn (in_new o) way)
+
+    not_compared : (a : Tree ℕ simple) → SimplesAgree a → ExpressionsAgree (compares a none)
+    unfolding report_on_expression
+    not_compared a left (compares b none) h = left b (cc (h))
+    not_compared a left (compares b (one y)) h = absurd (cc (h))
+
+    compared : (a : Tree ℕ simple) (r : Relation) (x : Tree ℕ simple) → SimplesAgree a → SimplesAgree x → ExpressionsAgree (compares a (one (relates r x)))
+    unfolding report_on_expression
+    compared a r x left right (compares b none) h = absurd (cc (h))
+    compared a r x left right (compares b (one (relates q y))) h =
+        let sides : one (relates r (mapped_tree c.old_label c.old_number x)) ≡ one (relates q (mapped_tree c.new_label c.new_number y)) = cc (h) in
+        let side : relates r (mapped_tree c.old_label c.old_number x) ≡ relates q (mapped_tree c.new_label c.new_number y) = item_equal sides in
+        let relation : r ≡ q = cc (side) in
+        subst (λ p. Operands (report_on_expression fo (compares a (one (relates r x)))) (report_on_simple_expression fn b >>= (λ o. report_on_simple_expression fn y >>= (λ i. check_relation fn p o i)))) relation
+        (goes_on (λ o. report_on_simple_expression fo x >>= (λ i. check_relation fo r o i)) (λ o. report_on_simple_expression fn y >>= (λ i. check_relation fn r o i)) (left b (cc (h)))
+        (λ o. goes_on (λ i. check_relation fo r (in_old o) i) (λ i. check_relation fn r (in_new o) i) (right y (cc (side))) (λ i. relation_same r o i)))
+
+    summed : (s : Option Sign) (a : Tree ℕ term) (rest : Tree ℕ (items addend)) → TermsAgree a → AddendsAgree rest → SimplesAgree (sum s a rest)
+    unfolding report_on_expression
+    summed s a rest first later (sum q b others) h =
+        let sign : s ≡ q = cc (h) in
+        subst (λ p. Operands (report_on_simple_expression fo (sum s a rest)) (report_on_term fn b >>= (λ o. check_sign fn p o >>= (λ i. report_on_addends fn i others)))) sign
+        (goes_on (λ o. check_sign fo s o >>= (λ i. report_on_addends fo i rest)) (λ o. check_sign fn s o >>= (λ i. report_on_addends fn i others)) (first b (cc (h)))
+        (λ o. goes_on (λ i. report_on_addends fo i rest) (λ i. report_on_addends fn i others) (signed_same s o) (λ i. later i others (cc (h)))))
+
+    added_none : AddendsAgree end
+    unfolding report_on_expression
+    added_none o end h = operand o
+    added_none o (more b others) h = absurd (end_not_more h)
+
+    added : (p : AddOperator) (a : Tree ℕ term) (rest : Tree ℕ (items addend)) → TermsAgree a → AddendsAgree rest → AddendsAgree (more (adds p a) rest)
+    unfolding report_on_expression
+    added p a rest first later o end h = absurd (end_not_more (sym h))
+    added p a rest first later o (more (adds q b) others) h =
+        let item_same : adds p (mapped_tree c.old_label c.old_number a) ≡ adds q (mapped_tree c.new_label c.new_number b) = first_equal h in
+        let operator : p ≡ q = cc (item_same) in
+        subst (λ r. Operands (report_on_addends fo (in_old o) (more (adds p a) rest)) (report_on_term fn b >>= (λ i. check_sum fn r (in_new o) i >>= (λ y. report_on_addends fn y others)))) operator
+        (goes_on (λ i. check_sum fo p (in_old o) i >>= (λ y. report_on_addends fo y rest)) (λ i. check_sum fn p (in_new o) i >>= (λ y. report_on_addends fn y others)) (first b (cc (item_same)))
+        (λ i. goes_on (λ y. report_on_addends fo y rest) (λ y. report_on_addends fn y others) (sum_same p o i) (λ y. later y others (further_equal h))))
+
+    multiplied_first : (a : Tree ℕ factor) (rest : Tree ℕ (items multiplier)) → FactorsAgree a → MultipliersAgree rest → TermsAgree (product a rest)
+    unfolding report_on_expression
+    multiplied_first a rest first later (product b others) h =
+        goes_on (λ o. report_on_multipliers fo o rest) (λ o. report_on_multipliers fn o others) (first b (cc (h))) (λ o. later o others (cc (h)))
+
+    multiplied_none : MultipliersAgree end
+    unfolding report_on_expression
+    multiplied_none o end h = operand o
+    multiplied_none o (more b others) h = absurd (end_not_more h)
+
+    multiplied : (p : MultiplyOperator) (a : Tree ℕ factor) (rest : Tree ℕ (items multiplier)) → FactorsAgree a → MultipliersAgree rest → MultipliersAgree (more (multiplies p a) rest)
+    unfolding report_on_expression
+    multiplied p a rest first later o end h = absurd (end_not_more (sym h))
+    multiplied p a rest first later o (more (multiplies q b) others) h =
+        let item_same : multiplies p (mapped_tree c.old_label c.old_number a) ≡ multiplies q (mapped_tree c.new_label c.new_number b) = first_equal h in
+        let operator : p ≡ q = cc (item_same) in
+        subst (λ r. Operands (report_on_multipliers fo (in_old o) (more (multiplies p a) rest)) (report_on_factor fn b >>= (λ i. check_product fn r (in_new o) i >>= (λ y. report_on_multipliers fn y others)))) operator
+        (goes_on (λ i. check_product fo p (in_old o) i >>= (λ y. report_on_multipliers fo y rest)) (λ i. check_product fn p (in_new o) i >>= (λ y. report_on_multipliers fn y others)) (first b (cc (item_same)))
+        (λ i. goes_on (λ y. report_on_multipliers fo y rest) (λ y. report_on_multipliers fn y others) (product_same p o i) (λ y. later y others (further_equal h))))
+
+    designated : (k : ℕ) (path : Tree ℕ (items selector)) → SelectorsAgree path → FactorsAgree (designator k path)
+    unfolding report_on_expression
+    designated k path each (designator j way) h =
+        goes_on (λ o. report_on_selectors fo o path) (λ o. report_on_selectors fn o way) (named_same k j (cc (h))) (λ o. each o way (cc (h)))
+    designated k path each _ h = absurd (cc (h))
+
+    numbered : (k : ℕ) → FactorsAgree (integer k)
+    unfolding report_on_expression
+    numbered k (integer j) h = number_same k j (cc (h))
+    numbered k _ h = absurd (cc (h))
+
+    enclosed : (e : Tree ℕ expression) → ExpressionsAgree e → FactorsAgree (parenthesised e)
+    unfolding report_on_expression
+    enclosed e inside (parenthesised u) h =
+        goes_on (λ o. without_fault (operand_in_parentheses fo o)) (λ o. without_fault (operand_in_parentheses fn o)) (inside u (cc (h))) (λ o. enclosed_same o)
+    enclosed e inside _ h = absurd (cc (h))
+
+    negated : (f : Tree ℕ factor) → FactorsAgree f → FactorsAgree (negation f)
+    unfolding report_on_expression
+    negated f inside (negation u) h = goes_on (λ o. check_negation fo o) (λ o. check_negation fn o) (inside u (cc (h))) (λ o. negated_same o)
+    negated f inside _ h = absurd (cc (h))
+
+    selected_none : SelectorsAgree end
+    unfolding report_on_expression
+    selected_none o end h = operand o
+    selected_none o (more b others) h = absurd (end_not_more h)
+
+    field_selected : (k : ℕ) (rest : Tree ℕ (items selector)) → SelectorsAgree rest → SelectorsAgree (more (field k) rest)
+    unfolding report_on_expression
+    field_selected k rest later o end h = absurd (end_not_more (sym h))
+    field_selected k rest later o (more (field j) others) h =
+        let item_same : field (c.old_label k) ≡ field (c.new_label j) = first_equal h in
+        goes_on (λ y. report_on_selectors fo y rest) (λ y. report_on_selectors fn y others) (field_after o k j (cc (item_same))) (λ y. later y others (further_equal h))
+    field_selected k rest later o (more (index u) others) h = let item_same : field (c.old_label k) ≡ index (mapped_tree c.new_label c.new_number u) = first_equal h in absurd (cc (item_same))
+
+    element_selected : (e : Tree ℕ expression) (rest : Tree ℕ (items selector)) → ExpressionsAgree e → SelectorsAgree rest → SelectorsAgree (more (index e) rest)
+    unfolding report_on_expression
+    element_selected e rest inside later o end h = absurd (end_not_more (sym h))
+    element_selected e rest inside later o (more (field j) others) h = let item_same : index (mapped_tree c.old_label c.old_number e) ≡ field (c.new_label j) = first_equal h in absurd (cc (item_same))
+    element_selected e rest inside later o (more (index u) others) h =
+        let item_same : index (mapped_tree c.old_label c.old_number e) ≡ index (mapped_tree c.new_label c.new_number u) = first_equal h in
+        goes_on (λ i. element_operand fo (in_old o) i >>= (λ y. report_on_selectors fo y rest)) (λ i. element_operand fn (in_new o) i >>= (λ y. report_on_selectors fn y others)) (inside u (cc (item_same)))
+        (λ i. goes_on (λ y. report_on_selectors fo y rest) (λ y. report_on_selectors fn y others) (element_after o i) (λ y. later y others (further_equal h)))
+
     mutual
-      unfolding report_on_expression
-
       pub expression_same : (e u : Tree ℕ expression) → Same e u → Operands (report_on_expression fo e) (report_on_expression fn u)
-      expression_same (compares a none) (compares b none) h = simple_same a b (cc (h))
-      expression_same (compares a (one (relates r x))) (compares b (one (relates q y))) h =
-          let sides : one (relates r (mapped_tree c.old_label c.old_number x)) ≡ one (relates q (mapped_tree c.new_label c.new_number y)) = cc (h) in
-          let right : relates r (mapped_tree c.old_label c.old_number x) ≡ relates q (mapped_tree c.new_label c.new_number y) = item_equal sides in
-          let relation : r ≡ q = cc (right) in
-          subst (λ p. Operands (report_on_expression fo (compares a (one (relates r x)))) (report_on_simple_expression fn b >>= (λ o. report_on_simple_expression fn y >>= (λ i. check_relation fn p o i)))) relation
-          (goes_on (λ o. report_on_simple_expression fo x >>= (λ i. check_relation fo r o i)) (λ o. report_on_simple_expression fn y >>= (λ i. check_relation fn r o i)) (simple_same a b (cc (h)))
-          (λ o. goes_on (λ i. check_relation fo r (in_old o) i) (λ i. check_relation fn r (in_new o) i) (simple_same x y (cc (right))) (λ i. relation_same r o i)))
-      expression_same _ _ h = absurd (cc (h))
+      expression_same (compares a none) u h = not_compared a (λ b k. simple_same a b k) u h
+      expression_same (compares a (one (relates r x))) u h = compared a r x (λ b k. simple_same a b k) (λ b k. simple_same x b k) u h
 
-      simple_same : (e u : Tree ℕ simple) → Same e u → Operands (report_on_simple_expression fo e) (report_on_simple_expression fn u)
-      simple_same (sum s a rest) (sum q b others) h =
-          let sign : s ≡ q = cc (h) in
-          subst (λ p. Operands (report_on_simple_expression fo (sum s a rest)) (report_on_term fn b >>= (λ o. check_sign fn p o >>= (λ i. report_on_addends fn i others)))) sign
-          (goes_on (λ o. check_sign fo s o >>= (λ i. report_on_addends fo i rest)) (λ o. check_sign fn s o >>= (λ i. report_on_addends fn i others)) (term_same a b (cc (h)))
-          (λ o. goes_on (λ i. report_on_addends fo i rest) (λ i. report_on_addends fn i others) (signed_same s o) (λ i. addends_same i rest others (cc (h)))))
+      simple_same : (a b : Tree ℕ simple) → Same a b → Operands (report_on_simple_expression fo a) (report_on_simple_expression fn b)
+      simple_same (sum s a rest) b h = summed s a rest (λ b k. term_same a b k) (λ o others k. addends_same rest o others k) b h
 
-      addends_same : (o : Of) (rest others : Tree ℕ (items addend)) → Same rest others → Operands (report_on_addends fo (in_old o) rest) (report_on_addends fn (in_new o) others)
-      addends_same o end end h = operand o
-      addends_same o (more (adds p a) rest) (more (adds q b) others) h =
-          let first : adds p (mapped_tree c.old_label c.old_number a) ≡ adds q (mapped_tree c.new_label c.new_number b) = first_equal h in
-          let operator : p ≡ q = cc (first) in
-          subst (λ r. Operands (report_on_addends fo (in_old o) (more (adds p a) rest)) (report_on_term fn b >>= (λ i. check_sum fn r (in_new o) i >>= (λ y. report_on_addends fn y others)))) operator
-          (goes_on (λ i. check_sum fo p (in_old o) i >>= (λ y. report_on_addends fo y rest)) (λ i. check_sum fn p (in_new o) i >>= (λ y. report_on_addends fn y others)) (term_same a b (cc (first)))
-          (λ i. goes_on (λ y. report_on_addends fo y rest) (λ y. report_on_addends fn y others) (sum_same p o i) (λ y. addends_same y rest others (further_equal h))))
-      addends_same o end (more b others) h = absurd (end_not_more h)
-      addends_same o (more a rest) end h = absurd (end_not_more (sym h))
+      addends_same : (rest : Tree ℕ (items addend)) (o : Of) (others : Tree ℕ (items addend)) → Same rest others → Operands (report_on_addends fo (in_old o) rest) (report_on_addends fn (in_new o) others)
+      addends_same end o others h = added_none o others h
+      addends_same (more (adds p a) rest) o others h = added p a rest (λ b k. term_same a b k) (λ o others k. addends_same rest o others k) o others h
 
-      term_same : (e u : Tree ℕ term) → Same e u → Operands (report_on_term fo e) (report_on_term fn u)
-      term_same (product a rest) (product b others) h =
-          goes_on (λ o. report_on_multipliers fo o rest) (λ o. report_on_multipliers fn o others) (factor_same a b (cc (h))) (λ o. multipliers_same o rest others (cc (h)))
+      term_same : (a b : Tree ℕ term) → Same a b → Operands (report_on_term fo a) (report_on_term fn b)
+      term_same (product a rest) b h = multiplied_first a rest (λ b k. factor_same a b k) (λ o others k. multipliers_same rest o others k) b h
 
-      multipliers_same : (o : Of) (rest others : Tree ℕ (items multiplier)) → Same rest others → Operands (report_on_multipliers fo (in_old o) rest) (report_on_multipliers fn (in_new o) others)
-      multipliers_same o end end h = operand o
-      multipliers_same o (more (multiplies p a) rest) (more (multiplies q b) others) h =
-          let first : multiplies p (mapped_tree c.old_label c.old_number a) ≡ multiplies q (mapped_tree c.new_label c.new_number b) = first_equal h in
-          let operator : p ≡ q = cc (first) in
-          subst (λ r. Operands (report_on_multipliers fo (in_old o) (more (multiplies p a) rest)) (report_on_factor fn b >>= (λ i. check_product fn r (in_new o) i >>= (λ y. report_on_multipliers fn y others)))) operator
-          (goes_on (λ i. check_product fo p (in_old o) i >>= (λ y. report_on_multipliers fo y rest)) (λ i. check_product fn p (in_new o) i >>= (λ y. report_on_multipliers fn y others)) (factor_same a b (cc (first)))
-          (λ i. goes_on (λ y. report_on_multipliers fo y rest) (λ y. report_on_multipliers fn y others) (product_same p o i) (λ y. multipliers_same y rest others (further_equal h))))
-      multipliers_same o end (more b others) h = absurd (end_not_more h)
-      multipliers_same o (more a rest) end h = absurd (end_not_more (sym h))
+      multipliers_same : (rest : Tree ℕ (items multiplier)) (o : Of) (others : Tree ℕ (items multiplier)) → Same rest others → Operands (report_on_multipliers fo (in_old o) rest) (report_on_multipliers fn (in_new o) others)
+      multipliers_same end o others h = multiplied_none o others h
+      multipliers_same (more (multiplies p a) rest) o others h = multiplied p a rest (λ b k. factor_same a b k) (λ o others k. multipliers_same rest o others k) o others h
 
-      factor_same : (e u : Tree ℕ factor) → Same e u → Operands (report_on_factor fo e) (report_on_factor fn u)
-      factor_same (designator k path) (designator j way) h =
-          goes_on (λ o. report_on_selectors fo o path) (λ o. report_on_selectors fn o way) (named_same k j (cc (h))) (λ o. selectors_same o path way (cc (h)))
-      factor_same (integer k) (integer j) h = number_same k j (cc (h))
-      factor_same (parenthesised e) (parenthesised u) h =
-          goes_on (λ o. without_fault (operand_in_parentheses fo o)) (λ o. without_fault (operand_in_parentheses fn o)) (expression_same e u (cc (h))) (λ o. enclosed_same o)
-      factor_same (negation e) (negation u) h = goes_on (λ o. check_negation fo o) (λ o. check_negation fn o) (factor_same e u (cc (h))) (λ o. negated_same o)
-      factor_same _ _ h = absurd (cc (h))
+      factor_same : (f u : Tree ℕ factor) → Same f u → Operands (report_on_factor fo f) (report_on_factor fn u)
+      factor_same (designator k path) u h = designated k path (λ o way e. selectors_same path o way e) u h
+      factor_same (integer k) u h = numbered k u h
+      factor_same (parenthesised e) u h = enclosed e (λ v k. expression_same e v k) u h
+      factor_same (negation f) u h = negated f (λ v k. factor_same f v k) u h
 
-      selectors_same : (o : Of) (path way : Tree ℕ (items selector)) → Same path way → Operands (report_on_selectors fo (in_old o) path) (report_on_selectors fn (in_new o) way)
-      selectors_same o end end h = operand o
-      selectors_same o (more (field k) rest) (more (field j) others) h =
-          let first : field (c.old_label k) ≡ field (c.new_label j) = first_equal h in
-          goes_on (λ y. report_on_selectors fo y rest) (λ y. report_on_selectors fn y others) (field_after o k j (cc (first))) (λ y. selectors_same y rest others (further_equal h))
-      selectors_same o (more (index e) rest) (more (index u) others) h =
-          let first : index (mapped_tree c.old_label c.old_number e) ≡ index (mapped_tree c.new_label c.new_number u) = first_equal h in
-          goes_on (λ i. element_operand fo (in_old o) i >>= (λ y. report_on_selectors fo y rest)) (λ i. element_operand fn (in_new o) i >>= (λ y. report_on_selectors fn y others)) (expression_same e u (cc (first)))
-          (λ i. goes_on (λ y. report_on_selectors fo y rest) (λ y. report_on_selectors fn y others) (element_after o i) (λ y. selectors_same y rest others (further_equal h)))
-      selectors_same o (more (field k) rest) (more (index u) others) h = let first : field (c.old_label k) ≡ index (mapped_tree c.new_label c.new_number u) = first_equal h in absurd (cc (first))
-      selectors_same o (more (index e) rest) (more (field j) others) h = let first : index (mapped_tree c.old_label c.old_number e) ≡ field (c.new_label j) = first_equal h in absurd (cc (first))
-      selectors_same o end (more b others) h = absurd (end_not_more h)
-      selectors_same o (more a rest) end h = absurd (end_not_more (sym h))
+      selectors_same : (path : Tree ℕ (items selector)) (o : Of) (way : Tree ℕ (items selector)) → Same path way → Operands (report_on_selectors fo (in_old o) path) (report_on_selectors fn (in_new o) way)
+      selectors_same end o way h = selected_none o way h
+      selectors_same (more (field k) rest) o way h = field_selected k rest (λ o others e. selectors_same rest o others e) o way h
+      selectors_same (more (index e) rest) o way h = element_selected e rest (λ u k. expression_same e u k) (λ o others k. selectors_same rest o others k) o way h
 
     -- ---- constants, lengths and names of types
 
@@ -508,7 +594,7 @@ module _ (c : TwoTexts) where
     target_same : (k j : ℕ) (path way : Tree ℕ (items selector)) → SameName k j → Same path way → Operands (report_on_assignment_target fo k path) (report_on_assignment_target fn j way)
     unfolding report_on_assignment_target
     target_same k j path way h each =
-        goes_on (λ t. report_on_selectors fo (non_constant_name_operand t k) path) (λ t. report_on_selectors fn (non_constant_name_operand t j) way) (target_named k j h) (λ t. selectors_same (of_name t None true k j h) path way each)
+        goes_on (λ t. report_on_selectors fo (non_constant_name_operand t k) path) (λ t. report_on_selectors fn (non_constant_name_operand t j) way) (target_named k j h) (λ t. selectors_same path (of_name t None true k j h) way each)
 
     assigned_same : (k j : ℕ) (path way : Tree ℕ (items selector)) (e u : Tree ℕ expression) → SameName k j → Same path way → Same e u → AreFaultsAlike (assignment_faults fo (report_on_assignment_target fo k path) e) (assignment_faults fn (report_on_assignment_target fn j way) u)
     assigned_same k j path way e u named each h =
@@ -588,42 +674,112 @@ module _ (c : TwoTexts) where
     call_same : (k j : ℕ) (es us : List (Tree ℕ expression)) → SameName k j → SameList es us → AreFaultsAlike (call_faults fo k es) (call_faults fn j us)
     call_same k j es us h each = subst (λ m. AreFaultsAlike (call_faults fo k es) (call_faults_from_meaning fn j m us)) (meant k j h) (call_meant k j h (fo.object_for k) es us each)
 
-    mutual
-      unfolding statement_faults
+    abbrev SequencesAgree : Tree ℕ sequence → Type 0
+    SequencesAgree s = (u : Tree ℕ sequence) → Same s u → AreFaultsAlike (sequence_faults fo s) (sequence_faults fn u)
 
+    abbrev StatementsAgree : Tree ℕ statement → Type 0
+    StatementsAgree s = (u : Tree ℕ statement) → Same s u → AreFaultsAlike (statement_faults fo s) (statement_faults fn u)
+
+    abbrev FurtherAgree : Tree ℕ (items statement_after_semicolon) → Type 0
+    FurtherAgree rest = (others : Tree ℕ (items statement_after_semicolon)) → Same rest others → AreFaultsAlike (further_statement_faults fo rest) (further_statement_faults fn others)
+
+    abbrev ElsifsAgree : Tree ℕ (items elsif_part) → Type 0
+    ElsifsAgree rest = (others : Tree ℕ (items elsif_part)) → Same rest others → AreFaultsAlike (elsif_faults fo rest) (elsif_faults fn others)
+
+    abbrev ElsesAgree : Tree ℕ (maybe else_part) → Type 0
+    ElsesAgree last = (final : Tree ℕ (maybe else_part)) → Same last final → AreFaultsAlike (else_faults fo last) (else_faults fn final)
+
+    empty_agrees : StatementsAgree empty
+    unfolding statement_faults
+    empty_agrees empty h = no_faults
+    empty_agrees _ h = absurd (cc (h))
+
+    assigned : (k : ℕ) (path : Tree ℕ (items selector)) (e : Tree ℕ expression) → StatementsAgree (assigns k path e)
+    unfolding statement_faults
+    assigned k path e (assigns j way u) h = assigned_same k j path way e u (cc (h)) (cc (h)) (cc (h))
+    assigned k path e _ h = absurd (cc (h))
+
+    called : (k : ℕ) (es : Tree ℕ (maybe arguments)) → StatementsAgree (calls k es)
+    unfolding statement_faults
+    called k es (calls j us) h = call_same k j (call_arguments es) (call_arguments us) (cc (h)) (all_arguments_same es us (cc (h)))
+    called k es _ h = absurd (cc (h))
+
+    branched : (e : Tree ℕ expression) (statements : Tree ℕ sequence) (rest : Tree ℕ (items elsif_part)) (last : Tree ℕ (maybe else_part)) → SequencesAgree statements → ElsifsAgree rest → ElsesAgree last → StatementsAgree (branches e statements rest last)
+    unfolding statement_faults
+    branched e statements rest last inside later finally (branches u others further final) h =
+        joined (required_there types.boolean e u (cc (h))) (joined (inside others (cc (h))) (joined (later further (cc (h))) (finally final (cc (h)))))
+    branched e statements rest last inside later finally _ h = absurd (cc (h))
+
+    looped : (e : Tree ℕ expression) (statements : Tree ℕ sequence) → SequencesAgree statements → StatementsAgree (while_loop e statements)
+    unfolding statement_faults
+    looped e statements inside (while_loop u others) h = joined (required_there types.boolean e u (cc (h))) (inside others (cc (h)))
+    looped e statements inside _ h = absurd (cc (h))
+
+    repeated : (statements : Tree ℕ sequence) (e : Tree ℕ expression) → SequencesAgree statements → StatementsAgree (repeat_loop statements e)
+    unfolding statement_faults
+    repeated statements e inside (repeat_loop others u) h = joined (inside others (cc (h))) (required_there types.boolean e u (cc (h)))
+    repeated statements e inside _ h = absurd (cc (h))
+
+    begun : (a : Tree ℕ statement) (rest : Tree ℕ (items statement_after_semicolon)) → StatementsAgree a → FurtherAgree rest → SequencesAgree (runs a rest)
+    unfolding statement_faults
+    begun a rest first later (runs b others) h = joined (first b (cc (h))) (later others (cc (h)))
+
+    followed_none : FurtherAgree end
+    unfolding statement_faults
+    followed_none end h = no_faults
+    followed_none (more b others) h = absurd (end_not_more h)
+
+    followed : (a : Tree ℕ statement) (rest : Tree ℕ (items statement_after_semicolon)) → StatementsAgree a → FurtherAgree rest → FurtherAgree (more (semicolon_then_statement a) rest)
+    unfolding statement_faults
+    followed a rest first later end h = absurd (end_not_more (sym h))
+    followed a rest first later (more (semicolon_then_statement b) others) h =
+        let item_same : semicolon_then_statement (mapped_tree c.old_label c.old_number a) ≡ semicolon_then_statement (mapped_tree c.new_label c.new_number b) = first_equal h in
+        joined (first b (cc (item_same))) (later others (further_equal h))
+
+    no_elsif : ElsifsAgree end
+    unfolding statement_faults
+    no_elsif end h = no_faults
+    no_elsif (more b others) h = absurd (end_not_more h)
+
+    one_elsif : (e : Tree ℕ expression) (statements : Tree ℕ sequence) (rest : Tree ℕ (items elsif_part)) → SequencesAgree statements → ElsifsAgree rest → ElsifsAgree (more (elsif_branch e statements) rest)
+    unfolding statement_faults
+    one_elsif e statements rest inside later end h = absurd (end_not_more (sym h))
+    one_elsif e statements rest inside later (more (elsif_branch u further) others) h =
+        let item_same : elsif_branch (mapped_tree c.old_label c.old_number e) (mapped_tree c.old_label c.old_number statements) ≡ elsif_branch (mapped_tree c.new_label c.new_number u) (mapped_tree c.new_label c.new_number further) = first_equal h in
+        joined (required_there types.boolean e u (cc (item_same))) (joined (inside further (cc (item_same))) (later others (further_equal h)))
+
+    no_else : ElsesAgree none
+    unfolding statement_faults
+    no_else none h = no_faults
+    no_else (one b) h = absurd (none_not_one h)
+
+    one_else : (statements : Tree ℕ sequence) → SequencesAgree statements → ElsesAgree (one (else_branch statements))
+    unfolding statement_faults
+    one_else statements inside none h = absurd (none_not_one (sym h))
+    one_else statements inside (one (else_branch others)) h =
+        let branch : else_branch (mapped_tree c.old_label c.old_number statements) ≡ else_branch (mapped_tree c.new_label c.new_number others) = item_equal h in
+        inside others (cc (branch))
+
+    mutual
       statement_same : (s u : Tree ℕ statement) → Same s u → AreFaultsAlike (statement_faults fo s) (statement_faults fn u)
-      statement_same empty empty h = no_faults
-      statement_same (assigns k path e) (assigns j way u) h = assigned_same k j path way e u (cc (h)) (cc (h)) (cc (h))
-      statement_same (calls k es) (calls j us) h = call_same k j (call_arguments es) (call_arguments us) (cc (h)) (all_arguments_same es us (cc (h)))
-      statement_same (branches e statements rest last) (branches u others further final) h =
-          joined (required_there types.boolean e u (cc (h))) (joined (sequence_same statements others (cc (h))) (joined (elsifs_same rest further (cc (h))) (else_same last final (cc (h)))))
-      statement_same (while_loop e statements) (while_loop u others) h = joined (required_there types.boolean e u (cc (h))) (sequence_same statements others (cc (h)))
-      statement_same (repeat_loop statements e) (repeat_loop others u) h = joined (sequence_same statements others (cc (h))) (required_there types.boolean e u (cc (h)))
-      statement_same _ _ h = absurd (cc (h))
+      statement_same empty u h = empty_agrees u h
+      statement_same (assigns k path e) u h = assigned k path e u h
+      statement_same (calls k es) u h = called k es u h
+      statement_same (branches e statements rest last) u h = branched e statements rest last (λ v k. sequence_same statements v k) (λ v k. elsifs_same rest v k) (λ v k. else_same last v k) u h
+      statement_same (while_loop e statements) u h = looped e statements (λ v k. sequence_same statements v k) u h
+      statement_same (repeat_loop statements e) u h = repeated statements e (λ v k. sequence_same statements v k) u h
 
       pub sequence_same : (s u : Tree ℕ sequence) → Same s u → AreFaultsAlike (sequence_faults fo s) (sequence_faults fn u)
-      sequence_same (runs a rest) (runs b others) h = joined (statement_same a b (cc (h))) (statements_same rest others (cc (h)))
+      sequence_same (runs a rest) u h = begun a rest (λ v k. statement_same a v k) (λ v k. statements_same rest v k) u h
 
       statements_same : (rest others : Tree ℕ (items statement_after_semicolon)) → Same rest others → AreFaultsAlike (further_statement_faults fo rest) (further_statement_faults fn others)
-      statements_same end end h = no_faults
-      statements_same (more (semicolon_then_statement a) rest) (more (semicolon_then_statement b) others) h =
-          let first : semicolon_then_statement (mapped_tree c.old_label c.old_number a) ≡ semicolon_then_statement (mapped_tree c.new_label c.new_number b) = first_equal h in
-          joined (statement_same a b (cc (first))) (statements_same rest others (further_equal h))
-      statements_same end (more b others) h = absurd (end_not_more h)
-      statements_same (more a rest) end h = absurd (end_not_more (sym h))
+      statements_same end others h = followed_none others h
+      statements_same (more (semicolon_then_statement a) rest) others h = followed a rest (λ v k. statement_same a v k) (λ v k. statements_same rest v k) others h
 
       elsifs_same : (rest others : Tree ℕ (items elsif_part)) → Same rest others → AreFaultsAlike (elsif_faults fo rest) (elsif_faults fn others)
-      elsifs_same end end h = no_faults
-      elsifs_same (more (elsif_branch e statements) rest) (more (elsif_branch u further) others) h =
-          let first : elsif_branch (mapped_tree c.old_label c.old_number e) (mapped_tree c.old_label c.old_number statements) ≡ elsif_branch (mapped_tree c.new_label c.new_number u) (mapped_tree c.new_label c.new_number further) = first_equal h in
-          joined (required_there types.boolean e u (cc (first))) (joined (sequence_same statements further (cc (first))) (elsifs_same rest others (further_equal h)))
-      elsifs_same end (more b others) h = absurd (end_not_more h)
-      elsifs_same (more a rest) end h = absurd (end_not_more (sym h))
+      elsifs_same end others h = no_elsif others h
+      elsifs_same (more (elsif_branch e statements) rest) others h = one_elsif e statements rest (λ v k. sequence_same statements v k) (λ v k. elsifs_same rest v k) others h
 
       else_same : (last final : Tree ℕ (maybe else_part)) → Same last final → AreFaultsAlike (else_faults fo last) (else_faults fn final)
-      else_same none none h = no_faults
-      else_same (one (else_branch statements)) (one (else_branch others)) h =
-          let branch : else_branch (mapped_tree c.old_label c.old_number statements) ≡ else_branch (mapped_tree c.new_label c.new_number others) = item_equal h in
-          sequence_same statements others (cc (branch))
-      else_same none (one b) h = absurd (none_not_one h)
-      else_same (one a) none h = absurd (none_not_one (sym h))
+      else_same none final h = no_else final h
+      else_same (one (else_branch statements)) final h = one_else statements (λ v k. sequence_same statements v k) final h

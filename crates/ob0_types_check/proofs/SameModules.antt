@@ -55,6 +55,32 @@ declared_over : (source : TextWithTokens) (ordinals : List (Option ℕ)) (p : Kn
 declared_over source ordinals p m None = refl
 declared_over source ordinals p m (Some k) = refl
 
+-- ---- parts of blocks and procedures
+
+abbrev constants_in : {N : Type 0} → Tree N block → Tree N (maybe constants)
+constants_in (forms_block (declares cs ts vs ps) a) = cs
+
+abbrev types_in : {N : Type 0} → Tree N block → Tree N (maybe type_definitions)
+types_in (forms_block (declares cs ts vs ps) a) = ts
+
+abbrev variables_in : {N : Type 0} → Tree N block → Tree N (maybe variables)
+variables_in (forms_block (declares cs ts vs ps) a) = vs
+
+abbrev procedures_in : {N : Type 0} → Tree N block → Tree N (items procedure)
+procedures_in (forms_block (declares cs ts vs ps) a) = ps
+
+abbrev statements_in : {N : Type 0} → Tree N block → Tree N (maybe body)
+statements_in (forms_block (declares cs ts vs ps) a) = a
+
+abbrev name_in : {N : Type 0} → Tree N (item procedure) → N
+name_in (declares_procedure x fs b closing) = x
+
+abbrev formals_in : {N : Type 0} → Tree N (item procedure) → Tree N (maybe formals)
+formals_in (declares_procedure x fs b closing) = fs
+
+abbrev block_in : {N : Type 0} → Tree N (item procedure) → Tree N block
+block_in (declares_procedure x fs b closing) = b
+
 module _ (c : TwoTexts) where
   abbrev pub so_old : KnownDeclarations → KnownDeclarations
   so_old p = so_over c.old c.old_ordinals p
@@ -91,6 +117,14 @@ module _ (c : TwoTexts) where
 
   abbrev pub Heads : ResultWithFaults KnownHeading → ResultWithFaults KnownHeading → Type 0
   Heads r s = Alike c.Near heading_old heading_new r s
+
+  -- The parts of two blocks with the same labels have the same labels.
+  pub block_parts_same : (cs ds : Tree ℕ (maybe constants)) (ts us : Tree ℕ (maybe type_definitions)) (vs ws : Tree ℕ (maybe variables)) (ps qs : Tree ℕ (items procedure)) (a e : Tree ℕ (maybe body)) → Same c (forms_block (declares cs ts vs ps) a) (forms_block (declares ds us ws qs) e)
+      → Same c cs ds × Same c ts us × Same c vs ws × Same c ps qs × Same c a e
+  block_parts_same cs ds ts us vs ws ps qs a e h = (ap constants_in h, ap types_in h, ap variables_in h, ap procedures_in h, ap statements_in h)
+
+  pub procedure_parts_same : (x y : ℕ) (fs gs : Tree ℕ (maybe formals)) (b d : Tree ℕ block) (closing last : ℕ) → Same c (declares_procedure x fs b closing) (declares_procedure y gs d last) → SameName c x y × Same c fs gs × Same c b d
+  procedure_parts_same x y fs gs b d closing last h = (ap name_in h, ap formals_in h, ap block_in h)
 
   -- ---- names that are declared
 
@@ -414,17 +448,18 @@ module _ (c : TwoTexts) where
 
     pub block_same : (own closing : ℕ) (z : Both) (b d : Tree ℕ block) → Same c b d → Walks (report_on_block includes_every_body own (walked_old z) b) (report_on_block includes_every_body closing (walked_new z) d)
     block_same own closing z (forms_block (declares cs ts vs ps) a) (forms_block (declares ds us ws qs) e) h =
+        let parts = block_parts_same cs ds ts us vs ws ps qs a e h in
         goes_on (λ q. report_on_type_declarations q (section_types ts) >>= (λ r. report_on_variable_declarations r (section_variables vs) >>= (λ s. report_on_procedures includes_every_body (walk_with_declarations (walked_old z) s) ps >>= (λ t. report_body_if_wanted true own t a))))
         (λ q. report_on_type_declarations q (section_types us) >>= (λ r. report_on_variable_declarations r (section_variables ws) >>= (λ s. report_on_procedures includes_every_body (walk_with_declarations (walked_new z) s) qs >>= (λ t. report_body_if_wanted true closing t e))))
-        (constant_section_same z.so cs ds (cc (h)))
+        (constant_section_same z.so cs ds parts.0)
         (λ q.
         goes_on (λ r. report_on_variable_declarations r (section_variables vs) >>= (λ s. report_on_procedures includes_every_body (walk_with_declarations (walked_old z) s) ps >>= (λ t. report_body_if_wanted true own t a)))
         (λ r. report_on_variable_declarations r (section_variables ws) >>= (λ s. report_on_procedures includes_every_body (walk_with_declarations (walked_new z) s) qs >>= (λ t. report_body_if_wanted true closing t e)))
-        (type_section_same q ts us (cc (h)))
+        (type_section_same q ts us parts.1)
         (λ r.
         goes_on (λ s. report_on_procedures includes_every_body (walk_with_declarations (walked_old z) s) ps >>= (λ t. report_body_if_wanted true own t a)) (λ s. report_on_procedures includes_every_body (walk_with_declarations (walked_new z) s) qs >>= (λ t. report_body_if_wanted true closing t e))
-        (variable_section_same r vs ws (cc (h)))
-        (λ s. goes_on (λ t. report_body_if_wanted true own t a) (λ t. report_body_if_wanted true closing t e) (procedures_same (further z s) ps qs (cc (h))) (λ y. body_walked own closing y a e (cc (h))))))
+        (variable_section_same r vs ws parts.2)
+        (λ s. goes_on (λ t. report_body_if_wanted true own t a) (λ t. report_body_if_wanted true closing t e) (procedures_same (further z s) ps qs parts.3) (λ y. body_walked own closing y a e parts.4))))
 
     procedures_same : (z : Both) (ps qs : Tree ℕ (items procedure)) → Same c ps qs → Walks (report_on_procedures includes_every_body (walked_old z) ps) (report_on_procedures includes_every_body (walked_new z) qs)
     procedures_same z end end h = rightly walked_old walked_new z
@@ -434,9 +469,10 @@ module _ (c : TwoTexts) where
 
     procedure_same : (z : Both) (d f : Tree ℕ (item procedure)) → Same c d f → Walks (report_on_procedure includes_every_body (walked_old z) d) (report_on_procedure includes_every_body (walked_new z) f)
     procedure_same z (declares_procedure x fs b closing) (declares_procedure y gs d last) h =
+        let parts = procedure_parts_same x y fs gs b d closing last h in
         goes_on (λ g. report_on_block includes_every_body closing (walk_with_declarations (walked_old z) (declarations_after_heading x g)) b) (λ g. report_on_block includes_every_body last (walk_with_declarations (walked_new z) (declarations_after_heading y g)) d)
-        (heads_same z.so fs gs (cc (h)))
-        (λ g. block_after closing last z b d (λ v. block_same closing last v b d (cc (h))) g x y (cc (h)))
+        (heads_same z.so fs gs parts.1)
+        (λ g. block_after closing last z b d (λ v. block_same closing last v b d parts.2) g x y parts.0)
 
 -- ---- a module
 

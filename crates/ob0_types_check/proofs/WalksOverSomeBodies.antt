@@ -19,7 +19,7 @@ use Rattle.ob0_types_check.proofs.Chains.{reported_equal}
 use Rattle.ob0_types_check.proofs.DeclaredModules.{module_counted}
 use Rattle.ob0_types_check.proofs.DeclaredNames.{ordinal_after_block-mapped_tree}
 use Rattle.ob0_types_check.proofs.SameFaults.{Alike, Same, SameName, TwoTexts, end_not_more, first_equal, further_equal, none_alike, none_not_one}
-use Rattle.ob0_types_check.proofs.SameModules.{Both, after_body, body_same, constant_section_same, further, heading_after, heading_new, heading_old, heads_same, so_over, type_section_same, variable_section_same, walked_new, walked_old}
+use Rattle.ob0_types_check.proofs.SameModules.{Both, after_body, block_parts_same, body_same, constant_section_same, further, heading_after, heading_new, heading_old, heads_same, procedure_parts_same, so_over, type_section_same, variable_section_same, walked_new, walked_old}
 
 -- ---- the bodies with faults
 
@@ -191,23 +191,24 @@ module _ (c : TwoTexts) (left_out wanted : ℕ → Bool) where
     block_one : (own closing : ℕ) (z : Both) (b d : Tree ℕ block) → Same c (block_without_bodies left_out own b) (block_without_bodies wanted closing d) → Were (report_on_block includes_every_body own (walked_before z) b).known
         → With (report_on_block includes_every_body own (walked_before z) b) (report_on_block includes_every_body closing (walked_now z) d) (report_on_block wanted closing (walked_now z) d)
     block_one own closing z (forms_block (declares cs ts vs ps) a) (forms_block (declares ds us ws qs) e) h =
+        let parts = block_parts_same c cs ds ts us vs ws (procedures_without_bodies left_out ps) (procedures_without_bodies wanted qs) (if left_out own then none else a) (if wanted closing then none else e) h in
         one_then nothing_of Were (λ q. report_on_type_declarations q (section_types ts) >>= (λ r. report_on_variable_declarations r (section_variables vs) >>= (λ s. report_on_procedures includes_every_body (walk_with_declarations (walked_before z) s) ps >>= (λ t. report_body_if_wanted true own t a))))
         (λ q. report_on_type_declarations q (section_types us) >>= (λ r. report_on_variable_declarations r (section_variables ws) >>= (λ s. report_on_procedures includes_every_body (walk_with_declarations (walked_now z) s) qs >>= (λ t. report_body_if_wanted true closing t e))))
         (λ q. report_on_type_declarations q (section_types us) >>= (λ r. report_on_variable_declarations r (section_variables ws) >>= (λ s. report_on_procedures wanted (walk_with_declarations (walked_now z) s) qs >>= (λ t. report_body_if_wanted (wanted closing) closing t e))))
-        (λ x k. tt) (λ k. of_alike (constant_section_same c z.so cs ds (cc (h))))
+        (λ x k. tt) (λ k. of_alike (constant_section_same c z.so cs ds parts.0))
         (λ q.
         one_then nothing_of Were (λ r. report_on_variable_declarations r (section_variables vs) >>= (λ s. report_on_procedures includes_every_body (walk_with_declarations (walked_before z) s) ps >>= (λ t. report_body_if_wanted true own t a)))
         (λ r. report_on_variable_declarations r (section_variables ws) >>= (λ s. report_on_procedures includes_every_body (walk_with_declarations (walked_now z) s) qs >>= (λ t. report_body_if_wanted true closing t e)))
         (λ r. report_on_variable_declarations r (section_variables ws) >>= (λ s. report_on_procedures wanted (walk_with_declarations (walked_now z) s) qs >>= (λ t. report_body_if_wanted (wanted closing) closing t e)))
-        (λ x k. tt) (λ k. of_alike (type_section_same c q ts us (cc (h))))
+        (λ x k. tt) (λ k. of_alike (type_section_same c q ts us parts.1))
         (λ r.
         one_then nothing_of Were (λ s. report_on_procedures includes_every_body (walk_with_declarations (walked_before z) s) ps >>= (λ t. report_body_if_wanted true own t a)) (λ s. report_on_procedures includes_every_body (walk_with_declarations (walked_now z) s) qs >>= (λ t. report_body_if_wanted true closing t e))
         (λ s. report_on_procedures wanted (walk_with_declarations (walked_now z) s) qs >>= (λ t. report_body_if_wanted (wanted closing) closing t e))
-        (λ x k. tt) (λ k. of_alike (variable_section_same c r vs ws (cc (h))))
+        (λ x k. tt) (λ k. of_alike (variable_section_same c r vs ws parts.2))
         (λ s.
         one_then Were Were (λ t. report_body_if_wanted true own t a) (λ t. report_body_if_wanted true closing t e) (λ t. report_body_if_wanted (wanted closing) closing t e)
         (λ t k. faulty_before left_out (body_faults t.so_far a) own t.bodies_with_faults k)
-        (procedures_one (further z s) ps qs (cc (h))) (λ y. body_with own closing y a e (cc (h))))))
+        (procedures_one (further z s) ps qs parts.3) (λ y. body_with own closing y a e parts.4))))
 
     procedures_one : (z : Both) (ps qs : Tree ℕ (items procedure)) → Same c (procedures_without_bodies left_out ps) (procedures_without_bodies wanted qs) → Were (report_on_procedures includes_every_body (walked_before z) ps).known
         → With (report_on_procedures includes_every_body (walked_before z) ps) (report_on_procedures includes_every_body (walked_now z) qs) (report_on_procedures wanted (walked_now z) qs)
@@ -222,10 +223,11 @@ module _ (c : TwoTexts) (left_out wanted : ℕ → Bool) where
     procedure_one : (z : Both) (d f : Tree ℕ (item procedure)) → Same c (procedure_without_bodies left_out d) (procedure_without_bodies wanted f) → Were (report_on_procedure includes_every_body (walked_before z) d).known
         → With (report_on_procedure includes_every_body (walked_before z) d) (report_on_procedure includes_every_body (walked_now z) f) (report_on_procedure wanted (walked_now z) f)
     procedure_one z (declares_procedure x fs b closing) (declares_procedure y gs d last) h =
+        let parts = procedure_parts_same c x y fs gs (block_without_bodies left_out closing b) (block_without_bodies wanted last d) closing last h in
         one_then nothing_of Were (λ g. report_on_block includes_every_body closing (walk_with_declarations (walked_before z) (declarations_after_heading x g)) b) (λ g. report_on_block includes_every_body last (walk_with_declarations (walked_now z) (declarations_after_heading y g)) d)
         (λ g. report_on_block wanted last (walk_with_declarations (walked_now z) (declarations_after_heading y g)) d)
-        (λ x k. tt) (λ k. of_alike (heads_same c z.so fs gs (cc (h))))
-        (λ g. inside closing last z b d x y g (cc (h)) (λ v. block_one closing last v b d (cc (h))))
+        (λ x k. tt) (λ k. of_alike (heads_same c z.so fs gs parts.1))
+        (λ g. inside closing last z b d x y g parts.0 (λ v. block_one closing last v b d parts.2))
 
 -- ---- the number of declarations
 
