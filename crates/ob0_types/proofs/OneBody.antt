@@ -6,6 +6,7 @@ use Rattle.ob0_tree.specs.Tree.{Tree, block, body, constants, declares, declares
 use Rattle.ob0_tree.specs.TokenIndexLeaves.{token_value_at}
 use Rattle.ob0_tree.specs.ParsedModule.{tree_of}
 use Rattle.ob0_tree.proofs.Mapped.{mapped_twice}
+use Rattle.ob0_language_names.specs.BlockParts.{module_block}
 use Rattle.ob0_language_names.specs.Names.{Name}
 use Rattle.ob0_scan.specs.declared.tokens.CommonPrefixAndSuffix.{CommonPrefixAndSuffix}
 use Rattle.ob0_scope.proofs.BodyBound.{alike_outside, bound, bound_outside}
@@ -18,6 +19,7 @@ use Rattle.ob0_scope_table.proofs.BodyReplacement.{names_outside}
 use Rattle.ob0_types_check.specs.EqualExceptBodies.{AreEqualExceptInBodies, block_without_bodies, module_without_bodies, procedure_without_bodies, procedures_without_bodies, tree_with_bindings}
 use Rattle.ob0_types_check.specs.WalksOverSomeBodies.{AllClosingNamesPass, IncludesChangedAndFaultyBodies, faulty_bodies, is_body_in_list}
 use Rattle.ob0_types_check.proofs.SameFaults.{first_equal, further_equal}
+use Rattle.ob0_types_check.proofs.SameModules.{block_in, constants_in, formals_in, name_in, procedures_in, statements_in, types_in, variables_in}
 use Rattle.ob0_types.specs.NewBody.{IsCheckResultBeforeBodyReplacement}
 use Rattle.ob0_types.specs.OneBody.{IsCheckResultBeforeBodyChange, body_with_token_in_block, body_with_token_in_module, body_with_token_in_procedure, body_with_token_in_procedures, module_with_source}
 use Rattle.ob0_types.specs.declared.checked_modules.CheckResult.{CheckResult}
@@ -101,6 +103,12 @@ module _ (left_out : ℕ → Bool) (move : ℕ → ℕ) where
   module_moved : (t : Tree ℕ module_text) → module_without_bodies left_out (mapped_tree move move t) ≡ mapped_tree move move (module_without_bodies moved_out t)
   module_moved (forms_module x b closing) = ap (λ c. forms_module (move x) c (move closing)) (block_moved closing b)
 
+abbrev module_name_in : {N : Type 0} → Tree N module_text → N
+module_name_in (forms_module x b closing) = x
+
+abbrev module_closing_in : {N : Type 0} → Tree N module_text → N
+module_closing_in (forms_module x b closing) = closing
+
 -- If two labellings give the same tree, they also do so without some bodies.
 module _ (L : Type 0) (f u : ℕ → L) (g v : ℕ → ℕ) (left_out : ℕ → Bool) where
   body_kept : (b : Bool) (a : Tree ℕ (maybe body)) → mapped_tree f g a ≡ mapped_tree u v a → mapped_tree f g (if b then none else a) ≡ mapped_tree u v (if b then none else a)
@@ -110,11 +118,11 @@ module _ (L : Type 0) (f u : ℕ → L) (g v : ℕ → ℕ) (left_out : ℕ → 
   mutual
     block_kept : (own : ℕ) (b : Tree ℕ block) → mapped_tree f g b ≡ mapped_tree u v b → mapped_tree f g (block_without_bodies left_out own b) ≡ mapped_tree u v (block_without_bodies left_out own b)
     block_kept own (forms_block (declares cs ts vs ps) a) e =
-        let of_constants : mapped_tree f g cs ≡ mapped_tree u v cs = cc (e) in
-        let of_types : mapped_tree f g ts ≡ mapped_tree u v ts = cc (e) in
-        let of_variables : mapped_tree f g vs ≡ mapped_tree u v vs = cc (e) in
-        let of_procedures : mapped_tree f g ps ≡ mapped_tree u v ps = cc (e) in
-        let of_body : mapped_tree f g a ≡ mapped_tree u v a = cc (e) in
+        let of_constants : mapped_tree f g cs ≡ mapped_tree u v cs = ap constants_in e in
+        let of_types : mapped_tree f g ts ≡ mapped_tree u v ts = ap types_in e in
+        let of_variables : mapped_tree f g vs ≡ mapped_tree u v vs = ap variables_in e in
+        let of_procedures : mapped_tree f g ps ≡ mapped_tree u v ps = ap procedures_in e in
+        let of_body : mapped_tree f g a ≡ mapped_tree u v a = ap statements_in e in
         λ i. forms_block (declares (of_constants i) (of_types i) (of_variables i) (procedures_kept ps of_procedures i)) (body_kept (left_out own) a of_body i)
 
     procedures_kept : (ps : Tree ℕ (items procedure)) → mapped_tree f g ps ≡ mapped_tree u v ps → mapped_tree f g (procedures_without_bodies left_out ps) ≡ mapped_tree u v (procedures_without_bodies left_out ps)
@@ -123,17 +131,17 @@ module _ (L : Type 0) (f u : ℕ → L) (g v : ℕ → ℕ) (left_out : ℕ → 
 
     procedure_kept : (p : Tree ℕ (item procedure)) → mapped_tree f g p ≡ mapped_tree u v p → mapped_tree f g (procedure_without_bodies left_out p) ≡ mapped_tree u v (procedure_without_bodies left_out p)
     procedure_kept (declares_procedure x fs b closing) e =
-        let of_name : f x ≡ u x = cc (e) in
-        let of_formals : mapped_tree f g fs ≡ mapped_tree u v fs = cc (e) in
-        let of_block : mapped_tree f g b ≡ mapped_tree u v b = cc (e) in
-        let of_closing : f closing ≡ u closing = cc (e) in
+        let of_name : f x ≡ u x = ap name_in e in
+        let of_formals : mapped_tree f g fs ≡ mapped_tree u v fs = ap formals_in e in
+        let of_block : mapped_tree f g b ≡ mapped_tree u v b = ap block_in e in
+        let of_closing : f closing ≡ u closing = ap closing_name e in
         λ i. declares_procedure (of_name i) (of_formals i) (block_kept closing b of_block i) (of_closing i)
 
   module_kept : (t : Tree ℕ module_text) → mapped_tree f g t ≡ mapped_tree u v t → mapped_tree f g (module_without_bodies left_out t) ≡ mapped_tree u v (module_without_bodies left_out t)
   module_kept (forms_module x b closing) e =
-      let of_name : f x ≡ u x = cc (e) in
-      let of_block : mapped_tree f g b ≡ mapped_tree u v b = cc (e) in
-      let of_closing : f closing ≡ u closing = cc (e) in
+      let of_name : f x ≡ u x = ap module_name_in e in
+      let of_block : mapped_tree f g b ≡ mapped_tree u v b = ap module_block e in
+      let of_closing : f closing ≡ u closing = ap module_closing_in e in
       λ i. forms_module (of_name i) (block_kept closing b of_block i) (of_closing i)
 
 -- ---- two modules that are bound alike without one body

@@ -57,28 +57,28 @@ declared_over source ordinals p m (Some k) = refl
 
 -- ---- parts of blocks and procedures
 
-abbrev constants_in : {N : Type 0} → Tree N block → Tree N (maybe constants)
+abbrev pub constants_in : {N : Type 0} → Tree N block → Tree N (maybe constants)
 constants_in (forms_block (declares cs ts vs ps) a) = cs
 
-abbrev types_in : {N : Type 0} → Tree N block → Tree N (maybe type_definitions)
+abbrev pub types_in : {N : Type 0} → Tree N block → Tree N (maybe type_definitions)
 types_in (forms_block (declares cs ts vs ps) a) = ts
 
-abbrev variables_in : {N : Type 0} → Tree N block → Tree N (maybe variables)
+abbrev pub variables_in : {N : Type 0} → Tree N block → Tree N (maybe variables)
 variables_in (forms_block (declares cs ts vs ps) a) = vs
 
-abbrev procedures_in : {N : Type 0} → Tree N block → Tree N (items procedure)
+abbrev pub procedures_in : {N : Type 0} → Tree N block → Tree N (items procedure)
 procedures_in (forms_block (declares cs ts vs ps) a) = ps
 
-abbrev statements_in : {N : Type 0} → Tree N block → Tree N (maybe body)
+abbrev pub statements_in : {N : Type 0} → Tree N block → Tree N (maybe body)
 statements_in (forms_block (declares cs ts vs ps) a) = a
 
-abbrev name_in : {N : Type 0} → Tree N (item procedure) → N
+abbrev pub name_in : {N : Type 0} → Tree N (item procedure) → N
 name_in (declares_procedure x fs b closing) = x
 
-abbrev formals_in : {N : Type 0} → Tree N (item procedure) → Tree N (maybe formals)
+abbrev pub formals_in : {N : Type 0} → Tree N (item procedure) → Tree N (maybe formals)
 formals_in (declares_procedure x fs b closing) = fs
 
-abbrev block_in : {N : Type 0} → Tree N (item procedure) → Tree N block
+abbrev pub block_in : {N : Type 0} → Tree N (item procedure) → Tree N block
 block_in (declares_procedure x fs b closing) = b
 
 module _ (c : TwoTexts) where

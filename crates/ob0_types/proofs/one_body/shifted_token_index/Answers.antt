@@ -4,6 +4,3 @@ use Rattle.ob0_types.proofs.one_body.shifted_token_index.Goals as goal
 
 pub returns-then-token-prefix : goal.returns-then-token-prefix
 returns-then-token-prefix c = sym (moved_below c.args.same c.args.token c.if-token-prefix.true)
-
-pub returns : goal.returns
-returns c = ?
