@@ -17,7 +17,7 @@ use Rattle.ob0_scope_table.specs.SpellingChangesInOneBody.{closing_name}
 use Rattle.ob0_scope_table.specs.Resolution.{IsResolution, Resolution, ordinal_and_spelling_at_token}
 use Rattle.ob0_scope_table.proofs.BodyReplacement.{names_outside}
 use Rattle.ob0_types_check.specs.EqualExceptBodies.{AreEqualExceptInBodies, block_without_bodies, module_without_bodies, procedure_without_bodies, procedures_without_bodies, tree_with_bindings}
-use Rattle.ob0_types_check.specs.WalksOverSomeBodies.{AllClosingNamesPass, IncludesChangedAndFaultyBodies, faulty_bodies, is_body_in_list}
+use Rattle.ob0_types_check.specs.WalksOverSomeBodies.{IncludesChangedAndFaultyBodies, faulty_bodies, is_body_in_list}
 use Rattle.ob0_types_check.proofs.SameFaults.{first_equal, further_equal}
 use Rattle.ob0_types_check.proofs.SameModules.{block_in, constants_in, formals_in, name_in, procedures_in, statements_in, types_in, variables_in}
 use Rattle.ob0_types.specs.NewBody.{IsCheckResultBeforeBodyReplacement}
@@ -214,7 +214,7 @@ module _ (r : Resolution) (types : CheckResult) (low : ℕ) (w : IsCheckResultBe
 
 -- ---- the statements of one body were replaced
 
--- A number is among others exactly where it is if all get other values.
+-- If a number is among others, its new value is among their new values.
 among_moved : (move : ℕ → ℕ) (xs : List ℕ) (k : ℕ) → is_body_in_list xs k ≡ true → is_body_in_list (map move xs) (move k) ≡ true
 among_moved move [] k h = absurd (cc (h))
 among_moved move (x ∷ xs) k h = one_of (among_moved move xs k) (nat_eq x k) refl h

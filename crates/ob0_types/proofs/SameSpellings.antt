@@ -1,6 +1,6 @@
 -- If the tokens of a text have the same kinds and spellings as before, the result of checking its module is the same.
 -- The module's tree has the same names and numbers, and its faults are at the same tokens.
-use Rattle.std.proofs.Common.{◌≡◌, ℕ, List, ◌++◌, IfSome, length, refl, sym, ap, subst}
+use Rattle.std.proofs.Common.{◌≡◌, ℕ, List, ◌++◌, IfSome, length, sym, ap, subst}
 use Rattle.std.specs.List.{filter}
 use Rattle.ob0_scan.specs.ReusedLexemes.{words_of_tokens}
 use Rattle.ob0_scan.specs.TextWithTokens.{TextWithTokens}

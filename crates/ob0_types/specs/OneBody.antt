@@ -1,7 +1,7 @@
 -- The result of checking a module before the spellings of tokens in one body changed. A body is the
 -- statements of a block.
 -- Rule: docs/LANGUAGE.md, Types 8, Faults of scopes and types 1.
-use Rattle.std.specs.Prelude.{◌≡◌, ℕ, true, nat_lt, if◌then◌else◌}
+use Rattle.std.specs.Prelude.{ℕ, nat_lt, if◌then◌else◌}
 use Rattle.ob0_tree.specs.Tree.{Tree, block, body, declares, declares_procedure, end, forms_block, forms_module, item, items, maybe, module_text, more, procedure}
 use Rattle.ob0_tree.specs.View.{body_of}
 use Rattle.ob0_scan.specs.TextWithTokens.{TextWithTokens}

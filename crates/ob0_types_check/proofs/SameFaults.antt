@@ -2,7 +2,7 @@
 -- A label tells how a name is spelled and to which declaration it is bound. The tokens of the two parts may have other
 -- indexes. A state contains its text. So two results are alike (`Alike`) if one value gives both, each with its own
 -- text, and they have the same faults at near tokens. Which tokens are near is part of what is compared (`TwoTexts`).
-use Rattle.std.proofs.Common.{◌≡◌, ℕ, suc, Bool, true, false, List, [], ◌∷◌, ◌++◌, Option, Some, None, length, nat_eq, option_and_then, pos, ◌+◌, ◌&&◌, not, refl, sym, ap, ◌∙◌, subst, if◌then◌else◌}
+use Rattle.std.proofs.Common.{◌≡◌, ℕ, suc, Bool, true, false, List, [], ◌∷◌, ◌++◌, Option, Some, None, length, nat_eq, option_and_then, pos, ◌+◌, ◌&&◌, not, refl, sym, ap, subst, if◌then◌else◌}
 use Rattle.ob0_scan.specs.declared.fault.FaultCode.{FaultCode}
 use Rattle.ob0_scan.specs.declared.fault.FaultCode.TheVariants as code
 use Rattle.ob0_scan.specs.TextWithTokens.{TextWithTokens}
@@ -22,7 +22,7 @@ use Rattle.ob0_scope_table.specs.declared.faults.FaultAtTokens.{FaultAtTokens}
 use Rattle.ob0_types_table.specs.Operators.{product_value, sum_value}
 use Rattle.ob0_types_check.specs.ExpressionFaults.{report_on_addends, report_on_expression, report_on_factor, report_on_multipliers, report_on_selectors, report_on_simple_expression, report_on_term}
 use Rattle.ob0_types_check.specs.TypesAndMeanings.{Facts, TypeForm, KnownParameter, Meaning, Operand, ResultWithFaults, Types, a_constant, a_procedure, a_record, a_scalar, a_type, a_variable, an_array, unknown_form}
-use Rattle.ob0_types_check.specs.OperandFaults.{non_constant_name_operand, number_operand, check_sum, check_negation, comparison_type, element_type_from_form, element_operand, fault_at_operand, fault_at_token, fault_at_token_range, operand_in_parentheses, field_type_from_form, field_operand, field_type_or_fault, check_product, may_be_same_type, name_operand, operand_from_meaning, operand_type_of_addition, operand_type_of_multiplication, operand_type_of_relation, operand_with_selector, check_relation, require_type, require_type_of_both_operands, type_of_constant_value, without_fault, check_sign, next_token_index, previous_token_index, ◌>>=◌}
+use Rattle.ob0_types_check.specs.OperandFaults.{non_constant_name_operand, number_operand, check_sum, check_negation, comparison_type, element_type_from_form, element_operand, fault_at_operand, fault_at_token, operand_in_parentheses, field_type_from_form, field_operand, field_type_or_fault, check_product, may_be_same_type, name_operand, operand_from_meaning, operand_type_of_addition, operand_type_of_multiplication, operand_type_of_relation, operand_with_selector, check_relation, require_type, require_type_of_both_operands, type_of_constant_value, without_fault, check_sign, next_token_index, previous_token_index, ◌>>=◌}
 use Rattle.ob0_types_check.specs.StatementFaults.{call_faults_from_meaning, require_type_of_argument, faults_of_argument, faults_of_arguments, assignment_faults, call_faults, else_faults, elsif_faults, untyped_argument_faults, faults_of_expression_of_type, sequence_faults, statement_faults, further_statement_faults, report_on_assignment_target, check_assigned_meaning, check_assigned_name}
 use Rattle.ob0_types_check.specs.TypeFaults.{length_from_operand, length_from_value, length_or_fault, require_constant_value, report_on_constant_expression, type_from_meaning, check_type_name, value_or_fault}
 
