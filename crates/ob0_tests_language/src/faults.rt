@@ -100,7 +100,8 @@ const RECORD_PARAMETERS: &str =
     "MODULE M; TYPE T = RECORD f, g: INTEGER END; VAR t: T; PROCEDURE P(a, b: T); BEGIN a := b; a.f := t.g END P; \
     BEGIN P(t, t); z := t END M.";
 
-const TWO_TYPE_ERRORS: &str = "MODULE M; VAR x: INTEGER; PROCEDURE P; BEGIN x := 1 END P; PROCEDURE Q; \
+const TWO_TYPE_ERRORS: &str =
+    "MODULE M; VAR x: INTEGER; PROCEDURE P; BEGIN x := 1 END P; PROCEDURE Q; \
     BEGIN x := TRUE END Q; BEGIN x := P END M.";
 
 const DECLARATION_ERRORS: &str = "MODULE M; CONST n = TRUE + 1; VAR x: INTEGER; y: T; PROCEDURE P; \

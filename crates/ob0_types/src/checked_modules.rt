@@ -189,7 +189,7 @@ fn check_result_walking_bodies<'t>(
 ) -> Result<CheckResult, AllocError>
     requires { IncludesChangedAndFaultyBodies
         (is_body_in_list
-            (bodies.items ++ (body_with_token_in_module low (tree_of resolved.now.module_read)).closing ∷ []))
+        (bodies.items ++ (body_with_token_in_module low (tree_of resolved.now.module_read)).closing ∷ []))
         resolved.now }
     ensures { IfOk result (IsCheckResultOfModule resolved.now) }
 {
