@@ -2,7 +2,7 @@
 -- A label tells how a name is spelled and to which declaration it is bound. The tokens of the two parts may have other
 -- indexes. A state contains its text. So two results are alike (`Alike`) if one value gives both, each with its own
 -- text, and they have the same faults at near tokens. Which tokens are near is part of what is compared (`TwoTexts`).
-use Rattle.std.proofs.Common.{◌≡◌, ℕ, suc, Bool, true, false, List, [], ◌∷◌, ◌++◌, Option, Some, None, length, nat_eq, option_and_then, pos, ◌+◌, ◌&&◌, not, refl, sym, ap, subst, if◌then◌else◌}
+use Rattle.std.proofs.Common.{◌≡◌, ℕ, suc, Bool, true, false, List, [], ◌∷◌, ◌++◌, Option, Some, None, length, nat_eq, option_and_then, pos, ◌&&◌, not, refl, sym, ap, subst, if◌then◌else◌}
 use Rattle.ob0_scan.specs.declared.fault.FaultCode.{FaultCode}
 use Rattle.ob0_scan.specs.declared.fault.FaultCode.TheVariants as code
 use Rattle.ob0_scan.specs.TextWithTokens.{TextWithTokens}
