@@ -10,11 +10,9 @@ use Rattle.ob0_scan.specs.declared.lexeme.Token.{Token}
 use Rattle.ob0_scan.specs.declared.tokens.CommonPrefixAndSuffix.{CommonPrefixAndSuffix}
 use Rattle.ob0_tree.specs.ParsedModule.{TreeMatchesText, parsed_module, tree_of}
 use Rattle.ob0_tree.specs.declared.tree.ModuleTree.{ModuleTree}
-use Rattle.ob0_scope.proofs.BodyChanges.{ordinals_outside}
 use Rattle.ob0_scope.specs.BindingsBeforeBodyChange.{AreBindingsBeforeBodyChange}
 use Rattle.ob0_scope_table.specs.Bindings.{resolution_with_bindings}
 use Rattle.ob0_scope_table.specs.SpellingChangesInOneBody.{ChangesSpellingsInOneBody, is_range_in_one_body, is_outside_range}
-use Rattle.ob0_scope_table.specs.Resolution.{IsResolution}
 use Rattle.ob0_scope_table.specs.declared.resolved.Bindings.{Bindings}
 use Rattle.ob0_types.specs.OneBody.{IsCheckResultBeforeBodyChange}
 use Rattle.ob0_types.specs.declared.checked_modules.CheckResult.{CheckResult}
@@ -80,17 +78,6 @@ module _ {new : TextWithTokens} {tree : ModuleTree} {b : Bindings} {types : Chec
   pub was_bound : TreeMatchesText (parsed_module new tree) → AreBindingsBeforeBodyChange (parsed_module new tree) b s.prefix s.old_suffix
   was_bound parsed = record { old = h.earlier_module.old; change = body_change; parsed = parsed; resolved = h.earlier_module.resolved }
 
-  -- The old results for types can be reused if the names were bound again.
-  pub were_types : (c : Bindings) → IsResolution (resolution_with_bindings (parsed_module new tree) c) → IsCheckResultBeforeBodyChange (resolution_with_bindings (parsed_module new tree) c) types s.prefix
-  were_types c resolved = record {
-    high = s.old_suffix;
-    old = h.earlier_module.old;
-    bindings = b;
-    change = body_change;
-    bound = ordinals_outside h.earlier_module.old (parsed_module new tree) s.prefix s.old_suffix b c body_change h.earlier_module.resolved resolved;
-    types_are = h.earlier_module.types_are;
-  }
-
-  -- The old results for types can be reused if the bindings are kept.
-  pub kept_types : IsCheckResultBeforeBodyChange (resolution_with_bindings (parsed_module new tree) b) types s.prefix
-  kept_types = record { high = s.old_suffix; old = h.earlier_module.old; bindings = b; change = body_change; bound = λ token e. refl; types_are = h.earlier_module.types_are }
+  -- The old results for types can be reused, whether the names were bound again or the bindings kept.
+  pub were_types : (c : Bindings) → IsCheckResultBeforeBodyChange (resolution_with_bindings (parsed_module new tree) c) types s.prefix
+  were_types c = record { high = s.old_suffix; old = h.earlier_module.old; bindings = b; change = body_change; types_are = h.earlier_module.types_are }

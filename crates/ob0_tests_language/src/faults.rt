@@ -100,6 +100,13 @@ const RECORD_PARAMETERS: &str =
     "MODULE M; TYPE T = RECORD f, g: INTEGER END; VAR t: T; PROCEDURE P(a, b: T); BEGIN a := b; a.f := t.g END P; \
     BEGIN P(t, t); z := t END M.";
 
+const TWO_TYPE_ERRORS: &str =
+    "MODULE M; VAR x: INTEGER; PROCEDURE P; BEGIN x := 1 END P; PROCEDURE Q; \
+    BEGIN x := TRUE END Q; BEGIN x := P END M.";
+
+const DECLARATION_ERRORS: &str = "MODULE M; CONST n = TRUE + 1; VAR x: INTEGER; y: T; PROCEDURE P; \
+    BEGIN x := n END P; BEGIN x := 1; y := x END M.";
+
 /// Texts of one line, each with a change: the index of the first replaced character, the index
 /// after the last one, and the new text.
 static TEXTS_WITH_CHANGES: &[(&str, u64, u64, &str)] = changes![
@@ -124,6 +131,14 @@ static TEXTS_WITH_CHANGES: &[(&str, u64, u64, &str)] = changes![
     TWO_VARIABLES, 41, 41, "; z := 1";
     "MODULE M; TYPE T = RECORD f, g: INTEGER END; VAR t: T; PROCEDURE P(a, b: T); BEGIN a := b; a.f := t.g END P; \
         BEGIN P(t, t); t := t END M.", 101, 101, "; a.g := b.f";
+    // A statement that is added to a body beside errors elsewhere: before and after bodies with type
+    // errors, in a body with one, and beside errors in declarations.
+    TWO_TYPE_ERRORS, 51, 51, "; x := x + 1";
+    TWO_TYPE_ERRORS, 51, 51, "; IF x THEN z := x END";
+    TWO_TYPE_ERRORS, 87, 87, "; x := 2";
+    TWO_TYPE_ERRORS, 107, 107, "; Q";
+    DECLARATION_ERRORS, 77, 77, "; x := x + n";
+    DECLARATION_ERRORS, 97, 97, "; P; y := TRUE";
     // A name in a body that is replaced by the name of a later procedure, the name of an earlier
     // procedure, a variable of an enclosing block, and an undeclared name. The first three texts
     // have undeclared names outside that body.

@@ -1,24 +1,23 @@
 -- If the tokens of a text have the same kinds and spellings as before, the result of checking its module is the same.
 -- The module's tree has the same names and numbers, and its faults are at the same tokens.
-use Rattle.std.proofs.Common.{◌≡◌, ℕ, List, ◌++◌, IfSome, length, refl, sym, ap, subst}
+use Rattle.std.proofs.Common.{◌≡◌, ℕ, List, ◌++◌, IfSome, length, sym, ap, subst}
 use Rattle.std.specs.List.{filter}
 use Rattle.ob0_scan.specs.ReusedLexemes.{words_of_tokens}
 use Rattle.ob0_scan.specs.TextWithTokens.{TextWithTokens}
 use Rattle.ob0_tree.specs.ParsedModule.{named_tree_of, parsed_module, tree_of}
+use Rattle.ob0_tree.specs.Tree.{mapped_tree}
 use Rattle.ob0_tree.specs.declared.tree.ModuleTree.{ModuleTree}
 use Rattle.ob0_language_types.specs.WellTyped.{WellTyped}
 use Rattle.ob0_scope_table.specs.Bindings.{resolution_with_bindings}
-use Rattle.ob0_scope_table.specs.Resolution.{IsResolution, Resolution, is_duplicate_or_end_name_fault}
+use Rattle.ob0_scope_table.specs.Resolution.{IsResolution, Resolution, is_duplicate_or_end_name_fault, ordinal_in}
 use Rattle.ob0_scope_table.specs.declared.faults.FaultAtTokens.{FaultAtTokens}
 use Rattle.ob0_scope_table.specs.declared.resolved.Bindings.{Bindings}
-use Rattle.ob0_scope_table.proofs.Placed.{each_token}
 use Rattle.ob0_scope_table.proofs.SameWords.{same_count, same_named_tree, same_texts, same_values}
-use Rattle.ob0_types_check.specs.EqualExceptBodies.{IsSameTokenAt}
+use Rattle.ob0_types_check.specs.EqualExceptBodies.{module_without_bodies}
 use Rattle.ob0_types_check.specs.ModuleLaws.{TableHasDeclaredObjects}
 use Rattle.ob0_types_check.specs.WalksOverSomeBodies.{AllClosingNamesPass, faulty_bodies, is_body_in_list}
 use Rattle.ob0_types_check.proofs.SameModules.{module_same}
 use Rattle.ob0_types_check.proofs.WalksOverSomeBodies.{faulty_stay}
-use Rattle.ob0_types.proofs.BodyFound.{module_any}
 use Rattle.ob0_types.specs.FaultOrder.{AreFirstFaultsByTokens, AreFirstFaultsWhenSorted, all_faults_of, compare_faults_by_tokens}
 use Rattle.ob0_types.specs.SameSpellings.{CheckResultDependsOnlyOnSpellings}
 
@@ -37,20 +36,14 @@ module _ (old new : TextWithTokens) (tree : ModuleTree) (b : Bindings) (same : w
       subst (λ count. AreFirstFaultsWhenSorted (compare_faults_by_tokens count) (all_faults_of after) faults) (sym (same_count old new same))
       (subst (λ found. AreFirstFaultsWhenSorted (compare_faults_by_tokens (length old.tokens)) found faults) (ap (λ found. found ++ filter is_duplicate_or_end_name_fault b.faults.items) (module_same old new same tree b)) first)
 
-  alike_at : (k : ℕ) → IsSameTokenAt before after k
-  alike_at k = record { written = λ i. same_texts old new same i k; value = λ i. same_values old new same i k; bound = refl }
-
   bodies_stay : IsResolution before → IsResolution after → (bodies : List ℕ) → AllClosingNamesPass (is_body_in_list bodies) (faulty_bodies before) → AllClosingNamesPass (is_body_in_list bodies) (faulty_bodies after)
   bodies_stay r s bodies were =
       faulty_stay (is_body_in_list bodies) after s (record {
         old = before;
+        left_out = is_body_in_list bodies;
         resolved = r;
         bodies_with_faults = were;
-        alike = record {
-          tree = refl;
-          count = same_count old new same;
-          alike = module_any (IsSameTokenAt before after) (is_body_in_list bodies) (tree_of before.module_read) (each_token (IsSameTokenAt before after) alike_at (tree_of before.module_read));
-        };
+        equal = λ i. mapped_tree (λ k. (ordinal_in b.ordinals.items k, same_texts old new same i k)) (same_values old new same i) (module_without_bodies (is_body_in_list bodies) (tree_of before.module_read));
       })
 
 pub check_result_depends_only_on_spellings : CheckResultDependsOnlyOnSpellings

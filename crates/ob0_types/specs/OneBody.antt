@@ -1,13 +1,13 @@
 -- The result of checking a module before the spellings of tokens in one body changed. A body is the
 -- statements of a block.
 -- Rule: docs/LANGUAGE.md, Types 8, Faults of scopes and types 1.
-use Rattle.std.specs.Prelude.{◌≡◌, ℕ, true, nat_lt, if◌then◌else◌}
+use Rattle.std.specs.Prelude.{ℕ, nat_lt, if◌then◌else◌}
 use Rattle.ob0_tree.specs.Tree.{Tree, block, body, declares, declares_procedure, end, forms_block, forms_module, item, items, maybe, module_text, more, procedure}
 use Rattle.ob0_tree.specs.View.{body_of}
 use Rattle.ob0_scan.specs.TextWithTokens.{TextWithTokens}
 use Rattle.ob0_scope_table.specs.Bindings.{resolution_with_bindings}
-use Rattle.ob0_scope_table.specs.SpellingChangesInOneBody.{ChangesSpellingsInOneBody, closing_name, is_outside_range}
-use Rattle.ob0_scope_table.specs.Resolution.{Resolution, ordinal_in}
+use Rattle.ob0_scope_table.specs.SpellingChangesInOneBody.{ChangesSpellingsInOneBody, closing_name}
+use Rattle.ob0_scope_table.specs.Resolution.{Resolution}
 use Rattle.ob0_scope_table.specs.declared.resolved.Bindings.{Bindings}
 use Rattle.ob0_tree.specs.ParsedModule.{ParsedModule}
 use Rattle.ob0_types.specs.CheckedModules.{IsCheckResultOfModule}
@@ -59,12 +59,10 @@ module_with_source source m =
 
 -- States that `types` is the result of checking the module before a change. All tokens have the
 -- same kinds as before. The changed tokens have indexes of at least `low` and are in one body. All
--- other tokens have the same spellings and bindings as before.
+-- other tokens have the same spellings as before.
 pub record IsCheckResultBeforeBodyChange (r : Resolution) (types : CheckResult) (low : ℕ) : Type 0 where
   pub high : ℕ
   pub old : TextWithTokens
   pub bindings : Bindings
   pub change : ChangesSpellingsInOneBody old r.module_read low high
-  pub bound : (token : ℕ) → is_outside_range low high token ≡ true
-      → ordinal_in r.ordinals token ≡ ordinal_in bindings.ordinals.items token
   pub types_are : IsCheckResultOfModule (resolution_with_bindings (module_with_source old r.module_read) bindings) types

@@ -11,16 +11,17 @@
 //! a field walks the tree (`fields.rt`).
 
 ghost use Rattle.ob0_scope_table.specs.Resolution.{is_duplicate_or_end_name_fault};
+ghost use Rattle.ob0_tree.specs.ParsedModule.{tree_of};
 ghost use Rattle.ob0_types.specs.CheckedModules.{IsCheckResultOfModule, IsCorrectlyChecked};
 ghost use Rattle.ob0_types.specs.FaultOrder.{AreFirstFaultsWhenSorted, compare_faults_by_tokens};
 ghost use Rattle.ob0_types.specs.NewBody.{IsCheckResultBeforeBodyReplacement};
-ghost use Rattle.ob0_types.specs.OneBody.{IsCheckResultBeforeBodyChange};
-ghost use Rattle.ob0_types_check.specs.WalksOverSomeBodies.{IsReportOfModule};
+ghost use Rattle.ob0_types.specs.OneBody.{IsCheckResultBeforeBodyChange, body_with_token_in_module};
+ghost use Rattle.ob0_types_check.specs.WalksOverSomeBodies.{IncludesChangedAndFaultyBodies, IsReportOfModule, is_body_in_list};
 ghost use Rattle.std.specs.List.{filter};
 ghost use Rattle.std.specs.Cow.{cow_value};
-ghost use Rattle.std.specs.Prelude.{◌≡◌, ◌↔◌, ◌++◌, [], length, IfOk, OnOk, MatchOption};
+ghost use Rattle.std.specs.Prelude.{◌≡◌, ◌↔◌, ◌++◌, [], ◌∷◌, length, IfOk, OnOk, MatchOption};
 
-use crate::one_body::body_with_token_in_module;
+use crate::one_body::{body_with_token_in_module, shifted_token_indexes};
 use ob0_language_values::Scalar;
 use ob0_scan::{CommonPrefixAndSuffix, Fault, MAX_FAULTS};
 use ob0_scope_table::{
@@ -28,9 +29,7 @@ use ob0_scope_table::{
     is_duplicate_or_end_name_fault,
 };
 use ob0_types_check::laws::{modules_without_fault_pass_type_check, typed_modules_have_no_fault};
-use ob0_types_check::{
-    ModuleReport, module_report, module_report_walking_one_body, module_report_walking_some_bodies,
-};
+use ob0_types_check::{ModuleReport, module_report, module_report_walking_some_bodies};
 use ob0_types_table::{DeclarationTable, TypeId, TypeWithParts};
 use std::alloc::{AllocError, Global};
 use std::borrow::Cow;
@@ -147,26 +146,20 @@ pub fn check_result_after_body_change<'t>(
     requires { IsCheckResultBeforeBodyChange resolved.now before low }
     ensures { IfOk result (IsCheckResultOfModule resolved.now) }
 {
-    if before.bodies_with_faults.len() > MAX_FAULTY_BODIES_FOR_PARTIAL_CHECK {
-        return check_result_of(alloc, resolved);
-    }
-    let body = body_with_token_in_module(resolved.module(), low);
+    // The proof needs this call: its contract states the module's invariant.
+    let _module = resolved.module();
     let CheckResult {
         known: _,
         faults: _,
         bodies_with_faults,
     } = before;
-    let mut bodies = bodies_with_faults;
-    bodies.push(body.closing)?;
-    let report = module_report_walking_some_bodies(alloc, resolved, bodies.as_slice())?;
-    check_result_from_report(resolved, report)
+    check_result_walking_bodies(alloc, resolved, bodies_with_faults, low)
 }
 
 /// Returns the result of checking a module after the statements of one body were replaced, perhaps
 /// by a different number of tokens. `before` is the result before the replacement. `same` says
-/// which tokens at the start and at the end of the text are unchanged. If the module wasn't valid
-/// before, the whole module is checked again. If it was valid, only its declarations and the new
-/// body are checked.
+/// which tokens at the start and at the end of the text are unchanged. The other bodies are checked
+/// again only if they had faults, or if more than 32 bodies had faults.
 pub fn check_result_after_body_replacement<'t>(
     alloc: Global,
     resolved: &'t Resolved<'t>,
@@ -176,12 +169,38 @@ pub fn check_result_after_body_replacement<'t>(
     requires { IsCheckResultBeforeBodyReplacement resolved.now before same }
     ensures { IfOk result (IsCheckResultOfModule resolved.now) }
 {
-    if before.faults.is_empty() {
-        let body = body_with_token_in_module(resolved.module(), same.prefix);
-        let report = module_report_walking_one_body(alloc, resolved, body.closing)?;
-        return check_result_from_report(resolved, report);
+    // The proof needs this call: its contract states the module's invariant.
+    let _module = resolved.module();
+    match shifted_token_indexes(alloc, before.bodies_with_faults.as_slice(), same)? {
+        Some(bodies) => check_result_walking_bodies(alloc, resolved, bodies, same.prefix),
+        None => check_result_of(alloc, resolved),
     }
-    check_result_of(alloc, resolved)
+}
+
+/// Returns the result of checking a module in which one body changed, the body that contains the
+/// token `low`. `bodies` has the closing name of each other body that may have a fault. If there
+/// are at most 32 of these, only they and the changed body are checked. Otherwise all bodies are
+/// checked.
+fn check_result_walking_bodies<'t>(
+    alloc: Global,
+    resolved: &'t Resolved<'t>,
+    bodies: Vec<usize>,
+    low: usize,
+) -> Result<CheckResult, AllocError>
+    requires { IncludesChangedAndFaultyBodies
+        (is_body_in_list
+        (bodies.items ++ (body_with_token_in_module low (tree_of resolved.now.module_read)).closing ∷ []))
+        resolved.now }
+    ensures { IfOk result (IsCheckResultOfModule resolved.now) }
+{
+    if bodies.len() > MAX_FAULTY_BODIES_FOR_PARTIAL_CHECK {
+        return check_result_of(alloc, resolved);
+    }
+    let body = body_with_token_in_module(resolved.module(), low);
+    let mut bodies = bodies;
+    bodies.push(body.closing)?;
+    let report = module_report_walking_some_bodies(alloc, resolved, bodies.as_slice())?;
+    check_result_from_report(resolved, report)
 }
 
 /// Returns the result of checking a module, given the module's report.

@@ -44,5 +44,3 @@ pub mod TypedModules
 pub mod SameFaults
 pub mod SameModules
 pub mod WalksOverSomeBodies
-pub mod WithoutNames
-pub mod NewBody

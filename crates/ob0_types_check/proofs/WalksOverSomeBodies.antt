@@ -1,22 +1,25 @@
--- A body that has no faults still has none after the tokens of the module changed in other bodies.
-use Rattle.std.proofs.Common.{◌≡◌, ℕ, Bool, true, false, List, [], ◌∷◌, ◌++◌, map, Option, None, refl, sym, ap, ◌∙◌, subst, true≢false}
-use Rattle.ob0_scan.specs.TextWithTokens.{TextWithTokens}
-use Rattle.ob0_tree.specs.declared.tree.Role.TheVariants as role
+-- A body that has no faults still has none after other bodies of the module changed.
+use Rattle.std.proofs.Common.{◌≡◌, ℕ, suc, Bool, true, false, List, [], ◌∷◌, ◌++◌, map, length, Option, None, refl, sym, ap, ◌∙◌, subst, true≢false, arith, if◌then◌else◌}
 use Rattle.ob0_tree.specs.ParsedModule.{tree_of}
-use Rattle.ob0_tree.specs.Tree.{Tree, block, body, declares, declares_procedure, end, forms_block, identifiers, forms_module, item, items, maybe, module_text, more, procedure}
-use Rattle.ob0_language_names.specs.BlockParts.{formal_parameter_sections, module_block, section_constants, section_types, section_variables}
-use Rattle.ob0_scope_table.specs.TokenProperty.{EachTokenSatisfies}
-use Rattle.ob0_scope_table.specs.Resolution.{IsResolution, Resolution, declaring_names}
+use Rattle.ob0_tree.specs.TokenIndexLeaves.{token_value_at}
+use Rattle.ob0_tree.specs.Tree.{Tree, block, body, declares, declares_procedure, end, forms_block, forms_module, item, items, maybe, module_text, more, none, one, procedure}
+use Rattle.ob0_language_names.specs.BlockParts.{constant_names, formal_parameter_names, formal_parameter_sections, declared_type_names, module_block, section_constants, section_types, section_variables, variable_names}
+use Rattle.ob0_language_names.specs.Names.{Name}
+use Rattle.ob0_language_names.specs.Scopes.{ordinal_after_block, ordinal_after_names, ordinal_after_procedure, ordinal_after_procedure_list}
+use Rattle.ob0_scope_table.specs.Resolution.{IsResolution, Resolution, ordinal_and_spelling_at_token}
 use Rattle.ob0_scope_table.specs.declared.faults.FaultAtTokens.{FaultAtTokens}
-use Rattle.ob0_types_check.specs.EqualExceptBodies.{HoldsOutsideBodiesOfBlock, IsSameTokenAt, HoldsOutsideBodiesOfProcedure, HoldsOutsideBodiesOfProcedures, HoldsUnless}
+use Rattle.ob0_types_table.specs.declared.types.TypeId.{TypeId}
+use Rattle.ob0_types_check.specs.EqualExceptBodies.{block_without_bodies, procedure_without_bodies, procedures_without_bodies}
 use Rattle.ob0_types_check.specs.DeclarationFaults.{KnownHeading, WalkProgress, body_faults, includes_every_body, report_body_if_wanted, report_on_block, report_on_constant_declarations, report_on_module, report_on_procedure, report_on_procedures, report_on_parameter_sections, report_on_type_declarations, report_on_variable_declarations, declarations_after_heading, walk_progress_at_module_start, append_body_if_faulty, walk_with_declarations}
-use Rattle.ob0_types_check.specs.TypesAndMeanings.{ResultWithFaults}
+use Rattle.ob0_types_check.specs.TypesAndMeanings.{Meaning, ResultWithFaults}
 use Rattle.ob0_types_check.specs.OperandFaults.{◌>>=◌}
 use Rattle.ob0_types_check.specs.KnownDeclarations.{KnownDeclarations, known_declarations_at_module_start, predeclared_meanings}
 use Rattle.ob0_types_check.specs.WalksOverSomeBodies.{AllClosingNamesPass, IncludesChangedAndFaultyBodies, WalkingChangedAndFaultyBodiesSuffices, faulty_bodies}
 use Rattle.ob0_types_check.proofs.Chains.{reported_equal}
-use Rattle.ob0_types_check.proofs.SameFaults.{Alike, Alikeness}
-use Rattle.ob0_types_check.proofs.SameModules.{Both, after_body, body_same, constants_each, constants_same, formals_each, further, heading_after, heading_new, heading_old, sections_same, so_over, types_each, types_same, variables_each, variables_same, walked_new, walked_old}
+use Rattle.ob0_types_check.proofs.DeclaredModules.{module_counted}
+use Rattle.ob0_types_check.proofs.DeclaredNames.{ordinal_after_block-mapped_tree}
+use Rattle.ob0_types_check.proofs.SameFaults.{Alike, Same, SameName, TwoTexts, end_not_more, first_equal, further_equal, none_alike, none_not_one}
+use Rattle.ob0_types_check.proofs.SameModules.{Both, after_body, block_parts_same, body_same, constant_section_same, further, heading_after, heading_new, heading_old, heads_same, procedure_parts_same, so_over, type_section_same, variable_section_same, walked_new, walked_old}
 
 -- ---- the bodies with faults
 
@@ -102,7 +105,7 @@ pub record One {Z A : Type 0} (f g : Z → A) (r s d : ResultWithFaults A) : Typ
   pub after : s.known ≡ g value
   pub same : s ≡ d
 
-of_alike : {Z A : Type 0} {f g : Z → A} {r s : ResultWithFaults A} → Alike f g r s → One f g r s s
+of_alike : {Near : ℕ → ℕ → Type 0} {Z A : Type 0} {f g : Z → A} {r s : ResultWithFaults A} → Alike Near f g r s → One f g r s s
 of_alike p = record { value = p.value; before = p.before; after = p.after; same = refl }
 
 -- Joins two steps. The final state in the old text has a property that then holds for each earlier state.
@@ -121,133 +124,205 @@ one_then {Z} {A} {Y} {B} {f} {g} {h} {k} {t} {u} {v} J K next other another down
       same = reported_equal (ap (λ (x : ResultWithFaults B). x.known) last) (λ i. (a.same i).faults ++ (last i).faults);
     }
 
-module _ (old new : TextWithTokens) (os ns : List (Option ℕ)) (P : ℕ → Type 0) (w : Alikeness old new os ns P) (wanted : ℕ → Bool) where
+module _ (c : TwoTexts) (left_out wanted : ℕ → Bool) where
   abbrev walked_before : Both → WalkProgress
-  walked_before z = walked_old old new os ns P w z
+  walked_before z = walked_old c z
 
   abbrev walked_now : Both → WalkProgress
-  walked_now z = walked_new old new os ns P w z
+  walked_now z = walked_new c z
 
   abbrev With : ResultWithFaults WalkProgress → ResultWithFaults WalkProgress → ResultWithFaults WalkProgress → Type 0
   With r s d = One walked_before walked_now r s d
 
-  -- holds if all bodies with faults in the old text are wanted
+  -- holds if all bodies with faults in the old text are left out
   abbrev Were : WalkProgress → Type 0
-  Were v = Wants wanted v.bodies_with_faults
+  Were v = Wants left_out v.bodies_with_faults
 
   abbrev nothing_of : {A : Type 0} → A → Type 0
   nothing_of x = Unit {0}
 
-  none_unless : (faults : List FaultAtTokens) (own : ℕ) (xs : List ℕ) → wanted own ≡ false → Wants wanted (append_body_if_faulty faults own xs) → faults ≡ []
+  none_unless : (faults : List FaultAtTokens) (own : ℕ) (xs : List ℕ) → left_out own ≡ false → Wants left_out (append_body_if_faulty faults own xs) → faults ≡ []
   none_unless [] own xs e h = refl
-  none_unless (fault ∷ faults) own xs e h = absurd (true≢false (sym (all_last wanted xs own h) ∙ e))
+  none_unless (fault ∷ faults) own xs e h = absurd (true≢false (sym (all_last left_out xs own h) ∙ e))
 
-  body_with : (own : ℕ) (z : Both) (a : Tree ℕ (maybe body)) → HoldsUnless (wanted own) (EachTokenSatisfies P a) → Were (report_body_if_wanted true own (walked_before z) a).known
-      → With (report_body_if_wanted true own (walked_before z) a) (report_body_if_wanted true own (walked_now z) a) (report_body_if_wanted (wanted own) own (walked_now z) a)
-  body_with own z a each were = one (wanted own) refl each
+  -- A body that is missing has no fault.
+  missing : (p : KnownDeclarations) (d : Tree ℕ (maybe body)) → Same c none d → body_faults p d ≡ []
+  unfolding body_faults
+  missing p none h = refl
+  missing p (one d) h = absurd (none_not_one h)
+
+  -- `a` is the body in the old text, and `d` in the new one.
+  body_with : (own closing : ℕ) (z : Both) (a d : Tree ℕ (maybe body)) → Same c (if left_out own then none else a) (if wanted closing then none else d) → Were (report_body_if_wanted true own (walked_before z) a).known
+      → With (report_body_if_wanted true own (walked_before z) a) (report_body_if_wanted true closing (walked_now z) d) (report_body_if_wanted (wanted closing) closing (walked_now z) d)
+  body_with own closing z a d same were = one_of (wanted closing) (left_out own) refl same
     where
       at_end : Both
-      at_end = after_body old new os ns P w own z a
+      at_end = after_body c own closing z a d
 
-      one : (b : Bool) → wanted own ≡ b → HoldsUnless b (EachTokenSatisfies P a) → With (report_body_if_wanted true own (walked_before z) a) (report_body_if_wanted true own (walked_now z) a) (report_body_if_wanted b own (walked_now z) a)
-      one true e each = record { value = at_end; before = refl; after = refl; same = refl }
-      one false e each =
-          let none : body_faults (walked_now z).so_far a ≡ [] = sym (body_same old new os ns P w z.so a each) ∙ none_unless (body_faults (walked_before z).so_far a) own z.in_old e were in
-          record {
-            value = at_end;
-            before = refl;
-            after = refl;
-            same = λ i. record { known = record { so_far = (walked_now z).so_far; bodies_with_faults = append_body_if_faulty (none i) own z.in_new }; faults = none i };
-          }
+      quiet : body_faults (walked_now z).so_far d ≡ [] → With (report_body_if_wanted true own (walked_before z) a) (report_body_if_wanted true closing (walked_now z) d) (report_body_if_wanted false closing (walked_now z) d)
+      quiet nothing = record {
+        value = at_end;
+        before = refl;
+        after = refl;
+        same = λ i. record { known = record { so_far = (walked_now z).so_far; bodies_with_faults = append_body_if_faulty (nothing i) closing z.in_new }; faults = nothing i };
+      }
+
+      one_of : (b l : Bool) → left_out own ≡ l → Same c (if l then none else a) (if b then none else d) → With (report_body_if_wanted true own (walked_before z) a) (report_body_if_wanted true closing (walked_now z) d) (report_body_if_wanted b closing (walked_now z) d)
+      one_of true l e h = record { value = at_end; before = refl; after = refl; same = refl }
+      one_of false true e h = quiet (missing (walked_now z).so_far d h)
+      one_of false false e h = quiet (none_alike (body_same c z.so a d h) (none_unless (body_faults (walked_before z).so_far a) own z.in_old e were))
 
   -- The report of a block after a heading is the same in both texts if the report of the block is.
-  inside : (closing : ℕ) (z : Both) (b : Tree ℕ block) (x : ℕ) (g : KnownHeading) → P x
-      → ((y : Both) → Were (report_on_block includes_every_body closing (walked_before y) b).known → With (report_on_block includes_every_body closing (walked_before y) b) (report_on_block includes_every_body closing (walked_now y) b) (report_on_block wanted closing (walked_now y) b))
-      → Were (report_on_block includes_every_body closing (walk_with_declarations (walked_before z) (declarations_after_heading x (heading_old old new os ns P w g))) b).known
-      → With (report_on_block includes_every_body closing (walk_with_declarations (walked_before z) (declarations_after_heading x (heading_old old new os ns P w g))) b) (report_on_block includes_every_body closing (walk_with_declarations (walked_now z) (declarations_after_heading x (heading_new old new os ns P w g))) b)
-      (report_on_block wanted closing (walk_with_declarations (walked_now z) (declarations_after_heading x (heading_new old new os ns P w g))) b)
-  inside closing z b x g each again were =
-      let a = heading_after old new os ns P w x g each in
-      let last : KnownDeclarations = declarations_after_heading x (heading_new old new os ns P w g) in
-      let start : Were (report_on_block includes_every_body closing (walked_before (further z a.value)) b).known = subst (λ q. Were (report_on_block includes_every_body closing (walk_with_declarations (walked_before z) q) b).known) a.before were in
-      subst (λ q. With (report_on_block includes_every_body closing (walk_with_declarations (walked_before z) q) b) (report_on_block includes_every_body closing (walk_with_declarations (walked_now z) last) b) (report_on_block wanted closing (walk_with_declarations (walked_now z) last) b)) (sym a.before)
-      (subst (λ q. With (report_on_block includes_every_body closing (walked_before (further z a.value)) b) (report_on_block includes_every_body closing (walk_with_declarations (walked_now z) q) b) (report_on_block wanted closing (walk_with_declarations (walked_now z) q) b)) (sym a.after) (again (further z a.value) start))
+  inside : (own closing : ℕ) (z : Both) (b d : Tree ℕ block) (x y : ℕ) (g : KnownHeading) → SameName c x y
+      → ((v : Both) → Were (report_on_block includes_every_body own (walked_before v) b).known → With (report_on_block includes_every_body own (walked_before v) b) (report_on_block includes_every_body closing (walked_now v) d) (report_on_block wanted closing (walked_now v) d))
+      → Were (report_on_block includes_every_body own (walk_with_declarations (walked_before z) (declarations_after_heading x (heading_old c g))) b).known
+      → With (report_on_block includes_every_body own (walk_with_declarations (walked_before z) (declarations_after_heading x (heading_old c g))) b) (report_on_block includes_every_body closing (walk_with_declarations (walked_now z) (declarations_after_heading y (heading_new c g))) d)
+      (report_on_block wanted closing (walk_with_declarations (walked_now z) (declarations_after_heading y (heading_new c g))) d)
+  inside own closing z b d x y g named again were =
+      let a = heading_after c x y g named in
+      let last : KnownDeclarations = declarations_after_heading y (heading_new c g) in
+      let start : Were (report_on_block includes_every_body own (walked_before (further z a.value)) b).known = subst (λ q. Were (report_on_block includes_every_body own (walk_with_declarations (walked_before z) q) b).known) a.before were in
+      subst (λ q. With (report_on_block includes_every_body own (walk_with_declarations (walked_before z) q) b) (report_on_block includes_every_body closing (walk_with_declarations (walked_now z) last) d) (report_on_block wanted closing (walk_with_declarations (walked_now z) last) d)) (sym a.before)
+      (subst (λ q. With (report_on_block includes_every_body own (walked_before (further z a.value)) b) (report_on_block includes_every_body closing (walk_with_declarations (walked_now z) q) d) (report_on_block wanted closing (walk_with_declarations (walked_now z) q) d)) (sym a.after) (again (further z a.value) start))
 
   mutual
     unfolding report_on_block
 
-    block_one : (own : ℕ) (z : Both) (b : Tree ℕ block) → HoldsOutsideBodiesOfBlock P wanted own b → Were (report_on_block includes_every_body own (walked_before z) b).known
-        → With (report_on_block includes_every_body own (walked_before z) b) (report_on_block includes_every_body own (walked_now z) b) (report_on_block wanted own (walked_now z) b)
-    block_one own z (forms_block (declares cs ts vs ps) a) h =
+    block_one : (own closing : ℕ) (z : Both) (b d : Tree ℕ block) → Same c (block_without_bodies left_out own b) (block_without_bodies wanted closing d) → Were (report_on_block includes_every_body own (walked_before z) b).known
+        → With (report_on_block includes_every_body own (walked_before z) b) (report_on_block includes_every_body closing (walked_now z) d) (report_on_block wanted closing (walked_now z) d)
+    block_one own closing z (forms_block (declares cs ts vs ps) a) (forms_block (declares ds us ws qs) e) h =
+        let parts = block_parts_same c cs ds ts us vs ws (procedures_without_bodies left_out ps) (procedures_without_bodies wanted qs) (if left_out own then none else a) (if wanted closing then none else e) h in
         one_then nothing_of Were (λ q. report_on_type_declarations q (section_types ts) >>= (λ r. report_on_variable_declarations r (section_variables vs) >>= (λ s. report_on_procedures includes_every_body (walk_with_declarations (walked_before z) s) ps >>= (λ t. report_body_if_wanted true own t a))))
-        (λ q. report_on_type_declarations q (section_types ts) >>= (λ r. report_on_variable_declarations r (section_variables vs) >>= (λ s. report_on_procedures includes_every_body (walk_with_declarations (walked_now z) s) ps >>= (λ t. report_body_if_wanted true own t a))))
-        (λ q. report_on_type_declarations q (section_types ts) >>= (λ r. report_on_variable_declarations r (section_variables vs) >>= (λ s. report_on_procedures wanted (walk_with_declarations (walked_now z) s) ps >>= (λ t. report_body_if_wanted (wanted own) own t a))))
-        (λ x k. tt) (λ k. of_alike (constants_same old new os ns P w z.so (section_constants cs) (constants_each old new os ns P w cs h.0)))
+        (λ q. report_on_type_declarations q (section_types us) >>= (λ r. report_on_variable_declarations r (section_variables ws) >>= (λ s. report_on_procedures includes_every_body (walk_with_declarations (walked_now z) s) qs >>= (λ t. report_body_if_wanted true closing t e))))
+        (λ q. report_on_type_declarations q (section_types us) >>= (λ r. report_on_variable_declarations r (section_variables ws) >>= (λ s. report_on_procedures wanted (walk_with_declarations (walked_now z) s) qs >>= (λ t. report_body_if_wanted (wanted closing) closing t e))))
+        (λ x k. tt) (λ k. of_alike (constant_section_same c z.so cs ds parts.0))
         (λ q.
         one_then nothing_of Were (λ r. report_on_variable_declarations r (section_variables vs) >>= (λ s. report_on_procedures includes_every_body (walk_with_declarations (walked_before z) s) ps >>= (λ t. report_body_if_wanted true own t a)))
-        (λ r. report_on_variable_declarations r (section_variables vs) >>= (λ s. report_on_procedures includes_every_body (walk_with_declarations (walked_now z) s) ps >>= (λ t. report_body_if_wanted true own t a)))
-        (λ r. report_on_variable_declarations r (section_variables vs) >>= (λ s. report_on_procedures wanted (walk_with_declarations (walked_now z) s) ps >>= (λ t. report_body_if_wanted (wanted own) own t a)))
-        (λ x k. tt) (λ k. of_alike (types_same old new os ns P w q (section_types ts) (types_each old new os ns P w ts h.1)))
+        (λ r. report_on_variable_declarations r (section_variables ws) >>= (λ s. report_on_procedures includes_every_body (walk_with_declarations (walked_now z) s) qs >>= (λ t. report_body_if_wanted true closing t e)))
+        (λ r. report_on_variable_declarations r (section_variables ws) >>= (λ s. report_on_procedures wanted (walk_with_declarations (walked_now z) s) qs >>= (λ t. report_body_if_wanted (wanted closing) closing t e)))
+        (λ x k. tt) (λ k. of_alike (type_section_same c q ts us parts.1))
         (λ r.
-        one_then nothing_of Were (λ s. report_on_procedures includes_every_body (walk_with_declarations (walked_before z) s) ps >>= (λ t. report_body_if_wanted true own t a)) (λ s. report_on_procedures includes_every_body (walk_with_declarations (walked_now z) s) ps >>= (λ t. report_body_if_wanted true own t a))
-        (λ s. report_on_procedures wanted (walk_with_declarations (walked_now z) s) ps >>= (λ t. report_body_if_wanted (wanted own) own t a))
-        (λ x k. tt) (λ k. of_alike (variables_same old new os ns P w r (section_variables vs) (variables_each old new os ns P w vs h.2)))
+        one_then nothing_of Were (λ s. report_on_procedures includes_every_body (walk_with_declarations (walked_before z) s) ps >>= (λ t. report_body_if_wanted true own t a)) (λ s. report_on_procedures includes_every_body (walk_with_declarations (walked_now z) s) qs >>= (λ t. report_body_if_wanted true closing t e))
+        (λ s. report_on_procedures wanted (walk_with_declarations (walked_now z) s) qs >>= (λ t. report_body_if_wanted (wanted closing) closing t e))
+        (λ x k. tt) (λ k. of_alike (variable_section_same c r vs ws parts.2))
         (λ s.
-        one_then Were Were (λ t. report_body_if_wanted true own t a) (λ t. report_body_if_wanted true own t a) (λ t. report_body_if_wanted (wanted own) own t a)
-        (λ t k. faulty_before wanted (body_faults t.so_far a) own t.bodies_with_faults k)
-        (procedures_one (further z s) ps h.3) (λ y. body_with own y a h.4))))
+        one_then Were Were (λ t. report_body_if_wanted true own t a) (λ t. report_body_if_wanted true closing t e) (λ t. report_body_if_wanted (wanted closing) closing t e)
+        (λ t k. faulty_before left_out (body_faults t.so_far a) own t.bodies_with_faults k)
+        (procedures_one (further z s) ps qs parts.3) (λ y. body_with own closing y a e parts.4))))
 
-    procedures_one : (z : Both) (ps : Tree ℕ (items procedure)) → HoldsOutsideBodiesOfProcedures P wanted ps → Were (report_on_procedures includes_every_body (walked_before z) ps).known
-        → With (report_on_procedures includes_every_body (walked_before z) ps) (report_on_procedures includes_every_body (walked_now z) ps) (report_on_procedures wanted (walked_now z) ps)
-    procedures_one z end h were = record { value = z; before = refl; after = refl; same = refl }
-    procedures_one z (more d rest) h were =
-        one_then Were Were (λ v. report_on_procedures includes_every_body v rest) (λ v. report_on_procedures includes_every_body v rest) (λ v. report_on_procedures wanted v rest)
-        (λ v k. before_procedures wanted v rest k)
-        (procedure_one z d h.0) (λ y. procedures_one y rest h.1) were
+    procedures_one : (z : Both) (ps qs : Tree ℕ (items procedure)) → Same c (procedures_without_bodies left_out ps) (procedures_without_bodies wanted qs) → Were (report_on_procedures includes_every_body (walked_before z) ps).known
+        → With (report_on_procedures includes_every_body (walked_before z) ps) (report_on_procedures includes_every_body (walked_now z) qs) (report_on_procedures wanted (walked_now z) qs)
+    procedures_one z end end h were = record { value = z; before = refl; after = refl; same = refl }
+    procedures_one z (more d rest) (more f others) h were =
+        one_then Were Were (λ v. report_on_procedures includes_every_body v rest) (λ v. report_on_procedures includes_every_body v others) (λ v. report_on_procedures wanted v others)
+        (λ v k. before_procedures left_out v rest k)
+        (procedure_one z d f (first_equal h)) (λ y. procedures_one y rest others (further_equal h)) were
+    procedures_one z end (more f others) h were = absurd (end_not_more h)
+    procedures_one z (more d rest) end h were = absurd (end_not_more (sym h))
 
-    procedure_one : (z : Both) (d : Tree ℕ (item procedure)) → HoldsOutsideBodiesOfProcedure P wanted d → Were (report_on_procedure includes_every_body (walked_before z) d).known
-        → With (report_on_procedure includes_every_body (walked_before z) d) (report_on_procedure includes_every_body (walked_now z) d) (report_on_procedure wanted (walked_now z) d)
-    procedure_one z (declares_procedure x fs b closing) h =
-        one_then nothing_of Were (λ g. report_on_block includes_every_body closing (walk_with_declarations (walked_before z) (declarations_after_heading x g)) b) (λ g. report_on_block includes_every_body closing (walk_with_declarations (walked_now z) (declarations_after_heading x g)) b)
-        (λ g. report_on_block wanted closing (walk_with_declarations (walked_now z) (declarations_after_heading x g)) b)
-        (λ x k. tt) (λ k. of_alike (sections_same old new os ns P w (record { formals = []; following = z.so }) (formal_parameter_sections fs) (formals_each old new os ns P w fs h.1)))
-        (λ g. inside closing z b x g h.0 (λ y. block_one closing y b h.2))
+    procedure_one : (z : Both) (d f : Tree ℕ (item procedure)) → Same c (procedure_without_bodies left_out d) (procedure_without_bodies wanted f) → Were (report_on_procedure includes_every_body (walked_before z) d).known
+        → With (report_on_procedure includes_every_body (walked_before z) d) (report_on_procedure includes_every_body (walked_now z) f) (report_on_procedure wanted (walked_now z) f)
+    procedure_one z (declares_procedure x fs b closing) (declares_procedure y gs d last) h =
+        let parts = procedure_parts_same c x y fs gs (block_without_bodies left_out closing b) (block_without_bodies wanted last d) closing last h in
+        one_then nothing_of Were (λ g. report_on_block includes_every_body closing (walk_with_declarations (walked_before z) (declarations_after_heading x g)) b) (λ g. report_on_block includes_every_body last (walk_with_declarations (walked_now z) (declarations_after_heading y g)) d)
+        (λ g. report_on_block wanted last (walk_with_declarations (walked_now z) (declarations_after_heading y g)) d)
+        (λ x k. tt) (λ k. of_alike (heads_same c z.so fs gs parts.1))
+        (λ g. inside closing last z b d x y g parts.0 (λ v. block_one closing last v b d parts.2))
+
+-- ---- the number of declarations
+
+-- A module without some bodies declares as many names.
+mutual
+  counted_block : (left_out : ℕ → Bool) (own k : ℕ) (b : Tree ℕ block) → ordinal_after_block k (block_without_bodies left_out own b) ≡ ordinal_after_block k b
+  counted_block left_out own k (forms_block (declares cs ts vs ps) a) =
+      counted_procedures left_out (ordinal_after_names (ordinal_after_names (ordinal_after_names k (constant_names (section_constants cs))) (declared_type_names (section_types ts))) (variable_names (section_variables vs))) ps
+
+  counted_procedures : (left_out : ℕ → Bool) (k : ℕ) (ps : Tree ℕ (items procedure)) → ordinal_after_procedure_list k (procedures_without_bodies left_out ps) ≡ ordinal_after_procedure_list k ps
+  counted_procedures left_out k end = refl
+  counted_procedures left_out k (more p rest) =
+      counted_procedures left_out (ordinal_after_procedure (suc k) (procedure_without_bodies left_out p)) rest ∙ ap (λ i. ordinal_after_procedure_list i rest) (counted_procedure left_out (suc k) p)
+
+  counted_procedure : (left_out : ℕ → Bool) (k : ℕ) (p : Tree ℕ (item procedure)) → ordinal_after_procedure k (procedure_without_bodies left_out p) ≡ ordinal_after_procedure k p
+  counted_procedure left_out k (declares_procedure x fs b closing) = counted_block left_out closing (ordinal_after_names k (formal_parameter_names (formal_parameter_sections fs))) b
+
+-- returns no meaning for each declaration
+abbrev no_meanings : List ℕ → List (Option (Meaning TypeId))
+no_meanings xs = map (λ token. None) xs
+
+same_no_meanings : (xs ys : List ℕ) → length xs ≡ length ys → no_meanings xs ≡ no_meanings ys
+same_no_meanings [] [] e = refl
+same_no_meanings [] (y ∷ ys) e = absurd (omega (arith, e))
+same_no_meanings (x ∷ xs) [] e = absurd (omega (arith, e))
+same_no_meanings (x ∷ xs) (y ∷ ys) e = ap (λ ms. None ∷ ms) (same_no_meanings xs ys (omega (arith, e)))
 
 -- ---- a module
 
 abbrev pub closing_of : Tree ℕ module_text → ℕ
 closing_of (forms_module x b closing) = closing
 
+-- returns the texts of two modules, compared by bindings, spellings and values
+abbrev modules_compared : Resolution → Resolution → TwoTexts
+modules_compared old new = record {
+  old = old.module_read.source;
+  new = new.module_read.source;
+  old_ordinals = old.ordinals;
+  new_ordinals = new.ordinals;
+  Label = Option ℕ × Name;
+  old_label = ordinal_and_spelling_at_token old.module_read.source old.ordinals;
+  new_label = ordinal_and_spelling_at_token new.module_read.source new.ordinals;
+  old_number = token_value_at old.module_read.source;
+  new_number = token_value_at new.module_read.source;
+  Near = λ k j. Unit {0};
+  written = λ k j e. ap (λ (p : Option ℕ × Name). p.1) (sym e);
+  bound = λ k j e. ap (λ (p : Option ℕ × Name). p.0) (sym e);
+  name_near = λ k j e. tt;
+  value = λ k j e. sym e;
+  number_near = λ k j e. tt;
+  first_near = tt;
+  earlier = λ k j e. tt;
+  later = λ k j e. tt;
+}
+
 module _ (wanted : ℕ → Bool) (r : Resolution) (is : IsResolution r) (w : IncludesChangedAndFaultyBodies wanted r) where
-  abbrev old : Resolution
-  old = w.old
+  abbrev texts : TwoTexts
+  texts = modules_compared w.old r
 
   abbrev old_block : Tree ℕ block
-  old_block = module_block (tree_of old.module_read)
+  old_block = module_block (tree_of w.old.module_read)
 
-  likeness : Alikeness old.module_read.source r.module_read.source old.ordinals r.ordinals (IsSameTokenAt old r)
-  likeness = record { count = w.alike.count; written = λ k h. h.written; value = λ k h. h.value; bound = λ k h. h.bound }
+  abbrev new_block : Tree ℕ block
+  new_block = module_block (tree_of r.module_read)
+
+  blocks_same : Same texts (block_without_bodies w.left_out w.old.module_read.closing old_block) (block_without_bodies wanted r.module_read.closing new_block)
+  blocks_same = ap module_block (sym w.equal)
 
   abbrev start : Both
-  start = record { so = known_declarations_at_module_start old; in_old = []; in_new = [] }
+  start = record { so = known_declarations_at_module_start w.old; in_old = []; in_new = [] }
 
   abbrev at_start : WalkProgress
-  at_start = record { so_far = so_over r.module_read.source r.ordinals (known_declarations_at_module_start old); bodies_with_faults = [] }
+  at_start = record { so_far = so_over r.module_read.source r.ordinals (known_declarations_at_module_start w.old); bodies_with_faults = [] }
 
-  one : One (walked_before old.module_read.source r.module_read.source old.ordinals r.ordinals (IsSameTokenAt old r) likeness wanted) (walked_now old.module_read.source r.module_read.source old.ordinals r.ordinals (IsSameTokenAt old r) likeness wanted)
-      (report_on_module includes_every_body old) (report_on_block includes_every_body old.module_read.closing at_start old_block) (report_on_block wanted old.module_read.closing at_start old_block)
-  one = block_one old.module_read.source r.module_read.source old.ordinals r.ordinals (IsSameTokenAt old r) likeness wanted old.module_read.closing start old_block w.alike.alike.1 w.bodies_with_faults
+  one_walk : One (walked_before texts w.left_out wanted) (walked_now texts w.left_out wanted) (report_on_module includes_every_body w.old) (report_on_block includes_every_body r.module_read.closing at_start new_block) (report_on_block wanted r.module_read.closing at_start new_block)
+  one_walk = block_one texts w.left_out wanted w.old.module_read.closing r.module_read.closing start old_block new_block blocks_same w.bodies_with_faults
 
-  as_read : (test : ℕ → Bool) → report_on_module test r ≡ report_on_block test old.module_read.closing at_start old_block
+  as_many : length r.declaration_tokens ≡ length w.old.declaration_tokens
+  as_many =
+      let new_left = block_without_bodies wanted r.module_read.closing new_block in
+      let old_left = block_without_bodies w.left_out w.old.module_read.closing old_block in
+      let same : ordinal_after_block 7 new_block ≡ ordinal_after_block 7 old_block =
+      sym (counted_block wanted r.module_read.closing 7 new_block)
+      ∙ (sym (ordinal_after_block-mapped_tree texts.new_label texts.new_number 7 7 refl new_left)
+      ∙ (sym (ap (ordinal_after_block 7) blocks_same)
+      ∙ (ordinal_after_block-mapped_tree texts.old_label texts.old_number 7 7 refl old_left ∙ counted_block w.left_out w.old.module_read.closing 7 old_block))) in
+      omega (arith, same, module_counted r is, module_counted w.old w.resolved)
+
+  as_read : (test : ℕ → Bool) → report_on_module test r ≡ report_on_block test r.module_read.closing at_start new_block
   as_read test =
-      let tree = w.alike.tree in
-      let declared : r.declaration_tokens ≡ old.declaration_tokens = is.declaring ∙ (ap (λ t. declaring_names (identifiers role.DeclaringName t)) tree ∙ sym w.resolved.declaring) in
-      let first : known_declarations_at_module_start r ≡ so_over r.module_read.source r.ordinals (known_declarations_at_module_start old) = ap (λ (ds : List ℕ). record { source = r.module_read.source; ordinals = r.ordinals; declared = predeclared_meanings ++ map (λ token. None) ds; made = [] }) declared in
-      let own : r.module_read.closing ≡ old.module_read.closing = ap closing_of tree in
-      λ i. report_on_block test (own i) (record { so_far = first i; bodies_with_faults = [] }) (module_block (tree i))
+      let nothing = same_no_meanings r.declaration_tokens w.old.declaration_tokens as_many in
+      λ i. report_on_block test r.module_read.closing (record { so_far = record { source = r.module_read.source; ordinals = r.ordinals; declared = predeclared_meanings ++ nothing i; made = [] }; bodies_with_faults = [] }) new_block
 
 pub walking_changed_and_faulty_bodies_suffices : WalkingChangedAndFaultyBodiesSuffices
-walking_changed_and_faulty_bodies_suffices wanted r is w = as_read wanted r is w wanted ∙ (sym (one wanted r is w).same ∙ sym (as_read wanted r is w includes_every_body))
+walking_changed_and_faulty_bodies_suffices wanted r is w = as_read wanted r is w wanted ∙ (sym (one_walk wanted r is w).same ∙ sym (as_read wanted r is w includes_every_body))
 
 -- All faulty bodies of the new text are among the wanted bodies.
 pub faulty_stay : (wanted : ℕ → Bool) (r : Resolution) → IsResolution r → IncludesChangedAndFaultyBodies wanted r → AllClosingNamesPass wanted (faulty_bodies r)

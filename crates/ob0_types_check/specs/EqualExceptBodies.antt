@@ -1,60 +1,49 @@
--- Defines when two modules have the same tree, and the same tokens except in certain bodies.
--- Rule: none; used in contracts about a module in which the names and numbers of some bodies changed.
-use Rattle.std.specs.Prelude.{◌≡◌, ℕ, Bool, true, false, length}
+-- Defines when two modules are equal except in certain bodies. The modules may differ in the indexes
+-- of their tokens.
+-- Rule: none; used in contracts about a module in which some bodies changed.
+use Rattle.std.specs.Prelude.{◌≡◌, ℕ, Bool, Option, if◌then◌else◌}
 use Rattle.ob0_tree.specs.ParsedModule.{tree_of}
-use Rattle.ob0_tree.specs.TokenIndexLeaves.{token_text_at, token_value_at}
-use Rattle.ob0_tree.specs.Tree.{Tree, block, declares, declares_procedure, end, forms_block, forms_module, item, items, module_text, more, procedure}
-use Rattle.ob0_scope_table.specs.TokenProperty.{EachTokenSatisfies}
-use Rattle.ob0_scope_table.specs.Resolution.{Resolution, ordinal_in}
+use Rattle.ob0_tree.specs.TokenIndexLeaves.{token_value_at}
+use Rattle.ob0_tree.specs.Tree.{Sort, Tree, block, declares, declares_procedure, end, forms_block, forms_module, item, items, mapped_tree, module_text, more, none, procedure}
+use Rattle.ob0_language_names.specs.Names.{Name}
+use Rattle.ob0_scope_table.specs.Resolution.{Resolution, ordinal_and_spelling_at_token}
 
--- states the proposition `A` if the Bool is false, and nothing if the Bool is true
-abbrev pub HoldsUnless : Bool → Type 0 → Type 0
-HoldsUnless true A = Unit {0}
-HoldsUnless false A = A
-
--- States that each token of a tree has the property `P`, except in the statements of some blocks.
--- These are the blocks whose closing names pass the test `left_out`. `own` is the token of a
--- block's closing name.
+-- Returns a tree without the statements of some blocks. These are the blocks whose closing names
+-- pass the test `left_out`.
 abbrev mutual
-  -- states that each token of a block has the property `P`, except in statements of blocks whose
-  -- closing names pass `left_out`
-  pub HoldsOutsideBodiesOfBlock : (ℕ → Type 0) → (ℕ → Bool) → ℕ → Tree ℕ block → Type 0
-  HoldsOutsideBodiesOfBlock P left_out own (forms_block (declares cs ts vs ps) statements) =
-      EachTokenSatisfies P cs
-      × EachTokenSatisfies P ts
-      × EachTokenSatisfies P vs
-      × HoldsOutsideBodiesOfProcedures P left_out ps
-      × HoldsUnless (left_out own) (EachTokenSatisfies P statements)
+  -- returns a block without these statements; `own` is the block's closing name
+  pub block_without_bodies : (ℕ → Bool) → ℕ → Tree ℕ block → Tree ℕ block
+  block_without_bodies left_out own (forms_block (declares cs ts vs ps) statements) =
+      forms_block (declares cs ts vs (procedures_without_bodies left_out ps)) (if left_out own then none else statements)
 
-  -- states that each token of these procedures has the property `P`, except in statements of blocks
-  -- whose closing names pass `left_out`
-  pub HoldsOutsideBodiesOfProcedures : (ℕ → Type 0) → (ℕ → Bool) → Tree ℕ (items procedure) → Type 0
-  HoldsOutsideBodiesOfProcedures P left_out end = Unit {0}
-  HoldsOutsideBodiesOfProcedures P left_out (more p rest) =
-      HoldsOutsideBodiesOfProcedure P left_out p × HoldsOutsideBodiesOfProcedures P left_out rest
+  -- returns a list of procedures without these statements
+  pub procedures_without_bodies : (ℕ → Bool) → Tree ℕ (items procedure) → Tree ℕ (items procedure)
+  procedures_without_bodies left_out end = end
+  procedures_without_bodies left_out (more p ps) =
+      more (procedure_without_bodies left_out p) (procedures_without_bodies left_out ps)
 
-  -- states that each token of a procedure has the property `P`, except in statements of blocks
-  -- whose closing names pass `left_out`
-  pub HoldsOutsideBodiesOfProcedure : (ℕ → Type 0) → (ℕ → Bool) → Tree ℕ (item procedure) → Type 0
-  HoldsOutsideBodiesOfProcedure P left_out (declares_procedure x fs b closing) =
-      P x × EachTokenSatisfies P fs × HoldsOutsideBodiesOfBlock P left_out closing b × P closing
+  -- returns a procedure without these statements
+  pub procedure_without_bodies : (ℕ → Bool) → Tree ℕ (item procedure) → Tree ℕ (item procedure)
+  procedure_without_bodies left_out (declares_procedure x fs b closing) =
+      declares_procedure x fs (block_without_bodies left_out closing b) closing
 
--- states that each token of a module has the property `P`, except in statements of blocks whose
--- closing names pass `left_out`
-abbrev pub HoldsOutsideBodiesOfModule : (ℕ → Type 0) → (ℕ → Bool) → Tree ℕ module_text → Type 0
-HoldsOutsideBodiesOfModule P left_out (forms_module x b closing) = P x × HoldsOutsideBodiesOfBlock P left_out closing b × P closing
+-- returns a module without the statements of the blocks whose closing names pass the test
+-- `left_out`
+abbrev pub module_without_bodies : (ℕ → Bool) → Tree ℕ module_text → Tree ℕ module_text
+module_without_bodies left_out (forms_module x b closing) =
+    forms_module x (block_without_bodies left_out closing b) closing
 
--- states that a token has the same spelling and value in both modules, and is bound to the same
--- declaration in both
-pub record IsSameTokenAt (old new : Resolution) (token : ℕ) : Type 0 where
-  pub written : token_text_at new.module_read.source token ≡ token_text_at old.module_read.source token
-  pub value : token_value_at new.module_read.source token ≡ token_value_at old.module_read.source token
-  pub bound : ordinal_in new.ordinals token ≡ ordinal_in old.ordinals token
+-- Returns a part of a module with the ordinal and the spelling of each identifier, and with the
+-- value of each number, in place of their tokens.
+abbrev pub tree_with_bindings : {s : Sort} → Resolution → Tree ℕ s → Tree (Option ℕ × Name) s
+tree_with_bindings r t =
+    mapped_tree (ordinal_and_spelling_at_token r.module_read.source r.ordinals) (token_value_at r.module_read.source) t
 
--- States that two modules have the same tree and the same number of tokens, and that each token is
--- the same in both (`IsSameTokenAt`). Tokens may differ in the statements of the blocks whose
--- closing names pass the test `left_out`.
-pub record AreEqualExceptInBodies (left_out : ℕ → Bool) (old new : Resolution) : Type 0 where
-  pub tree : tree_of new.module_read ≡ tree_of old.module_read
-  pub count : length new.module_read.source.tokens ≡ length old.module_read.source.tokens
-  pub alike : HoldsOutsideBodiesOfModule (IsSameTokenAt old new) left_out (tree_of old.module_read)
+-- States that two modules are equal except in some bodies: without these bodies, both have the same
+-- tree with bindings (`tree_with_bindings`). The bodies left out are the statements of the blocks
+-- of `old` whose closing names pass the test `old_left_out`, and of the blocks of `new` whose
+-- closing names pass the test `new_left_out`.
+abbrev pub AreEqualExceptInBodies : (old_left_out new_left_out : ℕ → Bool) → (old new : Resolution) → Type 0
+AreEqualExceptInBodies old_left_out new_left_out old new =
+    tree_with_bindings new (module_without_bodies new_left_out (tree_of new.module_read))
+    ≡ tree_with_bindings old (module_without_bodies old_left_out (tree_of old.module_read))

@@ -13,4 +13,3 @@ pub mod WellTypedLaws
 pub mod ModuleLaws
 pub mod EqualExceptBodies
 pub mod WalksOverSomeBodies
-pub mod TypeCheckWithoutBody

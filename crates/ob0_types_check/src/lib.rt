@@ -10,6 +10,4 @@
 pub mod laws;
 mod reporting;
 
-pub use reporting::{
-    ModuleReport, module_report, module_report_walking_one_body, module_report_walking_some_bodies,
-};
+pub use reporting::{ModuleReport, module_report, module_report_walking_some_bodies};

@@ -40,15 +40,12 @@
 //! `next_token_index` returns the index unchanged. A token that doesn't exist counts as the last
 //! token (`fault_with_span`), so every fault has a span.
 //!
-//! A body declares nothing. So if only the tokens of one body changed, the types and meanings known
-//! everywhere else are unchanged. Any other body that had no faults still has none
-//! (`walking_changed_and_faulty_bodies_suffices`). `module_report_walking_some_bodies` therefore
-//! walks the declarations, the changed body and the bodies that had faults, and skips all others.
-//! The report lists the bodies with faults, for the next change.
-//!
-//! Suppose that the statements of one body were replaced, and the module passes the type check
-//! without them. Then only these statements can have faults (`NewBody` of the proofs).
-//! `module_report_walking_one_body` walks the declarations and that body.
+//! A body declares nothing. So if only some bodies changed, the types and meanings known everywhere
+//! else are unchanged, even if the tokens there have other indexes now. Any other body that had no
+//! faults still has none (`walking_changed_and_faulty_bodies_suffices`).
+//! `module_report_walking_some_bodies` therefore walks the declarations, the changed bodies and the
+//! bodies that had faults, and skips all others. The report lists the bodies with faults, for the
+//! next change.
 //!
 //! The ordinal of a word ARRAY or RECORD is the number of words ARRAY and RECORD before it in the
 //! text. The walk doesn't count these words. Each word makes one type, and inner types are made
@@ -71,7 +68,6 @@ ghost use Rattle.std.specs.Prelude.{◌≡◌, ◌++◌, [], IfOk, OnOk, map, op
 ghost use Rattle.std.specs.List.{filter};
 ghost use Rattle.ob0_scope_table.specs.Resolution.{is_undeclared_fault};
 ghost use Rattle.ob0_types_table.specs.DeclarationTableView.{AreValidEntries};
-ghost use Rattle.ob0_types_check.specs.TypeCheckWithoutBody.{PassesTypeCheckWithoutBody};
 ghost use Rattle.ob0_types_check.specs.KnownDeclarations.{known_declarations_at_module_start};
 ghost use Rattle.ob0_types_check.specs.DeclarationFaults.{includes_every_body, report_on_module};
 ghost use Rattle.ob0_types_check.specs.WalksOverSomeBodies.{IsFinishedWalk, IsReportOfModule, IncludesChangedAndFaultyBodies, is_body_in_list, includes_body};
@@ -137,9 +133,9 @@ pub fn module_report<'t>(
 
 /// Returns the same report as `module_report`, after a change of the module's text, but walks only
 /// the declarations and the bodies in the list `bodies`. Each body in the list is given by the
-/// token of its block's closing name. The change must keep the module's tree and the number of
-/// tokens. The tokens, with their bindings, may differ only in the listed bodies. The list must
-/// also include every body that had a type fault before the change.
+/// token of its block's closing name. Without the listed bodies, the module must be equal to the
+/// older one without the bodies that changed and those that had a type fault. Only the indexes of
+/// tokens may differ.
 pub fn module_report_walking_some_bodies<'t>(
     alloc: Global,
     resolved: &'t Resolved<'t>,
@@ -156,27 +152,6 @@ pub fn module_report_walking_some_bodies<'t>(
         listed_bodies: bodies,
     };
     module_report_walking_wanted_bodies(alloc, resolved, &wanted)
-}
-
-/// Returns the same report as `module_report`, but walks only the declarations and the statements
-/// of one block. `closing` is the token of this block's closing name. Without these statements, the
-/// module must pass the type check.
-pub fn module_report_walking_one_body<'t>(
-    alloc: Global,
-    resolved: &'t Resolved<'t>,
-    closing: usize,
-) -> Result<ModuleReport, AllocError>
-    requires { PassesTypeCheckWithoutBody resolved.now closing }
-    ensures { IfOk result (IsReportOfModule resolved.now) }
-{
-    // The proof needs this call: its contract states the module's invariant.
-    let _module = resolved.module();
-    let bodies = [closing];
-    let only = BodiesToWalk {
-        includes_every_body: false,
-        listed_bodies: &bodies,
-    };
-    module_report_walking_wanted_bodies(alloc, resolved, &only)
 }
 
 /// Returns the report of a module, but walks only the declarations, and the bodies that `wanted`

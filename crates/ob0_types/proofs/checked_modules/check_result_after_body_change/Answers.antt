@@ -1,13 +1,5 @@
-use Rattle.std.proofs.Common.{[], ◌∷◌, ◌++◌, sym, ap, ◌∙◌, subst}
-use Rattle.ob0_tree.specs.ParsedModule.{tree_of}
-use Rattle.ob0_types_check.specs.WalksOverSomeBodies.{IncludesChangedAndFaultyBodies, is_body_in_list}
-use Rattle.ob0_types.specs.OneBody.{OneBody, body_with_token_in_module}
 use Rattle.ob0_types.proofs.OneBody.{were_faulty}
 use Rattle.ob0_types.proofs.checked_modules.check_result_after_body_change.Goals as goal
 
-pub module_report_walking_some_bodies-requires : goal.module_report_walking_some_bodies-requires
-module_report_walking_some_bodies-requires c =
-    let r = c.args.resolved.now in
-    let last = ap (λ (b : OneBody). b.closing) (c.body_with_token_in_module-body.ensures ∙ ap (λ m. body_with_token_in_module c.args.low (tree_of m)) c.module.ensures.value) in
-    let bodies = c.as_slice.ensures.value ∙ (c.in_ok-push.ensures.items ∙ (λ i. c.args.before.bodies_with_faults.items ++ last i ∷ [])) in
-    subst (λ found. IncludesChangedAndFaultyBodies (is_body_in_list found) r) (sym bodies) (were_faulty r c.args.before c.args.low c.requires c.module.ensures.resolved)
+pub check_result_walking_bodies-requires : goal.check_result_walking_bodies-requires
+check_result_walking_bodies-requires c = were_faulty c.args.resolved.now c.args.before c.args.low c.requires c.module-module.ensures.resolved
