@@ -51,18 +51,18 @@ ob0_tree/proofs: AscendingNumbers Firsts
 ob0_tree/specs: FirstIdentifier
 ob0_tree/src: first_identifiers
 ob0_tree/src/tree: into_block into_procedures
-ob0_types/proofs: BodyFound NewBody OneBody SameSpellings
+ob0_types/proofs: OneBody SameSpellings
 ob0_types/proofs/Among: among_further among_last
 ob0_types/specs: NewBody SameSpellings
 ob0_types/specs/OneBody: IsCheckResultBeforeBodyChange module_with_source
 ob0_types/src/checked_modules: check_result_after_body_change check_result_after_body_replacement
 ob0_types/src/laws: check_result_depends_only_on_spellings
-ob0_types_check/proofs: NewBody SameFaults SameModules WalksOverSomeBodies WithoutNames
-ob0_types_check/specs: EqualExceptBodies TypeCheckWithoutBody
+ob0_types_check/proofs: SameFaults SameModules WalksOverSomeBodies
+ob0_types_check/specs: EqualExceptBodies
 ob0_types_check/specs/WalksOverSomeBodies: AllClosingNamesPass IncludesChangedAndFaultyBodies
 ob0_types_check/specs/WalksOverSomeBodies: WalkingChangedAndFaultyBodiesSuffices faulty_bodies includes_body is_body_in_list
 ob0_types_check/src/laws: walking_changed_and_faulty_bodies_suffices
-ob0_types_check/src/reporting: includes_body module_report_walking_one_body module_report_walking_some_bodies
+ob0_types_check/src/reporting: includes_body module_report_walking_some_bodies
 """
 
 # The functions that look in a tree for the body that contains a token.
