@@ -2,7 +2,8 @@
 -- tokens and comments between the two reused parts.
 use Rattle.std.proofs.Common.{◌≡◌, ℕ, zero, suc, ◌+◌, ◌-◌, ◌<◌, ◌≤◌, get_or, set, Bool, true, false, cond, List, [], ◌∷◌, ◌++◌, length, map, take, drop, refl, sym, ap, ap₂, ◌∙◌, subst, arith, append_assoc, length-drop, length-take-le, take-append-drop, drop_at, ltb}
 use Rattle.std.specs.List.{All, prefix_len, splice}
-use Rattle.std.proofs.lemmas.List.{take-append-le, set-append_right, get_or-append_right}
+use Rattle.std.proofs.lemmas.List.{append-nil, drop_all, length-append, take-append-le, take_all}
+use borrow.Rule.Slice.PartMut.{post_of}
 use Rattle.std.proofs.lemmas.List.Elements.{All-head, All-tail, All-same, All-weaker}
 use Rattle.std.proofs.lemmas.List.Folds.{length-prefix_len}
 use Rattle.std.proofs.lemmas.List.Sums.{prefix_len-le-length}
@@ -106,44 +107,29 @@ module _ (old : TextWithTokens) (o : IsScan old) (new : List ℕ) (from removed 
 
 -- ---- a list whose items are changed one by one from the beginning
 
-changed_there : {X : Type 0} (f : X → X) (xs : List X) (i n : ℕ) (d v : X) → i < length xs → n ≡ suc i → v ≡ f (get_or xs i d) → set (map f (take i xs) ++ drop i xs) i v ≡ map f (take n xs) ++ drop n xs
+pub changed_there : {X : Type 0} (f : X → X) (xs : List X) (i n : ℕ) (d v : X) → i < length xs → n ≡ suc i → v ≡ f (get_or xs i d) → set (map f (take i xs) ++ drop i xs) i v ≡ map f (take n xs) ++ drop n xs
 changed_there f [] i n d v less e w = absurd (omega (arith, less))
 changed_there f (x ∷ xs) zero n d v less e w = rw (e, w)
 changed_there f (x ∷ xs) (suc i) n d v less e w = ap (λ ys. f x ∷ ys) (changed_there f xs i (suc i) d v (omega (arith, less)) refl w) ∙ ap (λ k. map f (take k (x ∷ xs)) ++ drop k (x ∷ xs)) (sym e)
 
-unchanged_there : {X : Type 0} (f : X → X) (xs : List X) (i : ℕ) (d : X) → i < length xs → get_or (map f (take i xs) ++ drop i xs) i d ≡ get_or xs i d
+pub unchanged_there : {X : Type 0} (f : X → X) (xs : List X) (i : ℕ) (d : X) → i < length xs → get_or (map f (take i xs) ++ drop i xs) i d ≡ get_or xs i d
 unchanged_there f [] i d less = absurd (omega (arith, less))
 unchanged_there f (x ∷ xs) zero d less = refl
 unchanged_there f (x ∷ xs) (suc i) d less = unchanged_there f xs i d (omega (arith, less))
 
--- Holds if `now` is the list xs with f applied to the items from index `first` up to index `at`.
-pub record ChangedTo {X : Type 0} (f : X → X) (xs : List X) (first at : ℕ) (now : List X) : Type 0 where
-  pub following : first ≤ at
-  pub inside : at ≤ length xs
-  pub are : now ≡ take first xs ++ (map f (take (at - first) (drop first xs)) ++ drop (at - first) (drop first xs))
+-- If the items from index `k` on are replaced by as many others, `written_over` is a `Vec` of `n` items after that.
+abbrev pub written_over : {X : Type 0} → ℕ → ℕ → List X → List X → List X → List X
+written_over k n xs items new =
+    take n ((take k xs ++ (new ++ post_of k (length xs - k) xs)) ++ drop (length (take k xs ++ (new ++ post_of k (length xs - k) xs))) items)
 
-module _ {X : Type 0} (f : X → X) (xs : List X) (first : ℕ) (some : first ≤ length xs) where
-  left : length (take first xs) ≡ first
-  left = length-take-le first xs some
-
-  module _ (at : ℕ) (now : List X) (d : X) (inside : at < length xs) (c : ChangedTo f xs first at now) where
-    further : at - first < length (drop first xs)
-    further = omega (arith, length-drop first xs, c.following)
-
-    pub still : get_or now at d ≡ get_or (drop first xs) (at - first) d
-    still =
-        ap (λ ys. get_or ys at d) c.are
-        ∙ get_or-append_right (take first xs) (map f (take (at - first) (drop first xs)) ++ drop (at - first) (drop first xs)) first at d left c.following
-        ∙ unchanged_there f (drop first xs) (at - first) d further
-
-    pub changed_on : (v : X) → v ≡ f (get_or now at d) → ChangedTo f xs first (at + 1) (set now at v)
-    changed_on v w = record {
-      following = omega (arith, c.following);
-      inside = omega (arith, inside);
-      are = ap (λ ys. set ys at v) c.are
-          ∙ set-append_right (take first xs) (map f (take (at - first) (drop first xs)) ++ drop (at - first) (drop first xs)) first at v left c.following
-          ∙ ap (λ ys. take first xs ++ ys) (changed_there f (drop first xs) (at - first) (at + 1 - first) d v further (omega (arith, c.following)) (w ∙ ap f still));
-    }
+pub written_behind : {X : Type 0} (k n : ℕ) (xs items new : List X) → k ≤ length items → n ≡ length items → xs ≡ items → length new ≡ length xs - k → written_over k n xs items new ≡ take k items ++ new
+written_behind k n xs items new inside size same many =
+    let post : post_of k (length xs - k) xs ≡ [] = drop_all (length xs - k) (drop k xs) (omega (arith, length-drop k xs)) in
+    let held : take k xs ++ (new ++ post_of k (length xs - k) xs) ≡ take k items ++ new = ap₂ (λ us vs. take k us ++ vs) same (ap (λ us. new ++ us) post ∙ append-nil new) in
+    let long : length (take k items ++ new) ≡ n = omega (arith, length-append (take k items) new, length-take-le k items inside, many, size, ap length same, inside) in
+    ap (λ us. take n (us ++ drop (length us) items)) held
+    ∙ (ap (λ us. take n ((take k items ++ new) ++ us)) (drop_all (length (take k items ++ new)) items (omega (arith, long, size)))
+    ∙ (ap (take n) (append-nil (take k items ++ new)) ∙ take_all n (take k items ++ new) (omega (arith, long))))
 
 -- Replacing the items between two indexes of a list gives its front, the new items and its back.
 pub put_between : {X : Type 0} (xs ys zs us vs now : List X) (front following : ℕ) → front ≤ following → following ≤ length xs → ys ≡ take following xs ++ zs → now ≡ splice ys front following vs → vs ≡ us → now ≡ take front xs ++ (us ++ zs)

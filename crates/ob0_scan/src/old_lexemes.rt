@@ -273,7 +273,7 @@ pub(crate) fn splice_tokens(
         ++ (between.items
         ++ map (token_after_shift change.removed change.added) (drop old_end tokens.old.items))) }
 {
-    shift_tokens(tokens, old_end, change);
+    shift_tokens(&mut tokens[old_end..], change);
     tokens.splice(old_start..old_end, between)?;
     Ok(())
 }
@@ -296,41 +296,27 @@ pub(crate) fn splice_comments(
         ++ (between.items
         ++ map (span_after_shift change.removed change.added) (drop old_end comments.old.items))) }
 {
-    shift_comments(comments, old_end, change);
+    shift_comments(&mut comments[old_end..], change);
     comments.splice(old_start..old_end, between)?;
     Ok(())
 }
 
-/// Shifts the spans of the token with the index `first` and of all later tokens to their places in
-/// the changed text.
-fn shift_tokens(tokens: &mut Vec<Token>, first: usize, change: ReplacedRange)
-    requires inside { first ≤ length tokens.old.items }
-    requires movable { All (λ (t : Token). IsShiftable change.removed change.added t.span)
-        (drop first tokens.old.items) }
-    ensures { tokens.new.items
-        ≡ take first tokens.old.items
-        ++ map (token_after_shift change.removed change.added) (drop first tokens.old.items) }
+/// Shifts the spans of the tokens to their places in the changed text.
+fn shift_tokens(tokens: &mut [Token], change: ReplacedRange)
+    requires { All (λ (t : Token). IsShiftable change.removed change.added t.span) tokens.old }
+    ensures { tokens.new ≡ map (token_after_shift change.removed change.added) tokens.old }
 {
-    for index in first..tokens.len() {
-        let Token { kind, span } = tokens[index];
-        tokens[index] = Token {
-            kind,
-            span: change.span_after_shift(span),
-        };
+    for token in tokens.iter_mut() {
+        token.span = change.span_after_shift(token.span);
     }
 }
 
-/// Shifts the spans of the comment with the index `first` and of all later comments to their places
-/// in the changed text.
-fn shift_comments(comments: &mut Vec<Span>, first: usize, change: ReplacedRange)
-    requires inside { first ≤ length comments.old.items }
-    requires movable { All (λ (c : Span). IsShiftable change.removed change.added c)
-        (drop first comments.old.items) }
-    ensures { comments.new.items
-        ≡ take first comments.old.items
-        ++ map (span_after_shift change.removed change.added) (drop first comments.old.items) }
+/// Shifts the spans of the comments to their places in the changed text.
+fn shift_comments(comments: &mut [Span], change: ReplacedRange)
+    requires { All (λ (c : Span). IsShiftable change.removed change.added c) comments.old }
+    ensures { comments.new ≡ map (span_after_shift change.removed change.added) comments.old }
 {
-    for index in first..comments.len() {
-        comments[index] = change.span_after_shift(comments[index]);
+    for comment in comments.iter_mut() {
+        *comment = change.span_after_shift(*comment);
     }
 }

@@ -1,12 +1,15 @@
-use Rattle.std.proofs.Common.{ap, ◌∙◌, ◌<◌, length, arith}
+use Rattle.std.proofs.Common.{ap, ◌∙◌, ◌+◌, arith, slice_index_or, slice_set}
+use Rattle.ob0_scan.specs.declared.lexeme.Span.{Span}
 use Rattle.ob0_scan.specs.ReusedLexemes.{span_after_shift}
-use Rattle.ob0_scan.proofs.Kept.{changed_on}
+use Rattle.ob0_scan.proofs.Kept.{changed_there, unchanged_there}
 use Rattle.ob0_scan.proofs.old_lexemes.shift_comments.Goals as goal
 
-pub loop-index-preserved : goal.loop-index-preserved
-loop-index-preserved c =
-    let change = span_after_shift c.args.change.removed c.args.change.added in
-    let here = c.index.result.now in
-    let inside : c.loop-index.index < length c.args.comments.now.items = omega (arith, c.loop-index-test.true, c.len-index-end.ensures, c.args.comments.now.ok) in
-    changed_on change c.args.comments.now.items c.args.first c.requires.inside c.loop-index.index c.loop-index.comments.items here inside c.loop-index.invariant _
-    (c.span_after_shift.ensures ∙ ap change c.index.ensures)
+pub loop-comment-preserved : goal.loop-comment-preserved
+loop-comment-preserved c =
+    let shifted = span_after_shift c.args.change.removed c.args.change.added in
+    let i = c.loop-comment.comment-index in
+    let other : Span = record { start = 0; end = 0 } in
+    ap (λ ts. slice_set ts i c.span_after_shift.result) c.loop-comment.invariant
+    ∙ changed_there shifted c.args.comments.now i (i + 1) other c.span_after_shift.result c.loop-comment-test.true (omega arith)
+    (c.span_after_shift.ensures
+    ∙ ap shifted (ap (λ ts. slice_index_or ts i other) c.loop-comment.invariant ∙ unchanged_there shifted c.args.comments.now i other c.loop-comment-test.true))

@@ -1,6 +1,6 @@
+use Rattle.std.proofs.Common.{◌≡◌, ◌++◌, map, take, drop}
 use Rattle.ob0_scan.specs.ReusedLexemes.{token_after_shift}
-use Rattle.ob0_scan.proofs.Kept.{ChangedTo}
 use Rattle.ob0_scan.proofs.old_lexemes.shift_tokens.Given as goal
 
-abbrev pub invariant-loop-index : goal.invariant-loop-index
-invariant-loop-index l = ChangedTo (token_after_shift l.change.removed l.change.added) l.fn.tokens.items l.fn.first l.index l.tokens.items
+abbrev pub invariant-loop-token : goal.invariant-loop-token
+invariant-loop-token l = l.tokens ≡ map (token_after_shift l.change.removed l.change.added) (take l.token-index l.fn.tokens) ++ drop l.token-index l.fn.tokens
