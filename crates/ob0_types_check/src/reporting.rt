@@ -79,7 +79,7 @@ use crate::laws::{
 use crate::reporting::checker_state::{CheckerState, Meaning, predeclared_meanings};
 use crate::reporting::objects::{define_standard_procedures, objects_of_meanings};
 use ob0_scan::FaultCode;
-use ob0_scope_table::{FaultAtTokens, Resolved};
+use ob0_scope_table::{FaultAtTokens, PREDECLARED_COUNT, Resolved};
 use ob0_types_table::DeclarationTable;
 use std::alloc::{AllocError, Global};
 
@@ -214,8 +214,10 @@ impl<'t> ReportingWalk<'t> {
         ensures faults { IfOk result
             (λ t. t.faults.items ≡ filter is_undeclared_fault resolved.now.faults) }
     {
-        let mut meanings = predeclared_meanings(alloc)?;
-        add_placeholder_meanings(&mut meanings, resolved.declaration_tokens())?;
+        let declarations = resolved.declaration_tokens();
+        let count = declarations.len().saturating_add(PREDECLARED_COUNT);
+        let mut meanings = predeclared_meanings(alloc, count)?;
+        add_placeholder_meanings(&mut meanings, declarations)?;
         let checker_state = CheckerState {
             resolved,
             meanings,

@@ -29,11 +29,14 @@ pub(crate) enum Meaning {
 }
 
 /// Returns the meanings of the predeclared names in the order of their ordinals: INTEGER, BOOLEAN,
-/// TRUE, FALSE, Read, Write, WriteLn.
-pub(crate) fn predeclared_meanings(alloc: Global) -> Result<Vec<Option<Meaning>>, AllocError>
+/// TRUE, FALSE, Read, Write, WriteLn. The list has room for `capacity` meanings.
+pub(crate) fn predeclared_meanings(
+    alloc: Global,
+    capacity: usize,
+) -> Result<Vec<Option<Meaning>>, AllocError>
     ensures { IfOk result (λ ms. map (option_map meaning_view) ms.items ≡ predeclared_meanings) }
 {
-    let mut meanings = Vec::new(alloc);
+    let mut meanings = Vec::with_capacity(alloc, capacity)?;
     meanings.push(Some(Meaning::TypeName(TypeId::Integer)))?;
     meanings.push(Some(Meaning::TypeName(TypeId::Boolean)))?;
     meanings.push(Some(Meaning::Constant(Some(Scalar::Truth(true)))))?;

@@ -19,7 +19,7 @@ pub(crate) fn objects_of_meanings(
     ensures { IfOk result
         (λ objects. objects.items ≡ map (option_map table_object_of_meaning) meanings.items) }
 {
-    let mut objects = Vec::new(alloc);
+    let mut objects = Vec::with_capacity(alloc, meanings.len())?;
     for meaning in meanings {
         objects.push(object_of_optional_meaning(meaning))?;
     }

@@ -11,7 +11,7 @@ all_objects ms = map (option_map table_object_of_meaning) ms
 
 pub loop-meaning-init : goal.loop-meaning-init
 loop-meaning-init c = (
-  sym (ap (λ objects. objects ++ all_objects (into_iter_items c.into_iter-meaning-iterator.result)) c.new-objects.ensures.items),
+  sym (ap (λ objects. objects ++ all_objects (into_iter_items c.into_iter-meaning-iterator.result)) c.in_ok-objects.ensures.items),
   search rules,
 )
 
