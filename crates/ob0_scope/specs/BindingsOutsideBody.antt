@@ -1,12 +1,15 @@
 -- The data about a module's names that is kept when the statements of one body are replaced. This
 -- is the data about the tokens before that body, and about the tokens after it, which have moved.
 -- Rule: none; used in private contracts about bindings that are kept when one body is replaced (`body_range.rt`).
-use Rattle.std.specs.Prelude.{◌≡◌, ℕ, ◌+◌, ◌-◌, ◌^◌, min, nat_lt, List, [], ◌∷◌, ◌++◌, Option, Some, None, if◌then◌else◌, length, take, drop, replicate}
+use Rattle.std.specs.Prelude.{◌≡◌, ℕ, ◌+◌, ◌-◌, ◌^◌, min, nat_lt, List, [], ◌∷◌, ◌++◌, Option, Some, None, if◌then◌else◌, length, map, take, drop, replicate}
+use Rattle.std.specs.List.{filter}
 use Rattle.ob0_scan.specs.declared.tokens.CommonPrefixAndSuffix.{CommonPrefixAndSuffix}
 use Rattle.ob0_tree.specs.ParsedModule.{ParsedModule, tree_of}
 use Rattle.ob0_tree.specs.Tree.{Tree, body, maybe}
 use Rattle.ob0_tree.specs.FirstIdentifier.{first_identifier}
 use Rattle.ob0_scope_table.specs.BodyReplacement.{body_at_path, closing_name_at_path, path_to_body_in_module}
+use Rattle.ob0_scope_table.specs.Resolution.{is_undeclared_fault}
+use Rattle.ob0_scope_table.specs.declared.faults.FaultAtTokens.{FaultAtTokens}
 use Rattle.ob0_scope_table.specs.declared.resolved.Bindings.{Bindings}
 use Rattle.ob0_scope.specs.BindingsBeforeBodyReplacement.{AreBindingsBeforeBodyReplacement}
 use Rattle.ob0_scope.specs.NamesVisibleInBody.{names_visible_at_path}
@@ -34,6 +37,10 @@ shifted_tokens_after_body range (i ∷ is) =
 -- the old body are replaced by `own`, the tokens in the new body
 abbrev pub tokens_in_changed_text : BodyRange → List ℕ → List ℕ → List ℕ
 tokens_in_changed_text range tokens own = tokens_before_body range tokens ++ (own ++ shifted_tokens_after_body range tokens)
+
+-- returns the tokens of the undeclared names that these faults report, in the same order
+abbrev pub undeclared_tokens : List FaultAtTokens → List ℕ
+undeclared_tokens faults = map (λ fault. fault.first) (filter is_undeclared_fault faults)
 
 -- returns the first `n` entries of a table, filled up with None if the table is shorter
 abbrev pub resized_with_none : ℕ → List (Option ℕ) → List (Option ℕ)

@@ -1,23 +1,27 @@
 //! Binds the names of a module again after the spellings of tokens in one body changed, or after
 //! the body's statements were replaced.
 
-ghost use Rattle.std.specs.Prelude.{IfOk};
+ghost use Rattle.std.specs.Prelude.{◌≡◌, ◌++◌, IfOk, not};
+ghost use Rattle.std.specs.List.{list_any};
+ghost use Rattle.ob0_tree.specs.ParsedModule.{named_tree_of};
 ghost use Rattle.ob0_tree.specs.View.{body_of};
-ghost use Rattle.ob0_scope_table.specs.Resolution.{IsResolution};
+ghost use Rattle.ob0_language_names.specs.ConsistentNames.{has_consistent_names};
+ghost use Rattle.ob0_scope_table.specs.DuplicatesAndEndNames.{declaration_faults};
+ghost use Rattle.ob0_scope_table.specs.Resolution.{IsResolution, is_duplicate_or_end_name_fault, undeclared_faults_from_table};
 ghost use Rattle.ob0_scope_table.specs.Bindings.{resolution_with_bindings};
 ghost use Rattle.ob0_scope.specs.BindingsBeforeBodyChange.{AreBindingsBeforeBodyChange};
 ghost use Rattle.ob0_scope.specs.BindingsBeforeBodyReplacement.{AreBindingsBeforeBodyReplacement};
-ghost use Rattle.ob0_scope.specs.BindingsOutsideBody.{IsRangeOfNewBody};
+ghost use Rattle.ob0_scope.specs.BindingsOutsideBody.{IsRangeOfNewBody, tokens_in_changed_text, undeclared_tokens};
 
 use crate::body_range::{
     BodyRange, find_body_in_block, old_closing_token, ordinals_in_changed_text,
 };
 use crate::declaration_checks::recheck_declarations;
 use crate::module_resolution::bindings_of;
-use crate::undeclared_names::report_undeclared_names;
+use crate::undeclared_names::{report_undeclared_names, undeclared_tokens};
 use ob0_scan::CommonPrefixAndSuffix;
 use ob0_scope_numbering::renumber_body;
-use ob0_scope_table::{Bindings, OrdinalEntry};
+use ob0_scope_table::{Bindings, FaultAtTokens, OrdinalEntry};
 use ob0_tree::{Module, Statement, first_identifier};
 use std::alloc::{AllocError, Global};
 
@@ -41,6 +45,14 @@ pub fn rebind_changed_body(
     }
     let mut names = Vec::new(alloc);
     let found = find_body_in_block(read.block(), read.closing_name(), low, &mut names)?;
+    let Some(first) = first_identifier(found.statements) else {
+        return bindings_of(alloc, read);
+    };
+    let range = BodyRange {
+        first,
+        old_closing: found.closing,
+        closing: found.closing,
+    };
     let Bindings {
         ordinals,
         declaration_tokens,
@@ -48,9 +60,8 @@ pub fn rebind_changed_body(
         faults: known,
     } = old;
     let numbering = renumber_body(alloc, tokens, ordinals, &names, found.statements)?;
-    let (_declared, _looked_up, ordinals) = numbering.into_tokens_and_ordinals();
-    let mut faults = recheck_declarations(alloc, read, &known)?;
-    report_undeclared_names(&mut faults, &ordinals, &occurrences)?;
+    let (_declared, own, ordinals) = numbering.into_tokens_and_ordinals();
+    let faults = recheck_names(alloc, read, &known, range, &ordinals, &own)?;
     Ok(Bindings {
         ordinals,
         declaration_tokens,
@@ -110,12 +121,36 @@ fn rebind_body_range(
     let (_declared, own, ordinals) = numbering.into_tokens_and_ordinals();
     let declaration_tokens = range.tokens_in_changed_text(alloc, &old.declaration_tokens, &[])?;
     let occurrences = range.tokens_in_changed_text(alloc, &old.occurrences, &own)?;
-    let mut faults = recheck_declarations(alloc, read, &old.faults)?;
-    report_undeclared_names(&mut faults, &ordinals, &occurrences)?;
+    let faults = recheck_names(alloc, read, &old.faults, range, &ordinals, &own)?;
     Ok(Bindings {
         ordinals,
         declaration_tokens,
         occurrences,
         faults,
     })
+}
+
+/// Returns the faults of a module's names after the names of one body were looked up again. `known`
+/// has the faults from before the change, and `ordinals` is the table of the changed module.
+/// `range` is the body's token range, and `own` has the tokens of the names that are looked up in
+/// it. Outside the body, only the names that were undeclared before are checked.
+fn recheck_names<'t>(
+    alloc: Global,
+    read: &'t Module<'t>,
+    known: &[FaultAtTokens],
+    range: BodyRange,
+    ordinals: &[OrdinalEntry],
+    own: &[usize],
+) -> Result<Vec<FaultAtTokens>, AllocError>
+    requires { list_any is_duplicate_or_end_name_fault known.now
+        ≡ not (has_consistent_names (named_tree_of read.now)) }
+    ensures { IfOk result (λ faults. faults.items ≡ declaration_faults read.now
+        ++ undeclared_faults_from_table ordinals.now
+        (tokens_in_changed_text range (undeclared_tokens known.now) own.now)) }
+{
+    let undeclared = undeclared_tokens(alloc, known)?;
+    let checked = range.tokens_in_changed_text(alloc, &undeclared, own)?;
+    let mut faults = recheck_declarations(alloc, read, known)?;
+    report_undeclared_names(&mut faults, ordinals, &checked)?;
+    Ok(faults)
 }

@@ -2,16 +2,17 @@ use Rattle.std.proofs.Common.{◌≡◌, ◌≤◌, ◌++◌, [], length, not, s
 use Rattle.std.specs.List.{list_any}
 use Rattle.ob0_scan.specs.TextWithTokens.{TextWithTokens}
 use Rattle.ob0_tree.specs.View.{body_of}
+use Rattle.ob0_scope_table.specs.DuplicatesAndEndNames.{declaration_faults}
 use Rattle.ob0_scope_table.specs.Resolution.{is_duplicate_or_end_name_fault, undeclared_faults_from_table}
 use Rattle.ob0_scope_numbering.specs.BodyScope.{scope_from_table, state_before_body}
 use Rattle.ob0_scope_numbering.specs.IdentifierWalk.{visit_nondeclaring_tree}
-use Rattle.ob0_scope.specs.BindingsOutsideBody.{tokens_in_changed_text}
+use Rattle.ob0_scope.specs.BindingsOutsideBody.{tokens_in_changed_text, undeclared_tokens}
 use Rattle.ob0_scope.proofs.NewBody.{new_body_bound}
 use Rattle.ob0_scope.proofs.StillOnce.{still_once}
 use Rattle.ob0_scope.proofs.body_rebinding.rebind_body_range.Goals as goal
 
-pub recheck_declarations-requires : goal.recheck_declarations-requires
-recheck_declarations-requires c =
+pub recheck_names-requires : goal.recheck_names-requires
+recheck_names-requires c =
     let was = c.requires.was_bound in
     ap (list_any is_duplicate_or_end_name_fault) c.deref-4.ensures.value
     ∙ (was.resolved.reported.declared_twice ∙ ap not (sym (still_once was.old c.args.read.now was.path c.requires.same was.replaced)))
@@ -30,7 +31,7 @@ returns c =
     ∙ (λ i. visit_nondeclaring_tree statements (state_before_body (c.tokens-tokens.ensures.source i) (scope_from_table (c.tokens-tokens.ensures.source i) table.items c.args.names.now) table.items)) in
     let declared : c.in_ok-declaration_tokens.declaration_tokens.items ≡ tokens_in_changed_text range b.declaration_tokens.items [] = c.in_ok-declaration_tokens.ensures ∙ ap (λ is. tokens_in_changed_text range is []) c.deref.ensures.value in
     let used : c.in_ok-occurrences.occurrences.items ≡ tokens_in_changed_text range b.occurrences.items parts.result.1.items = c.in_ok-occurrences.ensures ∙ (λ i. tokens_in_changed_text range (c.deref-2.ensures.value i) (c.deref-3.ensures.value i)) in
-    let all = c.in_ok-report_undeclared_names.ensures
-    ∙ (λ i. c.in_ok-faults.faults.items ++ undeclared_faults_from_table (c.deref-5.ensures.value i) (c.deref-6.ensures.value i)) in
-    new_body_bound m b table.items range c.args.names.now statements c.in_ok-numbering.numbering parts.result.2.items c.in_ok-declaration_tokens.declaration_tokens.items parts.result.1.items c.in_ok-occurrences.occurrences.items c.in_ok-faults.faults.items c.report_undeclared_names.new.faults.items
-    c.requires within walked parts.ensures.table parts.ensures.uses declared used c.in_ok-faults.ensures all
+    let all = c.in_ok-faults.ensures
+    ∙ (λ i. declaration_faults m ++ undeclared_faults_from_table (c.deref-5.ensures.value i) (tokens_in_changed_text range (undeclared_tokens (c.deref-4.ensures.value i)) (c.deref-6.ensures.value i))) in
+    new_body_bound m b table.items range c.args.names.now statements c.in_ok-numbering.numbering parts.result.2.items c.in_ok-declaration_tokens.declaration_tokens.items parts.result.1.items c.in_ok-occurrences.occurrences.items c.in_ok-faults.faults.items
+    c.requires within walked parts.ensures.table parts.ensures.uses declared used all
