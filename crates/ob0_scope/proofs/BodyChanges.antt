@@ -1,7 +1,7 @@
 -- Proves that if the spellings of tokens of one body change, the names outside the body are the same
 -- as before, and the old table is right there. Only names that were undeclared before and names in
 -- the body can be undeclared.
-use Rattle.std.proofs.Common.{◌≡◌, ◌==◌, ℕ, ◌+◌, ◌-◌, true, false, Option, Some, List, [], ◌∷◌, ◌++◌, map, length, refl, sym, ap, ◌∙◌, subst, arith}
+use Rattle.std.proofs.Common.{◌≡◌, ◌==◌, ◌≤◌, ℕ, ◌+◌, ◌-◌, true, false, Option, Some, List, [], ◌∷◌, ◌++◌, map, length, refl, sym, ap, ◌∙◌, subst, arith}
 use Rattle.std.specs.List.{list_any}
 use Rattle.ob0_scan.specs.TextWithTokens.{TextWithTokens}
 use Rattle.ob0_tree.specs.declared.tree.Role.{Role}
@@ -93,6 +93,9 @@ module _ (old : TextWithTokens) (m : ParsedModule) (low high : ℕ) (parsed : Tr
         old_parts = p;
         few = omega (arith, tokens, inside);
       }
+
+  pub ordered : (first closing : ℕ) → first_identifier (body_at_path path (tree_of m)) ≡ Some first → closing ≡ closing_name_at_path path (tree_of m) → TreeMatchesText earlier → first ≤ closing
+  ordered first closing first_is closing_is before = let less = (known first closing first_is closing_is before).old_parts.less in omega (arith, less)
 
   -- Only names that were undeclared before and names in the body can be undeclared.
   pub changed_undeclared : (b : Bindings) (ordinals : List (Option ℕ)) (own : List ℕ) (first closing : ℕ) → IsResolution (resolution_with_bindings earlier b) → first_identifier (body_at_path path (tree_of m)) ≡ Some first → closing ≡ closing_name_at_path path (tree_of m)

@@ -28,11 +28,14 @@ use Rattle.ob0_scope.proofs.Made.{undeclared_unbound}
 
 -- ---- undeclared names
 
--- returns the tokens without an ordinal
-abbrev unbound_tokens : List (Option ℕ) → List ℕ → List ℕ
-unbound_tokens table xs = map (λ (f : FaultAtTokens). f.first) (undeclared_faults_from_table table xs)
+abbrev pub tokens_of_faults : List FaultAtTokens → List ℕ
+tokens_of_faults fs = map (λ (f : FaultAtTokens). f.first) fs
 
-abbrev fault_if_unbound : Option ℕ → ℕ → List FaultAtTokens → List FaultAtTokens
+-- returns the tokens without an ordinal
+abbrev pub unbound_tokens : List (Option ℕ) → List ℕ → List ℕ
+unbound_tokens table xs = tokens_of_faults (undeclared_faults_from_table table xs)
+
+abbrev pub fault_if_unbound : Option ℕ → ℕ → List FaultAtTokens → List FaultAtTokens
 fault_if_unbound o token rest = if is_some o then rest else fault_at_token code.Undeclared token ∷ rest
 
 undeclared_append : (table : List (Option ℕ)) (xs ys : List ℕ) → undeclared_faults_from_table table (xs ++ ys) ≡ undeclared_faults_from_table table xs ++ undeclared_faults_from_table table ys
@@ -43,6 +46,10 @@ undeclared_append table (x ∷ xs) ys = one (undeclared_append table xs ys) (ord
         → fault_if_unbound o x (undeclared_faults_from_table table (xs ++ ys)) ≡ fault_if_unbound o x (undeclared_faults_from_table table xs) ++ undeclared_faults_from_table table ys
     one rest None = ap (λ fs. fault_at_token code.Undeclared x ∷ fs) rest
     one rest (Some k) = rest
+
+-- The names that the faults of a module report as undeclared are the ones without an ordinal.
+pub undeclared_before : (m : ParsedModule) (b : Bindings) → IsResolution (resolution_with_bindings m b) → undeclared_tokens b.faults.items ≡ unbound_tokens b.ordinals.items (occurrences (tree_of m))
+undeclared_before m b res = ap tokens_of_faults (res.reported.undeclared ∙ sym (undeclared_unbound m b.ordinals.items res.numbering))
 
 -- states that a new table has the ordinals of an old one at the tokens outside a body
 pub record AgreeOutside (range : BodyRange) (before now : List (Option ℕ)) : Type 0 where
@@ -64,7 +71,7 @@ module _ (range : BodyRange) (before now : List (Option ℕ)) (agree : AgreeOuts
   before_kept (x ∷ xs) = one (before_kept xs) (nat_lt x range.first) (ordinal_in before x) refl refl
     where
       one : faults (front xs) ≡ faults (front (unbound_tokens before xs)) → (b : Bool) (o : Option ℕ) → nat_lt x range.first ≡ b → ordinal_in before x ≡ o
-          → faults (if b then x ∷ front xs else front xs) ≡ faults (front (map (λ (f : FaultAtTokens). f.first) (fault_if_unbound o x (undeclared_faults_from_table before xs))))
+          → faults (if b then x ∷ front xs else front xs) ≡ faults (front (tokens_of_faults (fault_if_unbound o x (undeclared_faults_from_table before xs))))
       one rest true (Some k) e h = ap (λ o. fault_if_unbound o x (faults (front xs))) (agree.near x (ltb-true x range.first e) ∙ h) ∙ rest
       one rest true None e h = (λ i. fault_if_unbound (ordinal_in now x) x (rest i)) ∙ ap (λ b. faults (if b then x ∷ front (unbound_tokens before xs) else front (unbound_tokens before xs))) (sym e)
       one rest false (Some k) e h = rest
@@ -78,7 +85,7 @@ module _ (range : BodyRange) (before now : List (Option ℕ)) (agree : AgreeOuts
       there = min-eq_left (let small : x - range.old_closing + range.closing ≤ 2 ^ 64 - 1 = omega (arith, few, below.0) in small)
 
       one : faults (back xs) ≡ faults (back (unbound_tokens before xs)) → (b : Bool) (o : Option ℕ) → nat_lt x range.old_closing ≡ b → ordinal_in before x ≡ o
-          → faults (if b then back xs else shifted_token range x ∷ back xs) ≡ faults (back (map (λ (f : FaultAtTokens). f.first) (fault_if_unbound o x (undeclared_faults_from_table before xs))))
+          → faults (if b then back xs else shifted_token range x ∷ back xs) ≡ faults (back (tokens_of_faults (fault_if_unbound o x (undeclared_faults_from_table before xs))))
       one rest true (Some k) e h = rest
       one rest true None e h = rest ∙ ap (λ b. faults (if b then back (unbound_tokens before xs) else shifted_token range x ∷ back (unbound_tokens before xs))) (sym e)
       one rest false (Some k) e h = ap (λ o. fault_if_unbound o (shifted_token range x) (faults (back xs))) (ap (ordinal_in now) there ∙ (agree.beyond x (ltb-false x range.old_closing e) ∙ h)) ∙ rest
@@ -135,13 +142,12 @@ module _ (old new : ParsedModule) (path : PathToBody) (range : BodyRange) (known
   undeclared_carried b table ordinals own res are agree same =
       let uses = occurrences (tree_of old) in
       let high = length old.source.tokens in
-      let were : undeclared_tokens b.faults.items ≡ unbound_tokens b.ordinals.items uses = ap (map (λ (f : FaultAtTokens). f.first)) (res.reported.undeclared ∙ sym (undeclared_unbound old b.ordinals.items res.numbering)) in
       let below = (ascending_below 0 uses high (occurrences_ascend (tree_of old) 0 high (leaves_ascend old res.parsed))).1 in
       let now : AgreeOutside range b.ordinals.items ordinals =
       record {
         near = λ x less. same x (not_in_body x (inl less)) ∙ agree.near x less;
         beyond = λ x le. same (far range x) (not_in_body (far range x) (inr (omega arith))) ∙ agree.beyond x le;
       } in
-      ap (λ is. undeclared_faults_from_table ordinals (tokens_in_changed_text range is own)) were
+      ap (λ is. undeclared_faults_from_table ordinals (tokens_in_changed_text range is own)) (undeclared_before old b res)
       ∙ (sym (undeclared_kept range b.ordinals.items ordinals now high uses own known.few below)
       ∙ ap (undeclared_faults_from_table ordinals) (uses_carried uses own refl are))

@@ -1,8 +1,9 @@
 //! Binds the names of a module again after the spellings of tokens in one body changed, or after
 //! the body's statements were replaced.
 
-ghost use Rattle.std.specs.Prelude.{◌≡◌, ◌++◌, IfOk, not};
+ghost use Rattle.std.specs.Prelude.{◌≡◌, ◌≤◌, ◌++◌, IfOk, not};
 ghost use Rattle.std.specs.List.{list_any};
+ghost use Rattle.std.specs.List.Sorted.{IsNonDecreasing};
 ghost use Rattle.ob0_tree.specs.ParsedModule.{named_tree_of};
 ghost use Rattle.ob0_tree.specs.View.{body_of};
 ghost use Rattle.ob0_language_names.specs.ConsistentNames.{has_consistent_names};
@@ -94,7 +95,7 @@ pub fn rebind_replaced_body(
         closing: found.closing,
     };
     let table = ordinals_in_changed_text(alloc, &old.ordinals, same)?;
-    rebind_body_range(alloc, read, &old, table, range, &names, found.statements)
+    rebind_body_range(alloc, read, old, table, range, &names, found.statements)
 }
 
 /// Returns the bindings of a module after the statements of one body were replaced. `old` has the
@@ -104,13 +105,13 @@ pub fn rebind_replaced_body(
 fn rebind_body_range(
     alloc: Global,
     read: &Module<'_>,
-    old: &Bindings,
+    old: Bindings,
     table: Vec<OrdinalEntry>,
     range: BodyRange,
     names: &[usize],
     statements: &Option<Vec<Statement>>,
 ) -> Result<Bindings, AllocError>
-    requires { IsRangeOfNewBody read.now old.now table.items range names.now (body_of statements.now) }
+    requires { IsRangeOfNewBody read.now old table.items range names.now (body_of statements.now) }
     ensures { IfOk result (λ b. IsResolution (resolution_with_bindings read.now b)) }
 {
     let tokens = read.tokens();
@@ -119,9 +120,15 @@ fn rebind_body_range(
     }
     let numbering = renumber_body(alloc, tokens, table, names, statements)?;
     let (_declared, own, ordinals) = numbering.into_tokens_and_ordinals();
-    let declaration_tokens = range.tokens_in_changed_text(alloc, &old.declaration_tokens, &[])?;
-    let occurrences = range.tokens_in_changed_text(alloc, &old.occurrences, &own)?;
     let faults = recheck_names(alloc, read, &old.faults, range, &ordinals, &own)?;
+    let Bindings {
+        ordinals: _replaced,
+        mut declaration_tokens,
+        mut occurrences,
+        faults: _known,
+    } = old;
+    range.replace_tokens(&mut declaration_tokens, &[])?;
+    range.replace_tokens(&mut occurrences, &own)?;
     Ok(Bindings {
         ordinals,
         declaration_tokens,
@@ -142,14 +149,16 @@ fn recheck_names<'t>(
     ordinals: &[OrdinalEntry],
     own: &[usize],
 ) -> Result<Vec<FaultAtTokens>, AllocError>
-    requires { list_any is_duplicate_or_end_name_fault known.now
+    requires known { list_any is_duplicate_or_end_name_fault known.now
         ≡ not (has_consistent_names (named_tree_of read.now)) }
+    requires ordered { range.first ≤ range.old_closing }
+    requires ascending { IsNonDecreasing (undeclared_tokens known.now) }
     ensures { IfOk result (λ faults. faults.items ≡ declaration_faults read.now
         ++ undeclared_faults_from_table ordinals.now
         (tokens_in_changed_text range (undeclared_tokens known.now) own.now)) }
 {
-    let undeclared = undeclared_tokens(alloc, known)?;
-    let checked = range.tokens_in_changed_text(alloc, &undeclared, own)?;
+    let mut checked = undeclared_tokens(alloc, known)?;
+    range.replace_tokens(&mut checked, own)?;
     let mut faults = recheck_declarations(alloc, read, known)?;
     report_undeclared_names(&mut faults, ordinals, &checked)?;
     Ok(faults)

@@ -1,5 +1,6 @@
 use Rattle.std.proofs.Common.{◌≡◌, ◌≤◌, ◌++◌, ◌==◌, ℕ, false, List, Option, length, not, refl, sym, ap, ◌∙◌, subst, arith}
 use Rattle.std.specs.List.{list_any}
+use Rattle.std.specs.List.Sorted.{IsNonDecreasing}
 use Rattle.ob0_scan.specs.TextWithTokens.{TextWithTokens}
 use Rattle.ob0_tree.specs.FirstIdentifier.{first_identifier}
 use Rattle.ob0_tree.specs.IdentifierIndexes.{identifier_names}
@@ -10,6 +11,7 @@ use Rattle.ob0_tree.specs.declared.tree.Block.{Block}
 use Rattle.ob0_scope_table.specs.BodyReplacement.{body_at_path, body_at_path_in_block, closing_name_at_path, closing_name_at_path_in_block, path_to_body_in_block, path_to_body_in_module}
 use Rattle.ob0_scope_table.specs.DuplicatesAndEndNames.{declaration_faults}
 use Rattle.ob0_scope_table.specs.Resolution.{is_duplicate_or_end_name_fault, ordinal_in, undeclared_faults_from_table}
+use Rattle.ob0_scope_table.specs.declared.faults.FaultAtTokens.{FaultAtTokens}
 use Rattle.ob0_scope_numbering.specs.BodyScope.{scope_from_table, state_before_body}
 use Rattle.ob0_scope_numbering.specs.IdentifierSpellings.{original_spellings}
 use Rattle.ob0_scope_numbering.specs.IdentifierWalk.{visit_module, visit_nondeclaring_tree}
@@ -18,17 +20,35 @@ use Rattle.ob0_scope_numbering.specs.TableWalk.{WalkState}
 use Rattle.ob0_scope_numbering.proofs.Passing.{HasMarks}
 use Rattle.ob0_scope.specs.BindingsOutsideBody.{tokens_in_changed_text, undeclared_tokens}
 use Rattle.ob0_scope.specs.NamesVisibleInBody.{names_visible_at_path, names_visible_at_path_in_block}
+use Rattle.ob0_scope.proofs.AscendingTokens.{undeclared_tokens_ascend}
 use Rattle.ob0_scope.proofs.BodyBound.{body_rebound, in_whole, rebound, rebound_uses}
-use Rattle.ob0_scope.proofs.BodyChanges.{changed_outside, changed_undeclared, unmoved}
+use Rattle.ob0_scope.proofs.BodyChanges.{changed_outside, changed_undeclared, ordered, unmoved}
 use Rattle.ob0_scope.proofs.Made.{resolution_marked}
 use Rattle.ob0_scope.proofs.StillOnce.{still_once_written}
 use Rattle.ob0_scope.proofs.body_rebinding.rebind_changed_body.Goals as goal
 
-pub recheck_names-requires : goal.recheck_names-requires
-recheck_names-requires c =
+pub recheck_names-requires-clause-known : goal.recheck_names-requires-clause-known
+recheck_names-requires-clause-known c =
     let was = c.requires in
     ap (list_any is_duplicate_or_end_name_fault) c.deref-2.ensures.value
     ∙ (was.resolved.reported.declared_twice ∙ ap not (sym (still_once_written was.old c.args.read.now c.args.low c.args._changed_end was.parsed was.change)))
+
+pub recheck_names-requires-clause-ordered : goal.recheck_names-requires-clause-ordered
+recheck_names-requires-clause-ordered c =
+    let m = c.args.read.now in
+    let low = c.args.low in
+    let was = c.requires in
+    let path = path_to_body_in_module low (tree_of m) in
+    let found = c.in_ok-found in
+    let statements : body_of found.found.statements.now ≡ body_at_path path (tree_of m) = found.ensures.statements ∙ ap (λ (b : Block). body_at_path_in_block (path_to_body_in_block low (block_of b)) (block_of b)) c.block.ensures in
+    let first_is = ap (λ (t : Tree ℕ (maybe body)). first_identifier t) (sym statements) ∙ (sym c.first_identifier.ensures ∙ c.in-Some.is) in
+    let closing : found.found.closing ≡ closing_name_at_path path (tree_of m) = found.ensures.closing ∙ (λ i. closing_name_at_path_in_block (path_to_body_in_block low (block_of (c.block.ensures i))) (c.closing_name.ensures i) (block_of (c.block.ensures i))) in
+    ordered was.old m low c.args._changed_end was.parsed was.change c.in-Some.first found.found.closing first_is closing was.resolved.parsed
+
+pub recheck_names-requires-clause-ascending : goal.recheck_names-requires-clause-ascending
+recheck_names-requires-clause-ascending c =
+    let was = c.requires in
+    subst (λ (fs : List FaultAtTokens). IsNonDecreasing (undeclared_tokens fs)) (sym c.deref-2.ensures.value) (undeclared_tokens_ascend (record c.args.read.now { source = was.old }) c.args.old was.resolved)
 
 pub returns : goal.returns
 returns c =
