@@ -56,8 +56,8 @@ module _ (m : ParsedModule) (b : Bindings) (res : IsResolution (resolution_with_
       subst IsNonDecreasing (sym res.declaring)
       (rising 0 (declaring_names (identifiers role.DeclaringName (tree_of m))) (length m.source.tokens) (declaring_ascend 0 (identifiers role.DeclaringName (tree_of m)) (length m.source.tokens) (leaves_ascend m res.parsed)))
 
-  pub occurrences_tokens_ascend : IsNonDecreasing b.occurrences.items
-  occurrences_tokens_ascend = subst IsNonDecreasing (sym res.occurring) (rising 0 (occurrences (tree_of m)) (length m.source.tokens) uses_ascend)
+  pub occurrence_tokens_ascend : IsNonDecreasing b.occurrences.items
+  occurrence_tokens_ascend = subst IsNonDecreasing (sym res.occurring) (rising 0 (occurrences (tree_of m)) (length m.source.tokens) uses_ascend)
 
   pub undeclared_tokens_ascend : IsNonDecreasing (undeclared_tokens b.faults.items)
   undeclared_tokens_ascend =

@@ -29,7 +29,7 @@ use std::alloc::{AllocError, Global};
 /// Returns the bindings of a module after the spellings of tokens in one body changed. `old` has
 /// the bindings before the change. The changed tokens have the indexes from `low` up to, but not
 /// including, `_changed_end`, which only the contract uses. Only the names in the changed body are
-/// bound again.
+/// bound again. If the body has no identifiers, all names of the module are bound again.
 pub fn rebind_changed_body(
     alloc: Global,
     read: &Module<'_>,

@@ -9,7 +9,7 @@ use Rattle.ob0_scope_table.specs.declared.faults.FaultAtTokens.{FaultAtTokens}
 use Rattle.ob0_scope_numbering.specs.BodyScope.{scope_from_table, state_before_body}
 use Rattle.ob0_scope_numbering.specs.IdentifierWalk.{visit_nondeclaring_tree}
 use Rattle.ob0_scope.specs.BindingsOutsideBody.{tokens_in_changed_text, undeclared_tokens}
-use Rattle.ob0_scope.proofs.AscendingTokens.{declaration_tokens_ascend, occurrences_tokens_ascend, undeclared_tokens_ascend}
+use Rattle.ob0_scope.proofs.AscendingTokens.{declaration_tokens_ascend, occurrence_tokens_ascend, undeclared_tokens_ascend}
 use Rattle.ob0_scope.proofs.NewBody.{new_body_bound}
 use Rattle.ob0_scope.proofs.StillOnce.{still_once}
 use Rattle.ob0_scope.proofs.body_rebinding.rebind_body_range.Goals as goal
@@ -29,7 +29,7 @@ pub replace_tokens-requires-clause-ascending : goal.replace_tokens-requires-clau
 replace_tokens-requires-clause-ascending c = let was = c.requires.was_bound in declaration_tokens_ascend was.old c.args.old was.resolved
 
 pub replace_tokens-requires-2-clause-ascending : goal.replace_tokens-requires-2-clause-ascending
-replace_tokens-requires-2-clause-ascending c = let was = c.requires.was_bound in occurrences_tokens_ascend was.old c.args.old was.resolved
+replace_tokens-requires-2-clause-ascending c = let was = c.requires.was_bound in occurrence_tokens_ascend was.old c.args.old was.resolved
 
 pub returns : goal.returns
 returns c =
