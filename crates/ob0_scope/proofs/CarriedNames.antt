@@ -1,9 +1,9 @@
 -- Proves which names are looked up and which are undeclared in a module in which one body changed.
 -- Outside the body they are the same as before, at their new tokens.
-use Rattle.std.proofs.Common.{◌≡◌, ◌<◌, ◌≤◌, ℕ, ◌+◌, ◌-◌, ◌^◌, ◌==◌, ◌⊎◌, inl, inr, Bool, true, false, nat_lt, if◌then◌else◌, is_some, Option, Some, None, List, [], ◌∷◌, ◌++◌, map, length, refl, sym, ap, ◌∙◌, arith, ltb-true}
+use Rattle.std.proofs.Common.{◌≡◌, ◌<◌, ◌≤◌, ℕ, ◌+◌, ◌-◌, ◌^◌, ◌==◌, ◌⊎◌, inl, inr, Bool, true, false, cond, nat_le, nat_lt, if◌then◌else◌, is_some, Option, Some, None, List, [], ◌∷◌, ◌++◌, map, length, refl, sym, ap, ◌∙◌, arith, ltb-true}
 use Rattle.std.proofs.Math.Nat.{min-eq_left}
-use Rattle.std.proofs.lemmas.Bool.{ltb-false}
-use Rattle.std.specs.List.{list_any}
+use Rattle.std.proofs.lemmas.Bool.{leb-true}
+use Rattle.std.specs.List.{filter, list_any}
 use Rattle.ob0_scan.specs.declared.fault.FaultCode.TheVariants as code
 use Rattle.ob0_tree.specs.declared.tree.Role.{Role}
 use Rattle.ob0_tree.specs.declared.tree.Role.TheVariants as role
@@ -71,25 +71,30 @@ module _ (range : BodyRange) (before now : List (Option ℕ)) (agree : AgreeOuts
   before_kept (x ∷ xs) = one (before_kept xs) (nat_lt x range.first) (ordinal_in before x) refl refl
     where
       one : faults (front xs) ≡ faults (front (unbound_tokens before xs)) → (b : Bool) (o : Option ℕ) → nat_lt x range.first ≡ b → ordinal_in before x ≡ o
-          → faults (if b then x ∷ front xs else front xs) ≡ faults (front (tokens_of_faults (fault_if_unbound o x (undeclared_faults_from_table before xs))))
+          → faults (cond b (x ∷ front xs) (front xs)) ≡ faults (front (tokens_of_faults (fault_if_unbound o x (undeclared_faults_from_table before xs))))
       one rest true (Some k) e h = ap (λ o. fault_if_unbound o x (faults (front xs))) (agree.near x (ltb-true x range.first e) ∙ h) ∙ rest
-      one rest true None e h = (λ i. fault_if_unbound (ordinal_in now x) x (rest i)) ∙ ap (λ b. faults (if b then x ∷ front (unbound_tokens before xs) else front (unbound_tokens before xs))) (sym e)
+      one rest true None e h = (λ i. fault_if_unbound (ordinal_in now x) x (rest i)) ∙ ap (λ b. faults (cond b (x ∷ front (unbound_tokens before xs)) (front (unbound_tokens before xs)))) (sym e)
       one rest false (Some k) e h = rest
-      one rest false None e h = rest ∙ ap (λ b. faults (if b then x ∷ front (unbound_tokens before xs) else front (unbound_tokens before xs))) (sym e)
+      one rest false None e h = rest ∙ ap (λ b. faults (cond b (x ∷ front (unbound_tokens before xs)) (front (unbound_tokens before xs)))) (sym e)
+
+  abbrev is_after : ℕ → Bool
+  is_after i = nat_le range.old_closing i
 
   after_kept : (high : ℕ) (xs : List ℕ) → high + range.closing ≤ 2 ^ 64 - 1 → AllBelow high xs → faults (back xs) ≡ faults (back (unbound_tokens before xs))
   after_kept high [] few below = refl
-  after_kept high (x ∷ xs) few below = one (after_kept high xs few below.1) (nat_lt x range.old_closing) (ordinal_in before x) refl refl
+  after_kept high (x ∷ xs) few below = one (after_kept high xs few below.1) (is_after x) (ordinal_in before x) refl refl
     where
       there : shifted_token range x ≡ far range x
       there = min-eq_left (let small : x - range.old_closing + range.closing ≤ 2 ^ 64 - 1 = omega (arith, few, below.0) in small)
 
-      one : faults (back xs) ≡ faults (back (unbound_tokens before xs)) → (b : Bool) (o : Option ℕ) → nat_lt x range.old_closing ≡ b → ordinal_in before x ≡ o
-          → faults (if b then back xs else shifted_token range x ∷ back xs) ≡ faults (back (tokens_of_faults (fault_if_unbound o x (undeclared_faults_from_table before xs))))
-      one rest true (Some k) e h = rest
-      one rest true None e h = rest ∙ ap (λ b. faults (if b then back (unbound_tokens before xs) else shifted_token range x ∷ back (unbound_tokens before xs))) (sym e)
-      one rest false (Some k) e h = ap (λ o. fault_if_unbound o (shifted_token range x) (faults (back xs))) (ap (ordinal_in now) there ∙ (agree.beyond x (ltb-false x range.old_closing e) ∙ h)) ∙ rest
-      one rest false None e h = (λ i. fault_if_unbound (ordinal_in now (shifted_token range x)) (shifted_token range x) (rest i)) ∙ ap (λ b. faults (if b then back (unbound_tokens before xs) else shifted_token range x ∷ back (unbound_tokens before xs))) (sym e)
+      one : faults (back xs) ≡ faults (back (unbound_tokens before xs)) → (b : Bool) (o : Option ℕ) → is_after x ≡ b → ordinal_in before x ≡ o
+          → faults (map (shifted_token range) (cond b (x ∷ filter is_after xs) (filter is_after xs))) ≡ faults (back (tokens_of_faults (fault_if_unbound o x (undeclared_faults_from_table before xs))))
+      one rest true (Some k) e h = ap (λ o. fault_if_unbound o (shifted_token range x) (faults (back xs))) (ap (ordinal_in now) there ∙ (agree.beyond x (leb-true range.old_closing x e) ∙ h)) ∙ rest
+      one rest true None e h =
+          (λ i. fault_if_unbound (ordinal_in now (shifted_token range x)) (shifted_token range x) (rest i))
+          ∙ ap (λ b. faults (map (shifted_token range) (cond b (x ∷ filter is_after (unbound_tokens before xs)) (filter is_after (unbound_tokens before xs))))) (sym e)
+      one rest false (Some k) e h = rest
+      one rest false None e h = rest ∙ ap (λ b. faults (map (shifted_token range) (cond b (x ∷ filter is_after (unbound_tokens before xs)) (filter is_after (unbound_tokens before xs))))) (sym e)
 
   -- If the tokens outside the body that were bound are omitted, the same names are undeclared.
   undeclared_kept : (high : ℕ) (xs own : List ℕ) → high + range.closing ≤ 2 ^ 64 - 1 → AllBelow high xs → faults (tokens_in_changed_text range xs own) ≡ faults (tokens_in_changed_text range (unbound_tokens before xs) own)

@@ -1,10 +1,9 @@
--- Proves that the tokens of an ascending list before a body are those up to a partition point, and
--- that the tokens after the body are those from another partition point on.
-use Rattle.std.proofs.Common.{◌≡◌, ◌≤◌, ℕ, zero, suc, true, false, nat_lt, if◌then◌else◌, List, [], ◌∷◌, map, length, take, drop, refl, ap, ◌∙◌, arith}
-use Rattle.std.proofs.lemmas.Bool.{ltb-false, ltb-true}
+-- Proves that the numbers of a list below a limit are those before a partition point, and that the
+-- other numbers are those after it.
+use Rattle.std.proofs.Common.{◌≡◌, ◌≤◌, ℕ, zero, suc, true, false, cond, nat_le, nat_lt, List, [], ◌∷◌, length, take, drop, refl, ap, ◌∙◌, arith}
+use Rattle.std.proofs.lemmas.Bool.{le-leb, lt-leb, ltb-false, ltb-true}
+use Rattle.std.specs.List.{filter}
 use Rattle.std.specs.List.Sorted.{IsPartitionPoint}
-use Rattle.ob0_scope.specs.BindingsOutsideBody.{shifted_token, shifted_tokens_after_body, tokens_before_body}
-use Rattle.ob0_scope.specs.declared.body_range.BodyRange.{BodyRange}
 
 -- states that exactly the first i numbers of a list are below n
 abbrev Splits : ℕ → List ℕ → ℕ → Type 0
@@ -33,21 +32,17 @@ ordered n m (x ∷ xs) (suc i) (suc j) le inside p q =
 pub points_ordered : (n m : ℕ) (xs : List ℕ) (i j : ℕ) → n ≤ m → IsPointOf n xs i → IsPointOf m xs j → i ≤ j
 points_ordered n m xs i j le p q = ordered n m xs i j le p.inside p.splits q.splits
 
-module _ (range : BodyRange) where
-  pub before_point : (xs : List ℕ) (i : ℕ) → Splits range.first xs i → tokens_before_body range xs ≡ take i xs
-  before_point [] zero p = refl
-  before_point [] (suc i) p = refl
-  before_point (x ∷ xs) zero p =
-      ap (λ b. if b then x ∷ tokens_before_body range xs else tokens_before_body range xs) (p.1 zero x (omega arith) (omega arith)) ∙ before_point xs zero (next_zero range.first x xs p)
-  before_point (x ∷ xs) (suc i) p =
-      ap (λ b. if b then x ∷ tokens_before_body range xs else tokens_before_body range xs) (p.0 zero x (omega arith) (omega arith)) ∙ ap (λ ys. x ∷ ys) (before_point xs i (next_suc range.first x xs i p))
+pub front_of_point : (n : ℕ) (xs : List ℕ) (i : ℕ) → Splits n xs i → filter (λ x. nat_lt x n) xs ≡ take i xs
+front_of_point n [] zero p = refl
+front_of_point n [] (suc i) p = refl
+front_of_point n (x ∷ xs) zero p = ap (λ b. cond b (x ∷ filter (λ x. nat_lt x n) xs) (filter (λ x. nat_lt x n) xs)) (p.1 zero x (omega arith) (omega arith)) ∙ front_of_point n xs zero (next_zero n x xs p)
+front_of_point n (x ∷ xs) (suc i) p =
+    ap (λ b. cond b (x ∷ filter (λ x. nat_lt x n) xs) (filter (λ x. nat_lt x n) xs)) (p.0 zero x (omega arith) (omega arith)) ∙ ap (λ ys. x ∷ ys) (front_of_point n xs i (next_suc n x xs i p))
 
-  pub after_point : (xs : List ℕ) (i : ℕ) → Splits range.old_closing xs i → shifted_tokens_after_body range xs ≡ map (shifted_token range) (drop i xs)
-  after_point [] zero p = refl
-  after_point [] (suc i) p = refl
-  after_point (x ∷ xs) zero p =
-      ap (λ b. if b then shifted_tokens_after_body range xs else shifted_token range x ∷ shifted_tokens_after_body range xs) (p.1 zero x (omega arith) (omega arith))
-      ∙ ap (λ ys. shifted_token range x ∷ ys) (after_point xs zero (next_zero range.old_closing x xs p))
-  after_point (x ∷ xs) (suc i) p =
-      ap (λ b. if b then shifted_tokens_after_body range xs else shifted_token range x ∷ shifted_tokens_after_body range xs) (p.0 zero x (omega arith) (omega arith))
-      ∙ after_point xs i (next_suc range.old_closing x xs i p)
+pub rest_of_point : (n : ℕ) (xs : List ℕ) (i : ℕ) → Splits n xs i → filter (λ x. nat_le n x) xs ≡ drop i xs
+rest_of_point n [] zero p = refl
+rest_of_point n [] (suc i) p = refl
+rest_of_point n (x ∷ xs) zero p =
+    ap (λ b. cond b (x ∷ filter (λ x. nat_le n x) xs) (filter (λ x. nat_le n x) xs)) (le-leb n x (ltb-false x n (p.1 zero x (omega arith) (omega arith)))) ∙ ap (λ ys. x ∷ ys) (rest_of_point n xs zero (next_zero n x xs p))
+rest_of_point n (x ∷ xs) (suc i) p =
+    ap (λ b. cond b (x ∷ filter (λ x. nat_le n x) xs) (filter (λ x. nat_le n x) xs)) (lt-leb n x (ltb-true x n (p.0 zero x (omega arith) (omega arith)))) ∙ rest_of_point n xs i (next_suc n x xs i p)

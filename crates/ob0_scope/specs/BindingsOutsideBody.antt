@@ -1,7 +1,7 @@
 -- The data about a module's names that is kept when the statements of one body are replaced. This
 -- is the data about the tokens before that body, and about the tokens after it, which have moved.
 -- Rule: none; used in private contracts about bindings that are kept when one body is replaced (`body_range.rt`).
-use Rattle.std.specs.Prelude.{◌≡◌, ℕ, ◌+◌, ◌-◌, ◌^◌, min, nat_lt, List, [], ◌∷◌, ◌++◌, Option, Some, None, if◌then◌else◌, length, map, take, drop, replicate}
+use Rattle.std.specs.Prelude.{◌≡◌, ℕ, ◌+◌, ◌-◌, ◌^◌, min, nat_le, nat_lt, List, ◌++◌, Option, Some, None, length, map, take, drop, replicate}
 use Rattle.std.specs.List.{filter}
 use Rattle.ob0_scan.specs.declared.tokens.CommonPrefixAndSuffix.{CommonPrefixAndSuffix}
 use Rattle.ob0_tree.specs.ParsedModule.{ParsedModule, tree_of}
@@ -17,9 +17,7 @@ use Rattle.ob0_scope.specs.declared.body_range.BodyRange.{BodyRange}
 
 -- returns the tokens of a list that are before the replaced body in the text
 abbrev pub tokens_before_body : BodyRange → List ℕ → List ℕ
-tokens_before_body range [] = []
-tokens_before_body range (i ∷ is) =
-    if nat_lt i range.first then i ∷ tokens_before_body range is else tokens_before_body range is
+tokens_before_body range tokens = filter (λ i. nat_lt i range.first) tokens
 
 -- returns the index in the changed text of a token after the replaced body, given its old index; at
 -- most 2^64 - 1
@@ -28,10 +26,7 @@ shifted_token range i = min (i - range.old_closing + range.closing) (2 ^ 64 - 1)
 
 -- returns the tokens of a list that are after the replaced body in the text, with their new indexes
 abbrev pub shifted_tokens_after_body : BodyRange → List ℕ → List ℕ
-shifted_tokens_after_body range [] = []
-shifted_tokens_after_body range (i ∷ is) =
-    if nat_lt i range.old_closing then shifted_tokens_after_body range is
-    else shifted_token range i ∷ shifted_tokens_after_body range is
+shifted_tokens_after_body range tokens = map (shifted_token range) (filter (λ i. nat_le range.old_closing i) tokens)
 
 -- converts a list of token indexes of the old text to indexes in the changed text; the tokens in
 -- the old body are replaced by `own`, the tokens in the new body

@@ -1,8 +1,9 @@
-use Rattle.std.proofs.Common.{◌≡◌, ◌∙◌, ◌++◌, map-id, sym, subst}
+use Rattle.std.proofs.Common.{◌≡◌, ◌∙◌, ◌++◌, map, map-id, sym, subst}
 use Rattle.std.proofs.lemmas.Iterator.{YieldsList-from_slice, items_from_drains}
 use Rattle.std.proofs.lemmas.Iterator.Consumers.{YieldsList-from_copied}
 use Rattle.ob0_scan.proofs.Kept.{put_between}
-use Rattle.ob0_scope.proofs.PartitionPoints.{IsPointOf, after_point, before_point, points_ordered}
+use Rattle.ob0_scope.specs.BindingsOutsideBody.{shifted_token}
+use Rattle.ob0_scope.proofs.PartitionPoints.{IsPointOf, front_of_point, points_ordered, rest_of_point}
 use Rattle.ob0_scope.proofs.body_range.BodyRange.replace_tokens.Goals as goal
 
 pub splice-requires-clause-start_le_end : goal.splice-requires-clause-start_le_end
@@ -27,4 +28,4 @@ returns c =
     let gone = e.3 in
     let given : e.1 ≡ own = sym (map-id e.1) ∙ items_from_drains e.1 (gone.1.0, gone.1.1, λ _. (gone.0, gone.1.2)) (YieldsList-from_copied (YieldsList-from_slice own (cc))) in
     put_between xs c.shift_tokens.new.tokens.items _ own e.1 c.splice.new.self.items start.result end.result (points_ordered range.first range.old_closing xs start.result end.result c.requires.ordered from to) to.inside c.shift_tokens.ensures e.4 given
-    ∙ (λ i. sym (before_point range xs start.result from.splits) i ++ (own ++ sym (after_point range xs end.result to.splits) i))
+    ∙ (λ i. sym (front_of_point range.first xs start.result from.splits) i ++ (own ++ map (shifted_token range) (sym (rest_of_point range.old_closing xs end.result to.splits) i)))
