@@ -101,7 +101,8 @@ pub(crate) fn ordinals_in_changed_text(
 ) -> Result<Vec<OrdinalEntry>, AllocError>
     ensures { IfOk result (λ table. table.items ≡ ordinals_in_changed_text same old.now) }
 {
-    let mut table = Vec::with_capacity(alloc, old.len())?;
+    let following = old.len().saturating_sub(same.old_suffix);
+    let mut table = Vec::with_capacity(alloc, same.new_suffix.saturating_add(following))?;
     table.extend_from_slice(&old[..same.prefix.min(old.len())])?;
     table.resize(same.new_suffix, OrdinalEntry::new(None))?;
     table.extend_from_slice(&old[same.old_suffix.min(old.len())..])?;
