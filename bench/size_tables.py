@@ -35,12 +35,13 @@ ob0_scan/src: incremental_scan old_lexemes
 ob0_scan/src/laws: new_middle_replaces_range
 ob0_scan/src/scanner: scanner_after_known_lexemes
 ob0_scan/src/tokens: copy lexeme_slices replace_middle
-ob0_scope/proofs: Bodies BodyBound BodyChanges BodySplit CarriedLists IdentifierWords NamesInBody NewBody SameSpellings StillOnce
-ob0_scope/proofs: WithoutRelabelled
+ob0_scope/proofs: AscendingTokens Bodies BodyBound BodyChanges BodySplit CarriedLists CarriedNames IdentifierWords NamesInBody
+ob0_scope/proofs: NewBody PartitionPoints SameSpellings StillOnce WithoutRelabelled
 ob0_scope/specs: BindingsBeforeBodyChange BindingsBeforeBodyReplacement BindingsOutsideBody NamesVisibleInBody SameSpellings
 ob0_scope/src: body_range body_rebinding
 ob0_scope/src/declaration_checks: has_duplicate_or_end_name_fault recheck_declarations
 ob0_scope/src/laws: bindings_depend_only_on_names bindings_depend_only_on_spellings
+ob0_scope/src/undeclared_names: undeclared_tokens
 ob0_scope_numbering/proofs/Declaring: declaring
 ob0_scope_numbering/specs: BodyScope
 ob0_scope_numbering/src/numbering: declare_name_from_table declare_names_from_table renumber_body

@@ -172,7 +172,7 @@ in_rest m path i there absent =
     ∙ (sym (ap among p.whole) ∙ there))))
 
 -- An identifier of a body is an identifier of the module.
-in_whole : (m : ParsedModule) (path : PathToBody) (i : ℕ) → list_any (λ j. j == i) (identifier_names (tree_of m)) ≡ false → list_any (λ j. j == i) (identifier_names (body_at_path path (tree_of m))) ≡ false
+pub in_whole : (m : ParsedModule) (path : PathToBody) (i : ℕ) → list_any (λ j. j == i) (identifier_names (tree_of m)) ≡ false → list_any (λ j. j == i) (identifier_names (body_at_path path (tree_of m))) ≡ false
 in_whole m path i e =
     let p = parts m path in
     let own = identifier_names (body_at_path path (tree_of m)) in
@@ -220,10 +220,11 @@ module _ (m : ParsedModule) (path : PathToBody) (parsed : TreeMatchesText m) whe
   abbrev pub rebound : List (Option ℕ) → tabling.WalkState
   rebound table = visit_nondeclaring_tree own_statements (state_before_body m.source (scope_from_table m.source table (names_visible_at_path path (tree_of m))) table)
 
-  -- states that a table has all marks of the module, and that its other entries didn't change
+  -- states that a table has all marks of the module, and that only the entries of the body's
+  -- identifiers may have changed
   pub record IsRebound (table made : List (Option ℕ)) : Type 0 where
     pub marks : HasMarks (ordinal_in made) (visit_module (tree_of m) (listing.initial_walk_state (original_spellings m.source))).marks
-    pub elsewhere : (i : ℕ) → list_any (λ j. j == i) (identifier_names (tree_of m)) ≡ false → ordinal_in made i ≡ ordinal_in table i
+    pub elsewhere : (i : ℕ) → list_any (λ j. j == i) (identifier_names own_statements) ≡ false → ordinal_in made i ≡ ordinal_in table i
 
   pub body_rebound : (table : List (Option ℕ)) → IsScan m.source → IsBoundOutside m path table → count ≤ length table → IsRebound table (rebound table).marks
   body_rebound table scan outside long =
@@ -253,7 +254,7 @@ module _ (m : ParsedModule) (path : PathToBody) (parsed : TreeMatchesText m) whe
       let all = subst (λ l. map (ordinal_in full) l ≡ map (ordinal_in now) l) (sym paired.tokens) (same_on (ordinal_in full) (ordinal_in now) (identifier_names (tree_of m)) each) in
       record {
         marks = subst (λ (t : List (Option ℕ)). HasMarks (ordinal_in t) v.marks) (sym made) (marks_same (ordinal_in full) (ordinal_in now) v.marks all has);
-        elsewhere = λ i e. ap (λ (t : List (Option ℕ)). ordinal_in t i) made ∙ absent i (in_whole m path i e);
+        elsewhere = λ i e. ap (λ (t : List (Option ℕ)). ordinal_in t i) made ∙ absent i e;
       }
     where
       at_one : (full now : List (Option ℕ)) (i : ℕ) → (list_any (λ j. j == i) (identifier_names own_statements) ≡ true → ordinal_in full i ≡ ordinal_in now i) → (list_any (λ j. j == i) (identifier_names own_statements) ≡ false → ordinal_in full i ≡ ordinal_in now i)

@@ -1,9 +1,12 @@
 -- Proves which tokens and which table a module has after the tokens of one body are replaced.
-use Rattle.std.proofs.Common.{◌≡◌, ◌<◌, ◌≤◌, ℕ, zero, suc, ◌+◌, ◌-◌, ◌^◌, Bool, true, false, nat_lt, if◌then◌else◌, Option, Some, None, List, [], ◌∷◌, ◌++◌, map, length, take, drop, replicate, get_or, refl, sym, ap, ◌∙◌, subst, arith, append-nil, length-append, lt-ltb, le-ltb}
+use Rattle.std.proofs.Common.{◌≡◌, ◌<◌, ◌≤◌, ℕ, zero, suc, ◌+◌, ◌-◌, ◌^◌, Bool, cond, nat_le, nat_lt, Option, Some, None, List, [], ◌∷◌, ◌++◌, map, length, take, drop, replicate, get_or, refl, sym, ap, ◌∙◌, subst, arith, append-nil, length-append, lt-ltb, le-ltb}
 use Rattle.std.proofs.Math.ListN.{get_or-append}
 use Rattle.std.proofs.Math.Nat.{min-eq_left}
 use Rattle.std.proofs.Math.Seq.{get_or-append_right}
-use Rattle.std.proofs.lemmas.List.{get_or-drop, length-replicate}
+use Rattle.std.proofs.lemmas.Bool.{le-leb, lt-leb}
+use Rattle.std.proofs.lemmas.List.{get_or-drop, length-replicate, map-append}
+use Rattle.std.proofs.lemmas.List.Elements.{filter-append}
+use Rattle.std.specs.List.{filter}
 use Rattle.ob0_scan.specs.declared.tokens.CommonPrefixAndSuffix.{CommonPrefixAndSuffix}
 use Rattle.ob0_tree.specs.declared.tree.Role.{Role}
 use Rattle.ob0_tree.specs.declared.tree.Role.TheVariants as role
@@ -161,39 +164,29 @@ module _ (range : BodyRange) where
   abbrev pub far : ℕ → ℕ
   far i = i - range.old_closing + range.closing
 
-  before_append : (xs ys : List ℕ) → tokens_before_body range (xs ++ ys) ≡ tokens_before_body range xs ++ tokens_before_body range ys
-  before_append [] ys = refl
-  before_append (x ∷ xs) ys = one (before_append xs ys) (nat_lt x range.first)
-    where
-      one : tokens_before_body range (xs ++ ys) ≡ tokens_before_body range xs ++ tokens_before_body range ys → (b : Bool) → (if b then x ∷ tokens_before_body range (xs ++ ys) else tokens_before_body range (xs ++ ys)) ≡ (if b then x ∷ tokens_before_body range xs else tokens_before_body range xs) ++ tokens_before_body range ys
-      one rest true = ap (λ z. x ∷ z) rest
-      one rest false = rest
-
   before_all : (xs : List ℕ) → AllBelow range.first xs → tokens_before_body range xs ≡ xs
   before_all [] h = refl
-  before_all (x ∷ xs) h = ap (λ b. if b then x ∷ tokens_before_body range xs else tokens_before_body range xs) (lt-ltb x range.first h.0) ∙ ap (λ z. x ∷ z) (before_all xs h.1)
+  before_all (x ∷ xs) h = ap (λ b. cond b (x ∷ tokens_before_body range xs) (tokens_before_body range xs)) (lt-ltb x range.first h.0) ∙ ap (λ z. x ∷ z) (before_all xs h.1)
 
   before_none : (xs : List ℕ) → AllFrom range.first xs → tokens_before_body range xs ≡ []
   before_none [] h = refl
-  before_none (x ∷ xs) h = ap (λ b. if b then x ∷ tokens_before_body range xs else tokens_before_body range xs) (le-ltb x range.first h.0) ∙ before_none xs h.1
+  before_none (x ∷ xs) h = ap (λ b. cond b (x ∷ tokens_before_body range xs) (tokens_before_body range xs)) (le-ltb x range.first h.0) ∙ before_none xs h.1
 
-  after_append : (xs ys : List ℕ) → shifted_tokens_after_body range (xs ++ ys) ≡ shifted_tokens_after_body range xs ++ shifted_tokens_after_body range ys
-  after_append [] ys = refl
-  after_append (x ∷ xs) ys = one (after_append xs ys) (nat_lt x range.old_closing)
-    where
-      one : shifted_tokens_after_body range (xs ++ ys) ≡ shifted_tokens_after_body range xs ++ shifted_tokens_after_body range ys → (b : Bool) → (if b then shifted_tokens_after_body range (xs ++ ys) else shifted_token range x ∷ shifted_tokens_after_body range (xs ++ ys)) ≡ (if b then shifted_tokens_after_body range xs else shifted_token range x ∷ shifted_tokens_after_body range xs) ++ shifted_tokens_after_body range ys
-      one rest true = rest
-      one rest false = ap (λ z. shifted_token range x ∷ z) rest
+  abbrev is_after : ℕ → Bool
+  is_after i = nat_le range.old_closing i
 
   after_none : (xs : List ℕ) → AllBelow range.old_closing xs → shifted_tokens_after_body range xs ≡ []
   after_none [] h = refl
-  after_none (x ∷ xs) h = ap (λ b. if b then shifted_tokens_after_body range xs else shifted_token range x ∷ shifted_tokens_after_body range xs) (lt-ltb x range.old_closing h.0) ∙ after_none xs h.1
+  after_none (x ∷ xs) h = ap (λ b. map (shifted_token range) (cond b (x ∷ filter is_after xs) (filter is_after xs))) (lt-leb range.old_closing x h.0) ∙ after_none xs h.1
 
   after_all : (high : ℕ) (xs : List ℕ) → high + range.closing ≤ 2 ^ 64 - 1 → AllFrom range.old_closing xs → AllBelow high xs → shifted_tokens_after_body range xs ≡ map far xs
   after_all high [] few h k = refl
   after_all high (x ∷ xs) few h k =
       let here : shifted_token range x ≡ far x = min-eq_left (let small : x - range.old_closing + range.closing ≤ 2 ^ 64 - 1 = omega (arith, few, k.0) in small) in
-      ap (λ b. if b then shifted_tokens_after_body range xs else shifted_token range x ∷ shifted_tokens_after_body range xs) (le-ltb x range.old_closing h.0) ∙ (λ i. here i ∷ after_all high xs few h.1 k.1 i)
+      ap (λ b. map (shifted_token range) (cond b (x ∷ filter is_after xs) (filter is_after xs))) (le-leb range.old_closing x h.0) ∙ (λ i. here i ∷ after_all high xs few h.1 k.1 i)
+
+  after_append : (xs ys : List ℕ) → shifted_tokens_after_body range (xs ++ ys) ≡ shifted_tokens_after_body range xs ++ shifted_tokens_after_body range ys
+  after_append xs ys = ap (map (shifted_token range)) (filter-append is_after xs ys) ∙ map-append (shifted_token range) (filter is_after xs) (filter is_after ys)
 
   -- Keeping a selection of the old identifiers, with a selection of the new body's, gives the
   -- selection of all new identifiers.
@@ -205,8 +198,8 @@ module _ (range : BodyRange) where
       let own_is = before_none (pick own) (p.from range.first own parts.own_from) in
       let after_is = before_none (pick after) (from_less range.first range.old_closing (pick after) (omega (arith, less)) (p.from range.old_closing after parts.after_from)) in
       let first : tokens_before_body range (pick before ++ (pick own ++ pick after)) ≡ pick before =
-      before_append (pick before) (pick own ++ pick after)
-      ∙ ((λ i. before_all (pick before) (p.below range.first before parts.before_below) i ++ (before_append (pick own) (pick after) ∙ (λ i. own_is i ++ after_is i)) i) ∙ append-nil (pick before)) in
+      filter-append (λ i. nat_lt i range.first) (pick before) (pick own ++ pick after)
+      ∙ ((λ i. before_all (pick before) (p.below range.first before parts.before_below) i ++ (filter-append (λ i. nat_lt i range.first) (pick own) (pick after) ∙ (λ i. own_is i ++ after_is i)) i) ∙ append-nil (pick before)) in
       let before_is = after_none (pick before) (below_more range.first range.old_closing (pick before) (omega (arith, less)) (p.below range.first before parts.before_below)) in
       let body_is = after_none (pick own) (p.below range.old_closing own parts.own_below) in
       let last_is = after_all high (pick after) few (p.from range.old_closing after parts.after_from) (p.below high after parts.after_below) in

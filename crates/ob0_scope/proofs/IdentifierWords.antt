@@ -1,5 +1,5 @@
 -- Proves that a token is an identifier of a parsed module exactly if its word is a name.
-use Rattle.std.proofs.Common.{◌≡◌, ◌==◌, ◌||◌, ◌≤◌, ℕ, zero, suc, ◌+◌, Bool, true, false, Option, Some, None, List, [], ◌∷◌, ◌++◌, slice_get, refl, ap, ◌∙◌, arith, eq-eqb, eqb-true}
+use Rattle.std.proofs.Common.{◌≡◌, ◌==◌, ◌||◌, ◌≤◌, ℕ, zero, suc, ◌+◌, Bool, true, false, Option, Some, None, List, [], ◌∷◌, ◌++◌, slice_get, refl, ap, ◌∙◌, arith, eq-eqb, eqb-true, ne_eqb}
 use Rattle.std.specs.List.{list_any}
 use Rattle.ob0_scan.specs.ReusedLexemes.{words_of_tokens}
 use Rattle.ob0_scan.specs.TextWithTokens.{Word}
@@ -8,7 +8,7 @@ use Rattle.ob0_scan.specs.declared.lexeme.TokenKind.{TokenKind}
 use Rattle.ob0_scan.specs.declared.lexeme.TokenKind.TheVariants as kind
 use Rattle.ob0_tree.specs.IdentifierIndexes.{identifier_indexes_from, identifier_names, index_if_identifier}
 use Rattle.ob0_tree.specs.ParsedModule.{ParsedModule, TreeMatchesText, tree_of}
-use Rattle.ob0_tree.proofs.AscendingNumbers.{AllFrom, from_less}
+use Rattle.ob0_tree.proofs.AscendingNumbers.{AllBelow, AllFrom, from_less}
 use Rattle.ob0_tree.proofs.Leaves.{leaves_parsed}
 
 abbrev is_name_kind : TokenKind → Bool
@@ -27,9 +27,13 @@ apart x y less = one (y == x) refl
     one true e = absurd (omega (arith, less, eqb-true y x e))
     one false e = refl
 
-no_larger : (x : ℕ) (xs : List ℕ) → AllFrom (x + 1) xs → list_any (λ j. j == x) xs ≡ false
+pub no_larger : (x : ℕ) (xs : List ℕ) → AllFrom (x + 1) xs → list_any (λ j. j == x) xs ≡ false
 no_larger x [] h = refl
 no_larger x (y ∷ ys) h = ap (λ b. b || list_any (λ j. j == x) ys) (apart x y h.0) ∙ no_larger x ys h.1
+
+pub no_smaller : (n x : ℕ) (xs : List ℕ) → n ≤ x → AllBelow n xs → list_any (λ j. j == x) xs ≡ false
+no_smaller n x [] le h = refl
+no_smaller n x (y ∷ ys) le h = ap (λ b. b || list_any (λ j. j == x) ys) (ne_eqb y x (λ e. omega (arith, e, le, h.0))) ∙ no_smaller n x ys le h.1
 
 indexes_from : (ts : List Token) (n : ℕ) → AllFrom n (identifier_indexes_from n ts)
 indexes_from [] n = tt

@@ -18,7 +18,6 @@ use Rattle.ob0_tree.specs.Tree.{Tree, body, identifiers, maybe, occurrences}
 use Rattle.ob0_tree.specs.FirstIdentifier.{first_identifier}
 use Rattle.ob0_tree.proofs.Leaves.{leaves_ascend}
 use Rattle.ob0_tree.proofs.Mapped.{mapped_twice}
-use Rattle.ob0_tree.proofs.Occurring.{looked_up-occurrences, looked_up_only}
 use Rattle.ob0_tree.proofs.AscendingNumbers.{AllBelow, AllFrom, below_more, from_less}
 use Rattle.ob0_tree.proofs.MappedIdentifiers.{beside_role, identifiers-mapped_tree}
 use Rattle.ob0_scope_table.specs.BodyReplacement.{ReplacesStatementsOfOneBody, PathToBody, body_at_path, closing_name_at_path, shifted_token_index, path_to_body_in_module, module_without_body}
@@ -38,12 +37,13 @@ use Rattle.ob0_scope_numbering.specs.IdentifierWalk.{visit_module, visit_nondecl
 use Rattle.ob0_scope_numbering.specs.MarkWalk as listing
 use Rattle.ob0_scope_numbering.specs.TableWalk.{WalkState}
 use Rattle.ob0_scope_numbering.proofs.Passing.{HasMarks}
-use Rattle.ob0_scope.specs.BindingsOutsideBody.{IsRangeOfNewBody, tokens_in_changed_text, ordinals_in_changed_text, old_closing_token}
+use Rattle.ob0_scope.specs.BindingsOutsideBody.{IsRangeOfNewBody, tokens_in_changed_text, ordinals_in_changed_text, old_closing_token, undeclared_tokens}
 use Rattle.ob0_scope.specs.NamesVisibleInBody.{names_visible_at_path}
 use Rattle.ob0_scope.specs.declared.body_range.BodyRange.{BodyRange}
-use Rattle.ob0_scope.proofs.BodyBound.{IsBoundOutside, alike_outside, body_rebound, bound_by, bound_outside, rebound, rebound_uses}
+use Rattle.ob0_scope.proofs.BodyBound.{IsBoundOutside, alike_outside, body_rebound, bound_by, bound_outside, in_whole, rebound, rebound_uses}
 use Rattle.ob0_scope.proofs.BodySplit.{split_module}
-use Rattle.ob0_scope.proofs.CarriedLists.{Parted, carried_picked, far, parted, picks_declaring, picks_looked_up, same_parts, some_first, table_after, table_before, table_within}
+use Rattle.ob0_scope.proofs.CarriedLists.{carried_picked, far, parted, picks_declaring, same_parts, some_first, table_after, table_before, table_within}
+use Rattle.ob0_scope.proofs.CarriedNames.{AgreeOutside, Known, uses_carried, undeclared_carried}
 use Rattle.ob0_scope.proofs.IdentifierWords.{identifier_by_word, is_name_word}
 use Rattle.ob0_scope.proofs.Made.{resolution_marked}
 
@@ -53,31 +53,19 @@ stays : (s : CommonPrefixAndSuffix) (xs : List (Role × ℕ)) → AllBelow s.pre
 stays s [] h = refl
 stays s (x ∷ xs) h = λ i. (x.0, moved_below s x.1 h.0 i) ∷ stays s xs h.1 i
 
+far_is : (s : CommonPrefixAndSuffix) (range : BodyRange) (x : ℕ) → s.prefix ≤ s.old_suffix → s.old_suffix < range.old_closing → range.closing ≡ s.new_suffix + (range.old_closing - s.old_suffix) → range.old_closing ≤ x → shifted_token_index s x ≡ far range x
+far_is s range x le less e h = moved_above s x le (omega (arith, less, h)) ∙ omega (arith, le, less, e, h)
+
 goes_far : (s : CommonPrefixAndSuffix) (range : BodyRange) (xs : List (Role × ℕ)) → s.prefix ≤ s.old_suffix → s.old_suffix < range.old_closing → range.closing ≡ s.new_suffix + (range.old_closing - s.old_suffix) → AllFrom range.old_closing (names_without_roles xs)
     → map (beside_role (shifted_token_index s)) xs ≡ map (beside_role (far range)) xs
 goes_far s range [] le less e h = refl
-goes_far s range (x ∷ xs) le less e h =
-    let here : shifted_token_index s x.1 ≡ far range x.1 = moved_above s x.1 le (omega (arith, less, h.0)) ∙ omega (arith, le, less, e, h.0) in
-    λ i. (x.0, here i) ∷ goes_far s range xs le less e h.1 i
+goes_far s range (x ∷ xs) le less e h = λ i. (x.0, far_is s range x.1 le less e h.0 i) ∷ goes_far s range xs le less e h.1 i
 
 far_from : (range : BodyRange) (xs : List (Role × ℕ)) → AllFrom range.closing (names_without_roles (map (beside_role (far range)) xs))
 far_from range [] = tt
 far_from range (x ∷ xs) = (omega arith, far_from range xs)
 
 -- ---- the identifiers of both modules
-
--- states which identifiers are before the body, in the old body, in the new body, and after it
-record Known (old new : ParsedModule) (path : PathToBody) (range : BodyRange) : Type 0 where
-  before : List (Role × ℕ)
-  own : List (Role × ℕ)
-  others : List (Role × ℕ)
-  after : List (Role × ℕ)
-  high : ℕ
-  olds : identifiers role.DeclaringName (tree_of old) ≡ before ++ (own ++ after)
-  news : identifiers role.DeclaringName (tree_of new) ≡ before ++ (others ++ map (beside_role (far range)) after)
-  others_are : others ≡ identifiers role.DeclaringName (body_at_path path (tree_of new))
-  old_parts : Parted before own after range.first range.old_closing high
-  few : high + range.closing ≤ 2 ^ 64 - 1
 
 module _ (old new : ParsedModule) (path : PathToBody) (s : CommonPrefixAndSuffix) (r : ReplacesStatementsOfOneBody old new path s) where
   abbrev old_closing : ℕ
@@ -88,6 +76,9 @@ module _ (old new : ParsedModule) (path : PathToBody) (s : CommonPrefixAndSuffix
 
   abbrev exact : BodyRange
   exact = record { first = r.first; old_closing = old_closing; closing = new_closing }
+
+  closing_is : new_closing ≡ s.new_suffix + (old_closing - s.old_suffix)
+  closing_is = let back = r.back in r.closing ∙ moved_above s old_closing r.old_range (omega (arith, back))
 
   known : Known old new path exact
   known =
@@ -103,14 +94,13 @@ module _ (old new : ParsedModule) (path : PathToBody) (s : CommonPrefixAndSuffix
       let back = r.back in
       let front = r.front in
       let less = pn.less in
-      let closing : new_closing ≡ s.new_suffix + (old_closing - s.old_suffix) = r.closing ∙ moved_above s old_closing old_range (omega (arith, back)) in
       let same : sn.before ++ new_tail ≡ so.before ++ map (beside_role (far exact)) old_tail =
       sym sn.rest_is
       ∙ (ap (identifiers role.DeclaringName) r.outside
       ∙ (identifiers-mapped_tree (shifted_token_index s) (shifted_token_index s) role.DeclaringName (module_without_body path (tree_of old))
       ∙ (ap (map (beside_role (shifted_token_index s))) so.rest_is
       ∙ (map-append (beside_role (shifted_token_index s)) so.before old_tail
-      ∙ (λ i. stays s so.before (below_more r.first s.prefix (names_without_roles so.before) (omega (arith, front)) po.before_below) i ++ goes_far s exact old_tail old_range back closing po.after_from i))))) in
+      ∙ (λ i. stays s so.before (below_more r.first s.prefix (names_without_roles so.before) (omega (arith, front)) po.before_below) i ++ goes_far s exact old_tail old_range back closing_is po.after_from i))))) in
       let parts = same_parts r.first sn.before new_tail so.before (map (beside_role (far exact)) old_tail) pn.before_below po.before_below (from_less r.first new_closing (names_without_roles new_tail) (omega (arith, less)) pn.after_from)
       (from_less r.first new_closing (names_without_roles (map (beside_role (far exact)) old_tail)) (omega (arith, less)) (far_from exact old_tail)) same in
       let old_tokens = few_tokens old.source r.old_scan in
@@ -121,10 +111,11 @@ module _ (old new : ParsedModule) (path : PathToBody) (s : CommonPrefixAndSuffix
         own = own;
         others = others;
         after = old_tail;
-        high = length old.source.tokens;
         olds = so.whole_is;
         news = sn.whole_is ∙ (λ i. parts.0 i ++ (others ++ parts.1 i));
         others_are = refl;
+        others_from = pn.own_from;
+        others_below = pn.own_below;
         old_parts = po;
         few = omega (arith, old_tokens, new_tokens, inside);
       }
@@ -141,15 +132,13 @@ module _ (old new : ParsedModule) (path : PathToBody) (s : CommonPrefixAndSuffix
       let back = r.back in
       let few = few_tokens old.source r.old_scan in
       let inside = old_inside in
-      let closing : new_closing ≡ s.new_suffix + (old_closing - s.old_suffix) = r.closing ∙ moved_above s old_closing r.old_range (omega (arith, back)) in
-      let there : new_closing - s.new_suffix + s.old_suffix ≡ old_closing = omega (arith, closing, back) in
+      let there : new_closing - s.new_suffix + s.old_suffix ≡ old_closing = omega (arith, closing_is, back) in
       min-eq_left (let small : new_closing - s.new_suffix + s.old_suffix ≤ 2 ^ 64 - 1 = omega (arith, there, few, inside) in small) ∙ there
 
-known_in : (old new : ParsedModule) (path : PathToBody) (s : CommonPrefixAndSuffix) (range : BodyRange) (r : ReplacesStatementsOfOneBody old new path s) → range.first ≡ r.first → range.closing ≡ closing_name_at_path path (tree_of new) → range.old_closing ≡ old_closing_token s range.closing → Known old new path range
-known_in old new path s range r first closing place =
+exact_is : (old new : ParsedModule) (path : PathToBody) (s : CommonPrefixAndSuffix) (range : BodyRange) (r : ReplacesStatementsOfOneBody old new path s) → range.first ≡ r.first → range.closing ≡ closing_name_at_path path (tree_of new) → range.old_closing ≡ old_closing_token s range.closing → exact old new path s r ≡ range
+exact_is old new path s range r first closing place =
     let there = place ∙ (ap (old_closing_token s) closing ∙ place_is old new path s r) in
-    let is : exact old new path s r ≡ range = λ i. record { first = sym first i; old_closing = sym there i; closing = sym closing i } in
-    subst (Known old new path) is (known old new path s r)
+    λ i. record { first = sym first i; old_closing = sym there i; closing = sym closing i }
 
 -- ---- the table
 
@@ -169,6 +158,15 @@ module _ (old new : ParsedModule) (path : PathToBody) (s : CommonPrefixAndSuffix
       one (inr le) =
           let back : s.old_suffix + (s.new_suffix + (k - s.old_suffix) - s.new_suffix) ≡ k = omega (arith, le) in
           ap (ordinal_in kept) (moved_above s k r.old_range le) ∙ (table_after s table r.new_range (s.new_suffix + (k - s.old_suffix)) (omega arith) ∙ ap (ordinal_in table) back)
+
+  kept_agrees : AgreeOutside (exact old new path s r) table kept
+  kept_agrees =
+      let front = r.front in
+      let back = r.back in
+      record {
+        near = λ x less. table_before s table r.new_range x (omega (arith, less, front));
+        beyond = λ x le. ap (ordinal_in kept) (sym (far_is s (exact old new path s r) x r.old_range back (closing_is old new path s r) le)) ∙ entry_moved x (above_out s.prefix s.old_suffix x (omega (arith, back, le)));
+      }
 
   -- The moved entries are right outside the body.
   kept_outside : IsBindingTable old table → IsBoundOutside new path kept
@@ -209,11 +207,12 @@ module _ (old new : ParsedModule) (path : PathToBody) (s : CommonPrefixAndSuffix
 
 -- ---- the complete result
 
-pub new_body_bound : (m : ParsedModule) (b : Bindings) (table : List (Option ℕ)) (range : BodyRange) (names : List ℕ) (statements : Tree ℕ (maybe body)) (v : WalkState) (ordinals : List (Option ℕ)) (declaration_tokens own uses : List ℕ) (once faults : List FaultAtTokens) → IsRangeOfNewBody m b table range names statements
+pub new_body_bound : (m : ParsedModule) (b : Bindings) (table : List (Option ℕ)) (range : BodyRange) (names : List ℕ) (statements : Tree ℕ (maybe body)) (v : WalkState) (ordinals : List (Option ℕ)) (declaration_tokens own uses : List ℕ) (faults : List FaultAtTokens) → IsRangeOfNewBody m b table range names statements
     → length m.source.tokens ≤ length table → v ≡ visit_nondeclaring_tree statements (state_before_body m.source (scope_from_table m.source table names) table) → ordinals ≡ v.marks → own ≡ v.uses
-    → declaration_tokens ≡ tokens_in_changed_text range b.declaration_tokens.items [] → uses ≡ tokens_in_changed_text range b.occurrences.items own → once ≡ declaration_faults m → faults ≡ once ++ undeclared_faults_from_table ordinals uses
+    → declaration_tokens ≡ tokens_in_changed_text range b.declaration_tokens.items [] → uses ≡ tokens_in_changed_text range b.occurrences.items own
+    → faults ≡ declaration_faults m ++ undeclared_faults_from_table ordinals (tokens_in_changed_text range (undeclared_tokens b.faults.items) own)
     → IsResolution (record { module_read = m; ordinals = ordinals; declaration_tokens = declaration_tokens; uses = uses; faults = faults })
-new_body_bound m b table range names statements v ordinals declaration_tokens own uses once faults n long visited marked looked_up declared used twice all =
+new_body_bound m b table range names statements v ordinals declaration_tokens own uses faults n long visited marked looked_up declared used reported =
     let was = n.was_bound in
     let old = was.old in
     let path = was.path in
@@ -224,7 +223,9 @@ new_body_bound m b table range names statements v ordinals declaration_tokens ow
     let statements_are = n.statements_are ∙ ap (λ y. body_at_path y (tree_of m)) there in
     let names_are = n.names_are ∙ ap (λ y. names_visible_at_path y (tree_of m)) there in
     let first : range.first ≡ r.first = some_first (sym n.first ∙ (ap (λ (t : Tree ℕ (maybe body)). first_identifier t) statements_are ∙ r.first_identifier_of_new_body)) in
-    let known = known_in old m path s range r first (n.closing ∙ ap (λ y. closing_name_at_path y (tree_of m)) there) n.old_closing in
+    let is = exact_is old m path s range r first (n.closing ∙ ap (λ y. closing_name_at_path y (tree_of m)) there) n.old_closing in
+    let known = subst (Known old m path) is (known old m path s r) in
+    let agrees : AgreeOutside range b.ordinals.items table = subst (λ (t : List (Option ℕ)). AgreeOutside range b.ordinals.items t) (sym n.table_is) (subst (λ z. AgreeOutside z b.ordinals.items (ordinals_in_changed_text s b.ordinals.items)) is (kept_agrees old m path s r b.ordinals.items)) in
     let walked : v ≡ rebound m path r.new_parsed table = visited ∙ (λ i. visit_nondeclaring_tree (statements_are i) (state_before_body m.source (scope_from_table m.source table (names_are i)) table)) in
     let outside = subst (IsBoundOutside m path) (sym n.table_is) (kept_outside old m path s r b.ordinals.items res.binding) in
     let alone = subst (λ (t : List (Option ℕ)). (i : ℕ) → list_any (λ j. j == i) (identifier_names (tree_of m)) ≡ false → ordinal_in t i ≡ None) (sym n.table_is) (kept_alone old m path s r b.ordinals.items res.ordinals_only_at_names) in
@@ -234,16 +235,12 @@ new_body_bound m b table range names statements v ordinals declaration_tokens ow
     let declaring : declaration_tokens ≡ declaring_names (identifiers role.DeclaringName (tree_of m)) =
     declared
     ∙ ((λ i. tokens_in_changed_text range ((res.declaring ∙ ap declaring_names known.olds) i) (sym nothing i))
-    ∙ (carried_picked range declaring_names known.before known.own known.after known.others known.high picks_declaring known.old_parts known.few ∙ ap declaring_names (sym known.news))) in
-    let own_is : own ≡ looked_up_only known.others =
-    looked_up ∙ (ap (λ (v : WalkState). v.uses) walked ∙ (rebound_uses m path r.new_parsed table ∙ (sym (looked_up-occurrences role.DeclaringName (λ n xs. refl) (body_at_path path (tree_of m))) ∙ ap looked_up_only (sym known.others_are)))) in
-    let old_uses : b.occurrences.items ≡ looked_up_only (known.before ++ (known.own ++ known.after)) = res.occurring ∙ (sym (looked_up-occurrences role.DeclaringName (λ n xs. refl) (tree_of old)) ∙ ap looked_up_only known.olds) in
-    let occurring : uses ≡ occurrences (tree_of m) =
-    used
-    ∙ ((λ i. tokens_in_changed_text range (old_uses i) (own_is i))
-    ∙ (carried_picked range looked_up_only known.before known.own known.after known.others known.high picks_looked_up known.old_parts known.few
-    ∙ (ap looked_up_only (sym known.news) ∙ looked_up-occurrences role.DeclaringName (λ n xs. refl) (tree_of m)))) in
-    resolution_marked m ordinals declaration_tokens uses once faults r.new_parsed
+    ∙ (carried_picked range declaring_names known.before known.own known.after known.others (length old.source.tokens) picks_declaring known.old_parts known.few ∙ ap declaring_names (sym known.news))) in
+    let own_is = looked_up ∙ (ap (λ (v : WalkState). v.uses) walked ∙ rebound_uses m path r.new_parsed table) in
+    let occurring : uses ≡ occurrences (tree_of m) = used ∙ uses_carried old m path range known b.occurrences.items own res.occurring own_is in
+    let same : (i : ℕ) → list_any (λ j. j == i) (identifier_names (body_at_path path (tree_of m))) ≡ false → ordinal_in ordinals i ≡ ordinal_in table i = λ i e. ap (λ (os : List (Option ℕ)). ordinal_in os i) ordinals_are ∙ again.elsewhere i e in
+    let all = reported ∙ ap (λ fs. declaration_faults m ++ fs) (undeclared_carried old m path range known b table ordinals own res own_is agrees same ∙ ap (undeclared_faults_from_table ordinals) (sym occurring)) in
+    resolution_marked m ordinals declaration_tokens uses (declaration_faults m) faults r.new_parsed
     (subst (λ (os : List (Option ℕ)). HasMarks (ordinal_in os) (visit_module (tree_of m) (listing.initial_walk_state (original_spellings m.source))).marks) (sym ordinals_are) again.marks)
-    (λ token e. ap (λ (os : List (Option ℕ)). ordinal_in os token) ordinals_are ∙ (again.elsewhere token e ∙ alone token e))
-    declaring occurring twice all
+    (λ token e. same token (in_whole m path token e) ∙ alone token e)
+    declaring occurring refl all

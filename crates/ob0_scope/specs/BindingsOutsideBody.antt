@@ -1,12 +1,15 @@
 -- The data about a module's names that is kept when the statements of one body are replaced. This
 -- is the data about the tokens before that body, and about the tokens after it, which have moved.
 -- Rule: none; used in private contracts about bindings that are kept when one body is replaced (`body_range.rt`).
-use Rattle.std.specs.Prelude.{◌≡◌, ℕ, ◌+◌, ◌-◌, ◌^◌, min, nat_lt, List, [], ◌∷◌, ◌++◌, Option, Some, None, if◌then◌else◌, length, take, drop, replicate}
+use Rattle.std.specs.Prelude.{◌≡◌, ℕ, ◌+◌, ◌-◌, ◌^◌, min, nat_le, nat_lt, List, ◌++◌, Option, Some, None, length, map, take, drop, replicate}
+use Rattle.std.specs.List.{filter}
 use Rattle.ob0_scan.specs.declared.tokens.CommonPrefixAndSuffix.{CommonPrefixAndSuffix}
 use Rattle.ob0_tree.specs.ParsedModule.{ParsedModule, tree_of}
 use Rattle.ob0_tree.specs.Tree.{Tree, body, maybe}
 use Rattle.ob0_tree.specs.FirstIdentifier.{first_identifier}
 use Rattle.ob0_scope_table.specs.BodyReplacement.{body_at_path, closing_name_at_path, path_to_body_in_module}
+use Rattle.ob0_scope_table.specs.Resolution.{is_undeclared_fault}
+use Rattle.ob0_scope_table.specs.declared.faults.FaultAtTokens.{FaultAtTokens}
 use Rattle.ob0_scope_table.specs.declared.resolved.Bindings.{Bindings}
 use Rattle.ob0_scope.specs.BindingsBeforeBodyReplacement.{AreBindingsBeforeBodyReplacement}
 use Rattle.ob0_scope.specs.NamesVisibleInBody.{names_visible_at_path}
@@ -14,9 +17,7 @@ use Rattle.ob0_scope.specs.declared.body_range.BodyRange.{BodyRange}
 
 -- returns the tokens of a list that are before the replaced body in the text
 abbrev pub tokens_before_body : BodyRange → List ℕ → List ℕ
-tokens_before_body range [] = []
-tokens_before_body range (i ∷ is) =
-    if nat_lt i range.first then i ∷ tokens_before_body range is else tokens_before_body range is
+tokens_before_body range tokens = filter (λ i. nat_lt i range.first) tokens
 
 -- returns the index in the changed text of a token after the replaced body, given its old index; at
 -- most 2^64 - 1
@@ -25,15 +26,16 @@ shifted_token range i = min (i - range.old_closing + range.closing) (2 ^ 64 - 1)
 
 -- returns the tokens of a list that are after the replaced body in the text, with their new indexes
 abbrev pub shifted_tokens_after_body : BodyRange → List ℕ → List ℕ
-shifted_tokens_after_body range [] = []
-shifted_tokens_after_body range (i ∷ is) =
-    if nat_lt i range.old_closing then shifted_tokens_after_body range is
-    else shifted_token range i ∷ shifted_tokens_after_body range is
+shifted_tokens_after_body range tokens = map (shifted_token range) (filter (λ i. nat_le range.old_closing i) tokens)
 
 -- converts a list of token indexes of the old text to indexes in the changed text; the tokens in
 -- the old body are replaced by `own`, the tokens in the new body
 abbrev pub tokens_in_changed_text : BodyRange → List ℕ → List ℕ → List ℕ
 tokens_in_changed_text range tokens own = tokens_before_body range tokens ++ (own ++ shifted_tokens_after_body range tokens)
+
+-- returns the tokens of the undeclared names that these faults report, in the same order
+abbrev pub undeclared_tokens : List FaultAtTokens → List ℕ
+undeclared_tokens faults = map (λ fault. fault.first) (filter is_undeclared_fault faults)
 
 -- returns the first `n` entries of a table, filled up with None if the table is shorter
 abbrev pub resized_with_none : ℕ → List (Option ℕ) → List (Option ℕ)

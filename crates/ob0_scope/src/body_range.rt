@@ -2,11 +2,12 @@
 //! After a body is replaced, moves the bindings of all tokens outside it to the tokens' new
 //! indexes.
 
-ghost use Rattle.std.specs.Prelude.{◌≡◌, ◌++◌, IfOk, OnOk};
+ghost use Rattle.std.specs.Prelude.{◌≡◌, ◌≤◌, ◌++◌, IfOk, OnOk, drop, false, length, map, nat_lt, take, true};
+ghost use Rattle.std.specs.List.Sorted.{IsNonDecreasing, IsPartitionPoint};
 ghost use Rattle.ob0_tree.specs.View.{block_of, body_of, procedure_of};
 ghost use Rattle.ob0_scope_table.specs.BodyReplacement.{body_at_path_in_block, body_at_path_in_procedure, closing_name_at_path_in_block, closing_name_at_path_in_procedure, path_to_body_in_block, path_to_body_in_procedure};
 ghost use Rattle.ob0_scope.specs.NamesVisibleInBody.{names_visible_at_path_in_block, names_visible_at_path_in_procedure};
-ghost use Rattle.ob0_scope.specs.BindingsOutsideBody.{shifted_tokens_after_body, tokens_before_body, tokens_in_changed_text, ordinals_in_changed_text, old_closing_token, shifted_token};
+ghost use Rattle.ob0_scope.specs.BindingsOutsideBody.{tokens_in_changed_text, ordinals_in_changed_text, old_closing_token, shifted_token};
 
 use crate::declaration_checks::{
     append_constant_names, append_formal_parameter_names, append_type_names, append_variable_names,
@@ -100,7 +101,8 @@ pub(crate) fn ordinals_in_changed_text(
 ) -> Result<Vec<OrdinalEntry>, AllocError>
     ensures { IfOk result (λ table. table.items ≡ ordinals_in_changed_text same old.now) }
 {
-    let mut table = Vec::with_capacity(alloc, old.len())?;
+    let following = old.len().saturating_sub(same.old_suffix);
+    let mut table = Vec::with_capacity(alloc, same.new_suffix.saturating_add(following))?;
     table.extend_from_slice(&old[..same.prefix.min(old.len())])?;
     table.resize(same.new_suffix, OrdinalEntry::new(None))?;
     table.extend_from_slice(&old[same.old_suffix.min(old.len())..])?;
@@ -129,55 +131,46 @@ impl BodyRange {
             .saturating_add(self.closing)
     }
 
-    /// Appends to `out` the tokens of the list `tokens` that are before the body in the text.
-    fn append_tokens_before_body(
-        self,
-        out: &mut Vec<usize>,
-        tokens: &[usize],
-    ) -> Result<(), AllocError>
-        ensures { OnOk result (out.new.items ≡ out.old.items
-            ++ tokens_before_body self tokens.now) }
+    /// Moves the token at the position `start` of the list `tokens`, and all tokens after it in the
+    /// list, to their indexes in the changed text.
+    fn shift_tokens(self, tokens: &mut Vec<usize>, start: usize)
+        requires { start ≤ length tokens.old.items }
+        ensures { tokens.new.items
+            ≡ take start tokens.old.items ++ map (shifted_token self) (drop start tokens.old.items) }
     {
-        for token in tokens {
-            if *token < self.first {
-                out.push(*token)?;
-            }
+        for position in start..tokens.len() {
+            tokens[position] = self.shifted_token(tokens[position]);
         }
-        Ok(())
     }
 
-    /// Appends to `out` the tokens of the list `tokens` that are after the body in the text, with
-    /// their new indexes.
-    fn append_shifted_tokens_after_body(
+    /// Converts the ascending list `tokens` of token indexes of the old text to indexes in the
+    /// changed text. The tokens of the old body are replaced by `own`, the tokens of the new body.
+    /// The tokens before the body aren't visited.
+    pub(crate) fn replace_tokens(
         self,
-        out: &mut Vec<usize>,
-        tokens: &[usize],
-    ) -> Result<(), AllocError>
-        ensures { OnOk result (out.new.items ≡ out.old.items
-            ++ shifted_tokens_after_body self tokens.now) }
-    {
-        for token in tokens {
-            if *token >= self.old_closing {
-                out.push(self.shifted_token(*token))?;
-            }
-        }
-        Ok(())
-    }
-
-    /// Converts the list `tokens` of token indexes of the old text to indexes in the changed text.
-    /// The tokens of the old body are replaced by `own`, the tokens of the new body.
-    pub(crate) fn tokens_in_changed_text(
-        self,
-        alloc: Global,
-        tokens: &[usize],
+        tokens: &mut Vec<usize>,
         own: &[usize],
-    ) -> Result<Vec<usize>, AllocError>
-        ensures { IfOk result (λ all. all.items ≡ tokens_in_changed_text self tokens.now own.now) }
+    ) -> Result<(), AllocError>
+        requires ordered { self.first ≤ self.old_closing }
+        requires ascending { IsNonDecreasing tokens.old.items }
+        ensures { OnOk result (tokens.new.items
+            ≡ tokens_in_changed_text self tokens.old.items own.now) }
     {
-        let mut all = Vec::with_capacity(alloc, tokens.len())?;
-        self.append_tokens_before_body(&mut all, tokens)?;
-        all.extend_from_slice(own)?;
-        self.append_shifted_tokens_after_body(&mut all, tokens)?;
-        Ok(all)
+        let start = count_tokens_before(tokens, self.first);
+        let end = count_tokens_before(tokens, self.old_closing);
+        self.shift_tokens(tokens, end);
+        tokens.splice(start..end, own.iter().copied())?;
+        Ok(())
     }
+}
+
+/// Returns the number of tokens in the ascending list `tokens` that are before the token `limit`.
+/// Finds it by binary search.
+fn count_tokens_before(tokens: &[usize], limit: usize) -> usize
+    requires { IsNonDecreasing tokens.now }
+    ensures bound { result ≤ length tokens.now }
+    ensures point { IsPartitionPoint (λ token. nat_lt token limit ≡ true)
+        (λ token. nat_lt token limit ≡ false) tokens.now result }
+{
+    tokens.partition_point(|token| *token < limit)
 }

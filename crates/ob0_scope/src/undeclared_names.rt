@@ -1,11 +1,12 @@
 //! Reports the undeclared names.
 
-ghost use Rattle.std.specs.Prelude.{◌≡◌, ◌++◌, OnOk};
+ghost use Rattle.std.specs.Prelude.{◌≡◌, ◌++◌, IfOk, OnOk};
 ghost use Rattle.ob0_scope_table.specs.Resolution.{undeclared_faults_from_table};
+ghost use Rattle.ob0_scope.specs.BindingsOutsideBody.{undeclared_tokens};
 
 use ob0_scan::FaultCode;
 use ob0_scope_table::{FaultAtTokens, OrdinalEntry, fault_at_token, ordinal_at};
-use std::alloc::AllocError;
+use std::alloc::{AllocError, Global};
 
 /// Appends a fault `Undeclared` for each token in `occurrences` that has no ordinal in the table
 /// `ordinals`.
@@ -23,4 +24,20 @@ pub(crate) fn report_undeclared_names(
         }
     }
     Ok(())
+}
+
+/// Returns the tokens of the undeclared names that `faults` reports, in the same order.
+pub(crate) fn undeclared_tokens(
+    alloc: Global,
+    faults: &[FaultAtTokens],
+) -> Result<Vec<usize>, AllocError>
+    ensures { IfOk result (λ tokens. tokens.items ≡ undeclared_tokens faults.now) }
+{
+    let mut tokens = Vec::new(alloc);
+    for fault in faults {
+        if fault.code == FaultCode::Undeclared {
+            tokens.push(fault.first)?;
+        }
+    }
+    Ok(tokens)
 }
