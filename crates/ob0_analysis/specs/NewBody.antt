@@ -1,19 +1,14 @@
--- States that a body of the earlier module and a body of the current module are the same body,
--- though its statements may differ.
+-- Defines the tokens of a body after its first identifier.
 -- Rule: none; used in private contracts about the results that an analysis reuses.
-use Rattle.std.specs.Prelude.{◌≡◌, ◌<◌, ◌+◌, Option, Some}
-use Rattle.ob0_scan.specs.declared.tokens.CommonPrefixAndSuffix.{CommonPrefixAndSuffix}
+use Rattle.std.specs.Prelude.{◌≡◌, ℕ, ◌+◌, Some}
+use Rattle.ob0_tree.specs.Tree.{Tree, module_text}
+use Rattle.ob0_scope_table.specs.BoundsOfBodies.{body_bounds_of_range}
 use Rattle.ob0_scope_table.specs.declared.one_body.BodyBounds.{BodyBounds}
 
--- States that two bodies are the same body. One is in the earlier module, with the bounds `was`.
--- The other is in the current module, with the bounds `now`. `s` says which tokens may differ. The
--- body's first identifier is at the same token index in both modules, before the tokens that may
--- differ. The closing name of its block is at the same distance after these tokens in both modules.
--- If `now` is None, this is false.
-pub record IsSameBody (was : BodyBounds) (now : Option BodyBounds) (s : CommonPrefixAndSuffix) : Type 0 where
-  pub place : BodyBounds
-  pub is : now ≡ Some place
-  pub first : was.first ≡ place.first
-  pub front : was.first < s.prefix
-  pub back : s.old_suffix < was.closing
-  pub closing : place.closing + s.old_suffix ≡ was.closing + s.new_suffix
+-- States that the tokens from `low` up to, but not including, `high` are all tokens of one body
+-- after its first identifier. `bounds` are the bounds of this body. So `high` is the END of its
+-- block.
+pub record IsBodyAfterFirstIdentifier (t : Tree ℕ module_text) (low high : ℕ) (bounds : BodyBounds) : Type 0 where
+  pub found : body_bounds_of_range low high t ≡ Some bounds
+  pub first : bounds.first + 1 ≡ low
+  pub closing : bounds.closing ≡ high + 1

@@ -12,7 +12,7 @@
 //! the start (`widen_difference_to_body`). Each further change must lie in the same body
 //! (`keep_optional_module_across_change`).
 
-ghost use Rattle.std.specs.Prelude.{◌≡◌, ◌≤◌, IfSome, Some};
+ghost use Rattle.std.specs.Prelude.{◌≡◌, ◌≤◌, ◌+◌, IfSome, Some};
 ghost use Rattle.ob0_analysis.specs.LastModule.{IsEarlierModule, WidensDifference, KeepsLastModule, IsLastModuleOf};
 
 use ob0_scan::{CommonPrefixAndSuffix, Tokens};
@@ -21,15 +21,13 @@ use ob0_tree::ModuleTree;
 use ob0_types::CheckResult;
 
 /// The names and types of the last text that was a module. `same` describes the tokens that the
-/// current text is known to share with that module. All other tokens of that module lie in one
-/// body. `place` has the token indexes of this body's first identifier and of its block's closing
-/// name.
+/// current text is known to share with that module. The other tokens of that module are all tokens
+/// of one body after its first identifier.
 #[derive(Drop)]
 pub(crate) struct LastModule {
     pub(crate) bindings: Bindings,
     pub(crate) types: CheckResult,
     pub(crate) same: CommonPrefixAndSuffix,
-    pub(crate) place: BodyBounds,
 }
 
 impl LastModule {
@@ -49,12 +47,10 @@ impl LastModule {
     {
         let body = body_bounds_in_tree(tree, same.prefix, same.old_suffix)?;
         let wider = widen_difference_to_body(same, body, tokens.tokens().len())?;
-        let place = body_bounds_in_tree(tree, wider.prefix, wider.old_suffix)?;
         Some(LastModule {
             bindings,
             types,
             same: wider,
-            place,
         })
     }
 
@@ -83,7 +79,6 @@ impl LastModule {
             bindings,
             types,
             same,
-            place,
         } = self;
         let wider = widen_difference(change, same.prefix, same.new_suffix)?;
         Some(LastModule {
@@ -94,7 +89,6 @@ impl LastModule {
                 old_suffix: same.old_suffix,
                 new_suffix: wider.new_suffix,
             },
-            place,
         })
     }
 }
@@ -109,7 +103,10 @@ fn widen_difference_to_body(
     body: BodyBounds,
     count: usize,
 ) -> Option<CommonPrefixAndSuffix>
-    ensures { IfSome result (λ wider. WidensDifference same wider × (wider.new_suffix ≤ count)) }
+    ensures wider { IfSome result (WidensDifference same) }
+    ensures body { IfSome result (λ wider. (body.first + 1 ≡ wider.prefix)
+        × (body.closing ≡ wider.old_suffix + 1)) }
+    ensures inside { IfSome result (λ wider. wider.new_suffix ≤ count) }
 {
     let prefix = body.first.checked_add(1)?;
     let end = body.closing.checked_sub(1)?;
