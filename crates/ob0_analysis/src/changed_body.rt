@@ -2,19 +2,17 @@
 //! texts differ in only one body, the bindings and types outside this body are reused.
 
 ghost use Rattle.std.specs.Prelude.{◌≡◌, [], true, IfOk, IfSome};
-ghost use Rattle.ob0_tree.specs.ParsedModule.{TreeMatchesText, parsed_module};
 ghost use Rattle.ob0_scope.specs.BindingsBeforeBodyChange.{AreBindingsBeforeBodyChange};
 ghost use Rattle.ob0_scope_table.specs.Bindings.{resolution_with_bindings};
 ghost use Rattle.ob0_scope_table.specs.Resolution.{IsResolution};
 ghost use Rattle.ob0_types.specs.CheckedModules.{IsCheckResultOfModule};
 ghost use Rattle.ob0_types.specs.OneBody.{IsCheckResultBeforeBodyChange};
 
-use crate::module_parts::check_types;
-use ob0_scan::{CommonPrefixAndSuffix, Tokens};
+use ob0_scan::CommonPrefixAndSuffix;
 use ob0_scope::{bindings_of, rebind_changed_body};
 use ob0_scope_table::{Bindings, BodyBounds, Resolved};
-use ob0_tree::{Module, ModuleTree};
-use ob0_types::{CheckResult, check_result_after_body_change};
+use ob0_tree::Module;
+use ob0_types::{CheckResult, check_result_after_body_change, check_result_of};
 use std::alloc::{AllocError, Global};
 
 /// Returns the bindings of a text that has the same tree as the previous text. `bindings` are the
@@ -24,31 +22,27 @@ use std::alloc::{AllocError, Global};
 /// the texts differ in only this body, and all names if `body` is None.
 pub(crate) fn rebind_names(
     alloc: Global,
-    tokens: &Tokens,
-    tree: &ModuleTree,
+    read: &Module<'_>,
     bindings: Bindings,
     same: CommonPrefixAndSuffix,
     same_names: bool,
     body: Option<BodyBounds>,
 ) -> Result<Bindings, AllocError>
-    requires parsed { TreeMatchesText (parsed_module tokens.now tree.now) }
     requires resolved { same_names ≡ true
         → bindings.faults.items ≡ []
-        → IsResolution (resolution_with_bindings (parsed_module tokens.now tree.now) bindings) }
+        → IsResolution (resolution_with_bindings read.now bindings) }
     requires before { IfSome body
-        (λ _. AreBindingsBeforeBodyChange (parsed_module tokens.now tree.now) bindings same.prefix same.old_suffix) }
-    ensures { IfOk result (λ b. IsResolution (resolution_with_bindings
-        (parsed_module tokens.now tree.now) b)) }
+        (λ _. AreBindingsBeforeBodyChange read.now bindings same.prefix same.old_suffix) }
+    ensures { IfOk result (λ b. IsResolution (resolution_with_bindings read.now b)) }
 {
     if same_names && bindings.faults.is_empty() {
         return Ok(bindings);
     }
-    let read = Module::from_parts(tokens, tree);
     match body {
-        Some(_body) => rebind_changed_body(alloc, &read, bindings, same.prefix, same.old_suffix),
+        Some(_body) => rebind_changed_body(alloc, read, bindings, same.prefix, same.old_suffix),
         None => {
             drop(bindings);
-            bindings_of(alloc, &read)
+            bindings_of(alloc, read)
         }
     }
 }
@@ -56,28 +50,21 @@ pub(crate) fn rebind_names(
 /// Checks the types of a text that has the same tree as the previous text. `types` are the types of
 /// the previous text. If the texts differ in only the body with the bounds `body`, the types
 /// outside this body are reused. If `body` is None, all types are checked again.
-pub(crate) fn recheck_types(
+pub(crate) fn recheck_types<'t>(
     alloc: Global,
-    tokens: &Tokens,
-    tree: &ModuleTree,
-    bindings: &Bindings,
+    resolved: &'t Resolved<'t>,
     types: CheckResult,
     body: Option<BodyBounds>,
 ) -> Result<CheckResult, AllocError>
-    requires parsed { TreeMatchesText (parsed_module tokens.now tree.now) }
-    requires resolved { IsResolution (resolution_with_bindings (parsed_module tokens.now tree.now)
-        bindings.now) }
-    requires before { IfSome body (λ bounds. IsCheckResultBeforeBodyChange
-        (resolution_with_bindings (parsed_module tokens.now tree.now) bindings.now) types bounds.closing) }
-    ensures { IfOk result
-        (IsCheckResultOfModule (resolution_with_bindings (parsed_module tokens.now tree.now) bindings.now)) }
+    requires { IfSome body
+        (λ bounds. IsCheckResultBeforeBodyChange resolved.now types bounds.closing) }
+    ensures { IfOk result (IsCheckResultOfModule resolved.now) }
 {
-    let Some(body) = body else {
-        drop(types);
-        return check_types(alloc, tokens, tree, bindings);
-    };
-    let module = Module::from_parts(tokens, tree);
-    let resolved = Resolved::from_parts(&module, bindings);
-    let again = check_result_after_body_change(alloc, &resolved, types, body.closing)?;
-    Ok(again)
+    match body {
+        Some(body) => check_result_after_body_change(alloc, resolved, types, body.closing),
+        None => {
+            drop(types);
+            check_result_of(alloc, resolved)
+        }
+    }
 }

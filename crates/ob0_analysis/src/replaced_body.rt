@@ -3,21 +3,17 @@
 
 ghost use Rattle.std.specs.Prelude.{◌≡◌, IfOk, IfSome};
 ghost use Rattle.ob0_tree.specs.ParsedModule.{TreeMatchesText, parsed_module};
-ghost use Rattle.ob0_scope_table.specs.Bindings.{resolution_with_bindings};
 ghost use Rattle.ob0_scope_table.specs.BoundsOfBodies.{module_tree_of};
-ghost use Rattle.ob0_scope_table.specs.Resolution.{IsResolution};
-ghost use Rattle.ob0_types.specs.CheckedModules.{IsCheckResultOfModule};
-ghost use Rattle.ob0_types.specs.NewBody.{IsCheckResultBeforeBodyReplacement};
 ghost use Rattle.ob0_analysis.specs.LastModule.{IsLastModuleOf};
 ghost use Rattle.ob0_analysis.specs.NewBody.{IsBodyAfterFirstIdentifier};
 
 use crate::last_module::LastModule;
 use crate::module_parts::ModuleParts;
-use ob0_scan::{CommonPrefixAndSuffix, Tokens};
+use ob0_scan::Tokens;
 use ob0_scope::rebind_replaced_body;
-use ob0_scope_table::{Bindings, BodyBounds, Resolved, body_bounds_in_tree};
+use ob0_scope_table::{BodyBounds, Resolved, body_bounds_in_tree};
 use ob0_tree::{Module, ModuleTree};
-use ob0_types::{CheckResult, check_result_after_body_replacement};
+use ob0_types::check_result_after_body_replacement;
 use std::alloc::{AllocError, Global};
 
 /// Analyses a module, given its tokens and tree, and reuses names and types of an earlier module
@@ -43,7 +39,13 @@ pub(crate) fn reuse_last_module(
         return ModuleParts::bind_and_check(alloc, tokens, tree);
     };
     let names = rebind_replaced_body(alloc, &Module::from_parts(&tokens, &tree), bindings, same)?;
-    let types = check_types_in_new_body(alloc, &tokens, &tree, &names, types, same, body.closing)?;
+    let types = check_result_after_body_replacement(
+        alloc,
+        &Resolved::from_parts(&Module::from_parts(&tokens, &tree), &names),
+        types,
+        same,
+        body.closing,
+    )?;
     Ok(ModuleParts::from_parts(tokens, tree, names, types))
 }
 
@@ -60,30 +62,4 @@ fn body_after_first_identifier(tree: &ModuleTree, low: usize, high: usize) -> Op
         return None;
     }
     Some(body)
-}
-
-/// Checks the types of the body that contains all differences from the earlier module. Reuses all
-/// other types from the earlier module (`types`). `same` describes the tokens that both modules
-/// share. `closing` is the closing name of that body's block. Fails only if an allocation fails.
-fn check_types_in_new_body(
-    alloc: Global,
-    tokens: &Tokens,
-    tree: &ModuleTree,
-    bindings: &Bindings,
-    types: CheckResult,
-    same: CommonPrefixAndSuffix,
-    closing: usize,
-) -> Result<CheckResult, AllocError>
-    requires parsed { TreeMatchesText (parsed_module tokens.now tree.now) }
-    requires resolved { IsResolution (resolution_with_bindings (parsed_module tokens.now tree.now)
-        bindings.now) }
-    requires before { IsCheckResultBeforeBodyReplacement
-        (resolution_with_bindings (parsed_module tokens.now tree.now) bindings.now) types same closing }
-    ensures { IfOk result
-        (IsCheckResultOfModule (resolution_with_bindings (parsed_module tokens.now tree.now) bindings.now)) }
-{
-    let module = Module::from_parts(tokens, tree);
-    let resolved = Resolved::from_parts(&module, bindings);
-    let again = check_result_after_body_replacement(alloc, &resolved, types, same, closing)?;
-    Ok(again)
 }

@@ -30,8 +30,8 @@ use ob0_scan::{
     CommonPrefixAndSuffix, Fault, RescanFailure, RescanWithComparison, Tokens, rescan_in_place,
 };
 use ob0_scope::laws::{bindings_depend_only_on_names, bindings_depend_only_on_spellings};
-use ob0_scope_table::{Bindings, body_bounds_in_tree};
-use ob0_tree::ModuleTree;
+use ob0_scope_table::{Bindings, Resolved, body_bounds_in_tree};
+use ob0_tree::{Module, ModuleTree};
 use ob0_types::CheckResult;
 use ob0_types::laws::check_result_depends_only_on_spellings;
 use std::alloc::{AllocError, Global};
@@ -404,8 +404,20 @@ impl ScannedTextAnalysis {
         ensures { IfOk result (λ r. r ≡ tokens.text) }
     {
         let body = body_bounds_in_tree(&tree, same.prefix, same.old_suffix);
-        let names = rebind_names(alloc, &tokens, &tree, bindings, same, same_names, body)?;
-        let types = recheck_types(alloc, &tokens, &tree, &names, types, body)?;
+        let names = rebind_names(
+            alloc,
+            &Module::from_parts(&tokens, &tree),
+            bindings,
+            same,
+            same_names,
+            body,
+        )?;
+        let types = recheck_types(
+            alloc,
+            &Resolved::from_parts(&Module::from_parts(&tokens, &tree), &names),
+            types,
+            body,
+        )?;
         let parts = ModuleParts::from_parts(tokens, tree, names, types);
         Ok(ScannedTextAnalysis::from_module(parts))
     }
