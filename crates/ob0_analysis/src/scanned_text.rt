@@ -259,7 +259,7 @@ impl ScannedTextAnalysis {
             same_words: _,
         } = changed;
         let tokens = rescan.tokens;
-        let last = LastModule::keep_optional_module_across_change(last, same);
+        let last = LastModule::keep_across_change(last, same);
         if !same_kinds {
             return ScannedTextAnalysis::analyse_tokens(
                 alloc,
