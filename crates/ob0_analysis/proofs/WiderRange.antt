@@ -8,9 +8,9 @@ use Rattle.ob0_tree.specs.Tree.{Sort, Tree, block, body, declares, declares_proc
 use Rattle.ob0_tree.proofs.Leaves.{ascending_bounds, ascending_higher}
 use Rattle.ob0_scope_table.specs.BodyReplacement.{body_at_path_in_block, closing_name_at_path_in_block, path_to_body_in_block}
 use Rattle.ob0_scope_table.specs.BoundsOfBodies.{body_bounds_in_block, body_bounds_of_range, body_bounds_of_statements_if}
-use Rattle.ob0_scope_table.specs.SpellingChangesInOneBody.{closing_name, is_range_in_body_of_block}
+use Rattle.ob0_scope_table.specs.SpellingChangesInOneBody.{is_range_in_body_of_block}
 use Rattle.ob0_scope_table.specs.declared.one_body.BodyBounds.{BodyBounds}
-use Rattle.ob0_scope_table.proofs.BodyPlaces.{a_place, among_block, place_among, place_by, place_reached}
+use Rattle.ob0_scope_table.proofs.BodyPlaces.{a_place, among_block, place_among, place_by}
 
 -- ---- identifiers that ascend
 
@@ -28,13 +28,6 @@ cut low (x ∷ xs) ys high h = let c = cut (x.1 + 1) xs ys high h.1 in record { 
 
 abbrev ids : {s : Sort} → Tree ℕ s → List (Role × ℕ)
 ids t = identifiers role.DeclaringName t
-
--- A procedure's closing name is its last identifier.
-closes_below : (q : Tree ℕ (item procedure)) (least top : ℕ) → Ascend least (ids q) top → closing_name q < top
-closes_below (declares_procedure x fs b closing) least top h =
-    let c = cut (x + 1) (ids fs) (ids b ++ ((role.ClosingName, closing) ∷ [])) top h.1 in
-    let d = cut c.middle (ids b) ((role.ClosingName, closing) ∷ []) top c.last in
-    omega (arith, d.last.1)
 
 -- ---- the bounds of a wider range
 
@@ -100,11 +93,14 @@ module _ (low high wide_low wide_high : ℕ) (place : BodyBounds) (front : place
 
     in_procedures : (least own : ℕ) (ps : Tree ℕ (items procedure)) (statements : Tree ℕ (maybe body)) → Ascend least (ids ps ++ ids statements) own → place_among low high own ps statements ≡ Some place → Widened least own (place_among wide_low wide_high own ps statements)
     in_procedures least own end statements h e = own_statements least own (ids statements) h e
-    in_procedures least own (more q rest) statements h e =
+    in_procedures least own (more (declares_procedure x fs b closing) rest) statements h e =
+        let q : Tree ℕ (item procedure) = declares_procedure x fs b closing in
+        let last : List (Role × ℕ) = (role.ClosingName, closing) ∷ [] in
         let after : List (Role × ℕ) = ids rest ++ ids statements in
         let c = cut least (ids q) after own (subst (λ l. Ascend least l own) (append_assoc (ids q) (ids rest) (ids statements)) h) in
-        let closes = closes_below q least c.middle c.first in
-        (elim (nat_lt (closing_name q) low) as (λ z. nat_lt (closing_name q) low ≡ z → (if z then place_among low high own rest statements else place_reached low high own (closing_name q) q) ≡ Some place
+        let d = cut (x + 1) (ids fs) (ids b ++ last) c.middle c.first.1 in
+        let closes = (cut d.middle (ids b) last c.middle d.last).last.1 in
+        (elim (nat_lt closing low) as (λ z. nat_lt closing low ≡ z → (if z then place_among low high own rest statements else bounds_before low high closing b) ≡ Some place
         → Widened least own (place_among wide_low wide_high own (more q rest) statements)) [
           | true ↦ λ _ e.
               let w = in_procedures c.middle own rest statements c.last e in
@@ -112,25 +108,19 @@ module _ (low high wide_low wide_high : ℕ) (place : BodyBounds) (front : place
               record {
                 first = omega (arith, bound, w.first);
                 closing = w.closing;
-                same = ap (λ z. if z then place_among wide_low wide_high own rest statements else place_reached wide_low wide_high own (closing_name q) q) (lt-ltb (closing_name q) wide_low (omega (arith, closes, w.first, front))) ∙ w.same;
+                same = ap (λ z. if z then place_among wide_low wide_high own rest statements else bounds_before wide_low wide_high closing b) (lt-ltb closing wide_low (omega (arith, closes, w.first, front))) ∙ w.same;
               }
           | false ↦ λ reached e.
-              let w = in_procedure own least c.middle q c.first e in
-              let bound = ascending_bounds c.middle (names_without_roles after) own c.last in
-              let le = ltb-false (closing_name q) low reached in
+              let w = before_closing d.middle c.middle closing role.ClosingName b d.last (λ asc is. in_block d.middle closing b asc is) e in
+              let bound = ascending_bounds (x + 1) (names_without_roles (ids fs)) d.middle d.first in
+              let top = ascending_bounds c.middle (names_without_roles after) own c.last in
+              let le = ltb-false closing low reached in
               record {
-                first = w.first;
-                closing = omega (arith, w.closing, closes, bound);
-                same = ap (λ z. if z then place_among wide_low wide_high own rest statements else place_reached wide_low wide_high own (closing_name q) q) (le-ltb (closing_name q) wide_low (omega (arith, less, le))) ∙ w.same;
+                first = omega (arith, c.first.0, bound, w.first);
+                closing = omega (arith, w.closing, closes, top);
+                same = ap (λ z. if z then place_among wide_low wide_high own rest statements else bounds_before wide_low wide_high closing b) (le-ltb closing wide_low (omega (arith, less, le))) ∙ w.same;
               }
         ]) refl e
-
-    in_procedure : (own least top : ℕ) (q : Tree ℕ (item procedure)) → Ascend least (ids q) top → place_reached low high own (closing_name q) q ≡ Some place → Widened least (closing_name q) (place_reached wide_low wide_high own (closing_name q) q)
-    in_procedure own least top (declares_procedure x fs b closing) h e =
-        let c = cut (x + 1) (ids fs) (ids b ++ ((role.ClosingName, closing) ∷ [])) top h.1 in
-        let w = before_closing c.middle top closing role.ClosingName b c.last (λ asc is. in_block c.middle closing b asc is) e in
-        let bound = ascending_bounds (x + 1) (names_without_roles (ids fs)) c.middle c.first in
-        record { first = omega (arith, h.0, bound, w.first); closing = w.closing; same = w.same }
 
   pub wider_bounds : (top : ℕ) (t : Tree ℕ module_text) → AreAscendingWithin 0 (identifier_names t) top → body_bounds_of_range low high t ≡ Some place → body_bounds_of_range wide_low wide_high t ≡ Some place
   wider_bounds top (forms_module x b closing) h e = (before_closing (x + 1) top closing role.ModuleName b h.1 (λ asc is. in_block (x + 1) closing b asc is) e).same
