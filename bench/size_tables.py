@@ -14,7 +14,7 @@ GROUPS = {
 # With a file of code, and with a function, the folder of its proofs is counted.
 KEPT = """
 ob0_analysis/proofs: GivenBack LastModule NewBody NoBegin OneBody Pieces Ways WiderRange
-ob0_analysis/specs: LastModule NewBody OneBody ReuseConditions
+ob0_analysis/specs: BodyAfterFirstIdentifier LastModule OneBody ReuseConditions
 ob0_analysis/specs/AnalysisInvariants: IsRightReanalysisFailure
 ob0_analysis/src: changed_body differences last_module replaced_body
 ob0_analysis/src/analysis: analyse_after_scanned_text reanalyse

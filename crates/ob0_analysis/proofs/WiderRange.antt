@@ -1,5 +1,5 @@
--- Proves that the body of a range of tokens also has the same bounds if the range is widened within this body, up to the
--- body's first identifier and to the closing name of its block. The reason is that the identifiers of a module ascend.
+-- Proves that the bounds of the body that contains a range of tokens stay the same if the range is widened within this
+-- body. The reason is that the identifiers of a module ascend.
 use Rattle.std.proofs.Common.{◌≡◌, ◌<◌, ◌≤◌, ◌+◌, ℕ, true, false, ◌&&◌, nat_le, nat_lt, if◌then◌else◌, List, [], ◌∷◌, ◌++◌, Option, Some, None, refl, sym, ap, ◌∙◌, subst, arith, append_assoc, le_refl, le-leb, le-ltb, lt-ltb, ltb-false}
 use Rattle.ob0_tree.specs.declared.tree.Role.{Role}
 use Rattle.ob0_tree.specs.declared.tree.Role.TheVariants as role
@@ -31,13 +31,13 @@ ids t = identifiers role.DeclaringName t
 
 -- ---- the bounds of a wider range
 
--- returns the bounds that are found in a block, if the range ends at or before the closing name
+-- returns the bounds that are found in a block if the range ends at or before its closing name
 abbrev bounds_before : ℕ → ℕ → ℕ → Tree ℕ block → Option BodyBounds
 bounds_before low high closing b =
     body_bounds_of_statements_if (nat_le high closing && is_range_in_body_of_block low high b) (body_at_path_in_block (path_to_body_in_block low b) b) (closing_name_at_path_in_block (path_to_body_in_block low b) closing b)
 
 module _ (low high wide_low wide_high : ℕ) (place : BodyBounds) (front : place.first < wide_low) (less : wide_low ≤ low) (back : wide_high < place.closing) where
-  -- states that these bounds are those of the narrow range, and that they are within two numbers
+  -- states that `found` are the bounds of the narrow range, and that these are between `least` and `top`
   record Widened (least top : ℕ) (found : Option BodyBounds) : Type 0 where
     pub first : least ≤ place.first
     pub closing : place.closing ≤ top
@@ -58,8 +58,7 @@ module _ (low high wide_low wide_high : ℕ) (place : BodyBounds) (front : place
         | false ↦ λ e. absurd (cc (e))
       ]) e
 
-  -- If the bounds are those of a wider range in a block, they are also those of such a range that ends at or before the
-  -- closing name.
+  -- What holds of a block also holds if the range must end at or before the block's closing name.
   before_closing : (least top closing : ℕ) (r : Role) (b : Tree ℕ block) → Ascend least (ids b ++ ((r, closing) ∷ [])) top
       → (Ascend least (ids b) closing → body_bounds_in_block low high closing b ≡ Some place → Widened least closing (body_bounds_in_block wide_low wide_high closing b))
       → bounds_before low high closing b ≡ Some place → Widened least closing (bounds_before wide_low wide_high closing b)

@@ -13,7 +13,7 @@ use Rattle.ob0_scope_table.specs.declared.one_body.BodyBounds.{BodyBounds}
 use Rattle.ob0_scope_table.specs.declared.resolved.Bindings.{Bindings}
 use Rattle.ob0_types.specs.CheckedModules.{IsCheckResultOfModule}
 use Rattle.ob0_types.specs.declared.checked_modules.CheckResult.{CheckResult}
-use Rattle.ob0_analysis.specs.NewBody.{IsBodyAfterFirstIdentifier}
+use Rattle.ob0_analysis.specs.BodyAfterFirstIdentifier.{IsBodyAfterFirstIdentifier}
 use Rattle.ob0_analysis.specs.declared.last_module.LastModule.{LastModule}
 
 -- States that an earlier text was a module with this tree, these bindings and this result of

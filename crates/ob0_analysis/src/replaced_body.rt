@@ -5,7 +5,7 @@ ghost use Rattle.std.specs.Prelude.{◌≡◌, IfOk, IfSome};
 ghost use Rattle.ob0_tree.specs.ParsedModule.{TreeMatchesText, parsed_module};
 ghost use Rattle.ob0_scope_table.specs.BoundsOfBodies.{module_tree_of};
 ghost use Rattle.ob0_analysis.specs.LastModule.{IsLastModuleOf};
-ghost use Rattle.ob0_analysis.specs.NewBody.{IsBodyAfterFirstIdentifier};
+ghost use Rattle.ob0_analysis.specs.BodyAfterFirstIdentifier.{IsBodyAfterFirstIdentifier};
 
 use crate::last_module::LastModule;
 use crate::module_parts::ModuleParts;

@@ -159,8 +159,8 @@ pub fn check_result_after_body_change<'t>(
 /// Returns the result of checking a module after the statements of one body were replaced, perhaps
 /// by a different number of tokens. `closing` is the closing name of that body's block in the new
 /// module. `before` is the result before the replacement. `same` says which tokens at the start and
-/// at the end of the text are unchanged. The other bodies are checked again only if they had faults,
-/// or if more than 32 bodies had faults.
+/// at the end of the text are unchanged. The other bodies are checked again only if they had
+/// faults, or if more than 32 bodies had faults.
 pub fn check_result_after_body_replacement<'t>(
     alloc: Global,
     resolved: &'t Resolved<'t>,
