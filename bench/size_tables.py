@@ -13,14 +13,14 @@ GROUPS = {
 # What would go if every text were analysed from scratch. A file is counted as a whole if that is true of nearly all its lines.
 # With a file of code, and with a function, the folder of its proofs is counted.
 KEPT = """
-ob0_analysis/proofs: GivenBack LastModule NewBody NoBegin OneBody Pieces Ways
-ob0_analysis/specs: LastModule NewBody OneBody ReuseConditions
+ob0_analysis/proofs: GivenBack LastModule NewBody NoBegin OneBody Pieces Ways WiderRange
+ob0_analysis/specs: BodyAfterFirstIdentifier LastModule OneBody ReuseConditions
 ob0_analysis/specs/AnalysisInvariants: IsRightReanalysisFailure
 ob0_analysis/src: changed_body differences last_module replaced_body
 ob0_analysis/src/analysis: analyse_after_scanned_text reanalyse
 ob0_analysis/src/module_parts: from_parts into_parts
 ob0_analysis/src/scanned_text: analyse_after_module analyse_after_refusal from reanalyse reanalyse_module reanalyse_refused_text
-ob0_analysis/src/scanned_text: reanalyse_with_bindings reanalyse_with_changed_kinds reanalyse_with_same_tree
+ob0_analysis/src/scanned_text: reanalyse_with_changed_kinds reanalyse_with_same_tree
 ob0_analysis/src/scanned_text: reanalysis_failure_after_module reanalysis_failure_after_refusal
 ob0_parse/proofs: Carried FromTree Keeping Moved MovedParts MovedTokens Stays TakenOver TerminalsOfKinds
 ob0_parse/specs: KeptTreeTokens ShiftedTrees
@@ -71,7 +71,7 @@ SEARCHES = """
 ob0_scope/src/body_range: find_body_in_block find_body_in_procedure
 ob0_scope_table/src/one_body: body_bounds_in_block body_bounds_in_module body_bounds_in_procedure body_bounds_in_tree
 ob0_scope_table/src/one_body: is_range_in_one_body
-ob0_types/src/one_body: body_with_token_in_block body_with_token_in_module body_with_token_in_procedure
+ob0_types/src/one_body: body_with_token_in_block body_with_token_in_procedure
 """
 
 # Two changes of a valid module. For each one, the functions that only other changes call.

@@ -7,13 +7,16 @@ use Rattle.ob0_scan.specs.declared.tokens.CommonPrefixAndSuffix.{CommonPrefixAnd
 use Rattle.ob0_scan.specs.ReusedLexemes.{token_kinds_without_values, kind_without_value, words_of_tokens}
 use Rattle.ob0_scan.specs.SamePrefixAndSuffix.{PrefixAndSuffixHaveSameKinds, PrefixAndSuffixHaveSameWords}
 use Rattle.ob0_scan.specs.TextWithTokens.{IsScan, TextWithTokens}
+use Rattle.ob0_tree.specs.ParsedModule.{parsed_module}
 use Rattle.ob0_tree.specs.declared.tree.ModuleTree.{ModuleTree}
+use Rattle.ob0_tree.proofs.Leaves.{leaves_ascend}
 use Rattle.ob0_scope_table.specs.BoundsOfBodies.{body_bounds_of_range, module_tree_of}
 use Rattle.ob0_scope_table.specs.declared.one_body.BodyBounds.{BodyBounds}
 use Rattle.ob0_scope_table.specs.declared.resolved.Bindings.{Bindings}
 use Rattle.ob0_types.specs.declared.checked_modules.CheckResult.{CheckResult}
 use Rattle.ob0_analysis.specs.LastModule.{IsEarlierModule, WidensDifference, IsLastModuleOf}
 use Rattle.ob0_analysis.specs.declared.last_module.LastModule.{LastModule}
+use Rattle.ob0_analysis.proofs.WiderRange.{wider_bounds}
 
 less_front : {A : Type 0} (n m : ℕ) (xs ys : List A) → n ≤ m → take m xs ≡ take m ys → take n xs ≡ take n ys
 less_front n m xs ys le e = sym (take-take n m xs le) ∙ (ap (take n) e ∙ take-take n m ys le)
@@ -82,10 +85,10 @@ joined_words s t old mid new p q h k = record {
 
 -- ---- the last module
 
--- The module of the previous text is the last module if the range of differences is widened within one of its bodies.
+-- The module of the previous text is the last module if the range of differences is widened to one of its bodies.
 pub is_last : (new : TextWithTokens) (tree : ModuleTree) (b : Bindings) (types : CheckResult) (s wider : CommonPrefixAndSuffix) (place : BodyBounds) → IsEarlierModule new tree b types s → WidensDifference s wider → wider.new_suffix ≤ length new.tokens
-    → body_bounds_of_range wider.prefix wider.old_suffix (module_tree_of tree) ≡ Some place → IsLastModuleOf new (record { bindings = b; types = types; same = wider; place = place })
-is_last new tree b types s wider place h still inside placed = record {
+    → place.first + 1 ≡ wider.prefix → place.closing ≡ wider.old_suffix + 1 → body_bounds_of_range s.prefix s.old_suffix (module_tree_of tree) ≡ Some place → IsLastModuleOf new (record { bindings = b; types = types; same = wider })
+is_last new tree b types s wider place h still inside first closing found = record {
   tree = tree;
   earlier_module = record {
     old = h.old;
@@ -97,12 +100,17 @@ is_last new tree b types s wider place h still inside placed = record {
     same = tokens_still s wider still h.old.tokens new.tokens h.same (inside_old s wider still h.old.tokens new.tokens h.same inside);
     written = words_still s wider still h.old new h.written;
   };
-  placed = placed;
+  place = place;
+  placed = record {
+    found = wider_bounds s.prefix s.old_suffix wider.prefix wider.old_suffix place (omega (arith, first)) still.front (omega (arith, closing)) (length h.old.tokens) (module_tree_of tree) (leaves_ascend (parsed_module h.old tree) h.parsed) found;
+    first = first;
+    closing = closing;
+  };
 }
 
 -- The last module is still the last module after a further change.
 pub last_stays : (mid new : TextWithTokens) (last : LastModule) (change wider : CommonPrefixAndSuffix) → IsLastModuleOf mid last → PrefixAndSuffixHaveSameKinds change mid.tokens new.tokens → PrefixAndSuffixHaveSameWords change mid new → IsScan new → WidensDifference change wider → wider.prefix ≡ last.same.prefix → wider.old_suffix ≡ last.same.new_suffix
-    → IsLastModuleOf new (record { bindings = last.bindings; types = last.types; same = record { prefix = last.same.prefix; old_suffix = last.same.old_suffix; new_suffix = wider.new_suffix }; place = last.place })
+    → IsLastModuleOf new (record { bindings = last.bindings; types = last.types; same = record { prefix = last.same.prefix; old_suffix = last.same.old_suffix; new_suffix = wider.new_suffix } })
 last_stays mid new last change wider w tokens words scan still p q =
     let inside : wider.old_suffix ≤ length mid.tokens = omega (arith, q, w.earlier_module.same.new_inside) in
     record {
@@ -117,5 +125,6 @@ last_stays mid new last change wider w tokens words scan still p q =
         same = joined last.same wider w.earlier_module.old.tokens mid.tokens new.tokens p q w.earlier_module.same (tokens_still change wider still mid.tokens new.tokens tokens inside);
         written = joined_words last.same wider w.earlier_module.old mid new p q w.earlier_module.written (words_still change wider still mid new words);
       };
+      place = w.place;
       placed = w.placed;
     }

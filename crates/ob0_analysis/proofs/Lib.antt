@@ -6,5 +6,6 @@ mod GivenBack
 mod OneBody
 mod NoBegin
 mod Ways
+mod WiderRange
 mod NewBody
 mod LastModule

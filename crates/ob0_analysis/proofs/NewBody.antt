@@ -1,6 +1,6 @@
 -- Proves that if a text differs from the previous text in only one body, the rest of its module is
 -- the same. The reason is that no two trees have the same spelling.
-use Rattle.std.proofs.Common.{◌≡◌, ◌<◌, ◌≤◌, ◌+◌, ◌-◌, ℕ, zero, suc, Bool, true, false, nat_lt, if◌then◌else◌, Option, Some, List, [], ◌∷◌, ◌++◌, map, take, drop, length, slice_get, refl, sym, ap, ◌∙◌, subst, arith, append_assoc, length-append, ⊎_elim}
+use Rattle.std.proofs.Common.{◌≡◌, ◌<◌, ◌≤◌, ◌+◌, ◌-◌, ℕ, zero, suc, Bool, true, false, nat_lt, if◌then◌else◌, Some, List, [], ◌∷◌, ◌++◌, map, take, drop, length, slice_get, refl, sym, ap, ◌∙◌, subst, arith, append_assoc, length-append, ⊎_elim}
 use Rattle.std.proofs.lemmas.List.{append_cancel_right, drop-drop, drop_at, map-append, take-take, take_at}
 use Rattle.std.proofs.lemmas.Bool.{le-ltb}
 use Rattle.ob0_scan.specs.declared.lexeme.TokenKind.{TokenKind}
@@ -24,7 +24,7 @@ use Rattle.ob0_parse.specs.KeptTreeTokens.{indexed_terminals_of_kinds}
 use Rattle.ob0_parse.proofs.TerminalsOfKinds.{drop_terminals, moved_terminals, name_index, take_terminals, terminals_of_tokens}
 use Rattle.ob0_scope.specs.BindingsBeforeBodyReplacement.{AreBindingsBeforeBodyReplacement}
 use Rattle.ob0_scope_table.specs.Bindings.{resolution_with_bindings}
-use Rattle.ob0_scope_table.specs.BoundsOfBodies.{body_bounds_of_range, module_tree_of}
+use Rattle.ob0_scope_table.specs.BoundsOfBodies.{module_tree_of}
 use Rattle.ob0_tree.specs.FirstIdentifier.{token_of_first_identifier}
 use Rattle.ob0_scope_table.specs.BodyReplacement.{ReplacesStatementsOfOneBody, PathToBody, body_at_path, closing_name_at_path, shifted_token_index, path_to_body_in_module, module_without_body}
 use Rattle.ob0_scope_table.specs.SpellingChangesInOneBody.{is_outside_range}
@@ -34,7 +34,7 @@ use Rattle.ob0_scope_table.specs.declared.one_body.BodyBounds.{BodyBounds}
 use Rattle.ob0_scope_table.specs.declared.resolved.Bindings.{Bindings}
 use Rattle.ob0_types.specs.NewBody.{IsCheckResultBeforeBodyReplacement}
 use Rattle.ob0_analysis.specs.LastModule.{IsLastModuleOf}
-use Rattle.ob0_analysis.specs.NewBody.{IsSameBody}
+use Rattle.ob0_analysis.specs.BodyAfterFirstIdentifier.{IsBodyAfterFirstIdentifier}
 use Rattle.ob0_analysis.specs.declared.last_module.LastModule.{LastModule}
 use Rattle.ob0_analysis.proofs.OneBody.{get_dropped, get_taken}
 use Rattle.ob0_analysis.proofs.NoBegin.{NoBegin, begin_mark, first_part, last_begin, no_begin}
@@ -218,21 +218,24 @@ words_outside s old new written range i out = ⊎_elim
     (out_cases s.prefix s.old_suffix i out)
 
 pub body_replaced : (old new : ParsedModule) (s : CommonPrefixAndSuffix) → IsScan old.source → IsScan new.source → TreeMatchesText old → TreeMatchesText new → PrefixAndSuffixHaveSameKinds s old.source.tokens new.source.tokens → PrefixAndSuffixHaveSameWords s old.source new.source
-    → (was : BodyBounds) → body_bounds_of_range s.prefix s.old_suffix (tree_of old) ≡ Some was → IsSameBody was (body_bounds_of_range s.prefix s.new_suffix (tree_of new)) s → ReplacesStatementsOfOneBody old new (path_to_body_in_module s.prefix (tree_of old)) s
-body_replaced old new s old_scan new_scan old_parsed new_parsed tokens written place placed b =
+    → (was is : BodyBounds) → IsBodyAfterFirstIdentifier (tree_of old) s.prefix s.old_suffix was → IsBodyAfterFirstIdentifier (tree_of new) s.prefix s.new_suffix is → ReplacesStatementsOfOneBody old new (path_to_body_in_module s.prefix (tree_of old)) s
+body_replaced old new s old_scan new_scan old_parsed new_parsed tokens written place now a b =
     let path : PathToBody = path_to_body_in_module s.prefix (tree_of old) in
     let new_path : PathToBody = path_to_body_in_module s.prefix (tree_of new) in
     let first : ℕ = place.first in
-    let p = body_place_read s.prefix s.old_suffix (tree_of old) place placed in
-    let q = body_place_read s.prefix s.new_suffix (tree_of new) b.place b.is in
-    let is_first : token_of_first_identifier (identifiers role.DeclaringName (body_at_path new_path (tree_of new))) ≡ Some first = q.first ∙ ap Some (sym b.first) in
+    let front : first < s.prefix = omega (arith, a.first) in
+    let back : s.old_suffix < place.closing = omega (arith, a.closing) in
+    let same_first : now.first ≡ first = omega (arith, a.first, b.first) in
+    let same_closing : now.closing + s.old_suffix ≡ place.closing + s.new_suffix = omega (arith, a.closing, b.closing) in
+    let p = body_place_read s.prefix s.old_suffix (tree_of old) place a.found in
+    let q = body_place_read s.prefix s.new_suffix (tree_of new) now b.found in
+    let is_first : token_of_first_identifier (identifiers role.DeclaringName (body_at_path new_path (tree_of new))) ≡ Some first = q.first ∙ ap Some same_first in
     let was = halves old old_parsed path first place.closing p.first p.closes in
-    let is = halves new new_parsed new_path first b.place.closing is_first q.closes in
+    let is = halves new new_parsed new_path first now.closing is_first q.closes in
     let moved_too : module_without_body new_path (tree_of new) ≡ mapped_tree (shifted_token_index s) (shifted_token_index s) (module_without_body path (tree_of old)) =
-    without_same old new s tokens path new_path first place.closing b.place.closing was is b.front b.back b.closing in
-    let back : s.old_suffix ≤ place.closing = omega (arith, b.back) in
+    without_same old new s tokens path new_path first place.closing now.closing was is front back same_closing in
     let closes : closing_name_at_path new_path (tree_of new) ≡ shifted_token_index s (closing_name_at_path path (tree_of old)) =
-    q.closes ∙ sym (ap (shifted_token_index s) p.closes ∙ (moved_above s place.closing tokens.old_range back ∙ omega (arith, b.closing, back))) in
+    q.closes ∙ sym (ap (shifted_token_index s) p.closes ∙ (moved_above s place.closing tokens.old_range (omega (arith, back)) ∙ omega (arith, same_closing, back))) in
     let one_way : new_path ≡ path = same_way s tokens.old_range tokens.new_range old new moved_too in
     record {
       old_range = tokens.old_range;
@@ -250,24 +253,33 @@ body_replaced old new s old_scan new_scan old_parsed new_parsed tokens written p
       first = first;
       first_identifier_of_old_body = p.first;
       first_identifier_of_new_body = subst (λ w. token_of_first_identifier (identifiers role.DeclaringName (body_at_path w (tree_of new))) ≡ Some first) one_way is_first;
-      front = b.front;
-      back = subst (λ n. s.old_suffix < n) (sym p.closes) b.back;
+      front = front;
+      back = subst (λ n. s.old_suffix < n) (sym p.closes) back;
       closing = subst (λ w. closing_name_at_path w (tree_of new) ≡ shifted_token_index s (closing_name_at_path path (tree_of old))) one_way closes;
     }
 
 -- ---- the reused results
 
-module _ (new : TextWithTokens) (tree : ModuleTree) (last : LastModule) (now : Option BodyBounds) (h : IsLastModuleOf new last) (placed : now ≡ body_bounds_of_range last.same.prefix last.same.new_suffix (module_tree_of tree)) (parsed : TreeMatchesText (parsed_module new tree)) (one_body : IsSameBody last.place now last.same) where
+module _ (new : TextWithTokens) (tree : ModuleTree) (last : LastModule) (place : BodyBounds) (h : IsLastModuleOf new last) (now : IsBodyAfterFirstIdentifier (module_tree_of tree) last.same.prefix last.same.new_suffix place) (parsed : TreeMatchesText (parsed_module new tree)) where
   abbrev before_it : ParsedModule
   before_it = parsed_module h.earlier_module.old h.tree
 
-  is_replaced : ReplacesStatementsOfOneBody before_it (parsed_module new tree) (path_to_body_in_module last.same.prefix (tree_of before_it)) last.same
+  abbrev path_before : PathToBody
+  path_before = path_to_body_in_module last.same.prefix (tree_of before_it)
+
+  is_replaced : ReplacesStatementsOfOneBody before_it (parsed_module new tree) path_before last.same
   is_replaced =
       body_replaced before_it (parsed_module new tree) last.same h.earlier_module.old_scan h.earlier_module.new_scan h.earlier_module.parsed parsed h.earlier_module.same h.earlier_module.written
-      last.place h.placed (subst (λ o. IsSameBody last.place o last.same) placed one_body)
+      h.place place h.placed now
 
   pub was_bound_elsewhere : AreBindingsBeforeBodyReplacement (parsed_module new tree) last.bindings last.same
-  was_bound_elsewhere = record { old = before_it; path = path_to_body_in_module last.same.prefix (tree_of before_it); replaced = is_replaced; resolved = h.earlier_module.resolved }
+  was_bound_elsewhere = record { old = before_it; path = path_before; replaced = is_replaced; resolved = h.earlier_module.resolved }
 
-  pub were_types_elsewhere : (c : Bindings) → IsCheckResultBeforeBodyReplacement (resolution_with_bindings (parsed_module new tree) c) last.types last.same
-  were_types_elsewhere c = record { old = resolution_with_bindings before_it last.bindings; path = path_to_body_in_module last.same.prefix (tree_of before_it); replaced = is_replaced; types_are = h.earlier_module.types_are }
+  pub were_types_elsewhere : (c : Bindings) → IsCheckResultBeforeBodyReplacement (resolution_with_bindings (parsed_module new tree) c) last.types last.same place.closing
+  were_types_elsewhere c = record {
+    old = resolution_with_bindings before_it last.bindings;
+    path = path_before;
+    replaced = is_replaced;
+    closes = sym (ap (λ path. closing_name_at_path path (module_tree_of tree)) is_replaced.new_path) ∙ (body_place_read last.same.prefix last.same.new_suffix (module_tree_of tree) place now.found).closes;
+    types_are = h.earlier_module.types_are;
+  }

@@ -1,6 +1,7 @@
 -- Proves that the bindings and types of the previous text can be reused if the text differs from it
 -- in only one body.
-use Rattle.std.proofs.Common.{◌≡◌, ◌<◌, ◌≤◌, ℕ, zero, suc, ◌+◌, ◌-◌, ◌||◌, Bool, true, false, nat_le, nat_lt, List, [], ◌∷◌, length, take, drop, slice_get, refl, sym, ap, ◌∙◌, arith, length-drop}
+use Rattle.std.proofs.Common.{◌≡◌, ◌<◌, ◌≤◌, ℕ, zero, suc, ◌+◌, ◌-◌, ◌||◌, Bool, true, false, nat_le, nat_lt, List, [], ◌∷◌, length, Option, Some, None, take, drop, slice_get, refl, sym, ap, ◌∙◌, arith, length-drop}
+use Rattle.std.specs.Prelude.{IfSome}
 use Rattle.std.proofs.lemmas.Bool.Decides.{nat_tests}
 use Rattle.std.proofs.lemmas.List.{length-map}
 use Rattle.ob0_scan.specs.ReusedLexemes.{token_kinds_without_values, kind_without_value, words_of_tokens}
@@ -8,12 +9,15 @@ use Rattle.ob0_scan.specs.SamePrefixAndSuffix.{PrefixAndSuffixHaveSameKinds, Pre
 use Rattle.ob0_scan.specs.TextWithTokens.{TextWithTokens, Word, word_of_token}
 use Rattle.ob0_scan.specs.declared.lexeme.Token.{Token}
 use Rattle.ob0_scan.specs.declared.tokens.CommonPrefixAndSuffix.{CommonPrefixAndSuffix}
-use Rattle.ob0_tree.specs.ParsedModule.{TreeMatchesText, parsed_module, tree_of}
+use Rattle.ob0_tree.specs.ParsedModule.{TreeMatchesText, parsed_module}
 use Rattle.ob0_tree.specs.declared.tree.ModuleTree.{ModuleTree}
 use Rattle.ob0_scope.specs.BindingsBeforeBodyChange.{AreBindingsBeforeBodyChange}
 use Rattle.ob0_scope_table.specs.Bindings.{resolution_with_bindings}
-use Rattle.ob0_scope_table.specs.SpellingChangesInOneBody.{ChangesSpellingsInOneBody, is_range_in_one_body, is_outside_range}
+use Rattle.ob0_scope_table.specs.BoundsOfBodies.{body_bounds_of_range, module_tree_of}
+use Rattle.ob0_scope_table.specs.SpellingChangesInOneBody.{ChangesSpellingsInOneBody, is_outside_range}
+use Rattle.ob0_scope_table.specs.declared.one_body.BodyBounds.{BodyBounds}
 use Rattle.ob0_scope_table.specs.declared.resolved.Bindings.{Bindings}
+use Rattle.ob0_scope_table.proofs.BodyPlaces.{body_place_read}
 use Rattle.ob0_types.specs.OneBody.{IsCheckResultBeforeBodyChange}
 use Rattle.ob0_types.specs.declared.checked_modules.CheckResult.{CheckResult}
 use Rattle.ob0_analysis.specs.OneBody.{IsEarlierModuleWithSameKinds}
@@ -65,19 +69,25 @@ module _ (s : CommonPrefixAndSuffix) (old new : TextWithTokens) (alike : token_k
           past true f g = grind (arith, nat_tests)
           past false f g = absurd (cc)
 
-module _ {new : TextWithTokens} {tree : ModuleTree} {b : Bindings} {types : CheckResult} {s : CommonPrefixAndSuffix} (h : IsEarlierModuleWithSameKinds new tree b types s) (lies : is_range_in_one_body s.prefix s.old_suffix (tree_of (parsed_module new tree)) ≡ true) where
-  body_change : ChangesSpellingsInOneBody h.earlier_module.old (parsed_module new tree) s.prefix s.old_suffix
-  body_change = record {
+module _ {new : TextWithTokens} {tree : ModuleTree} {b : Bindings} {types : CheckResult} {s : CommonPrefixAndSuffix} (h : IsEarlierModuleWithSameKinds new tree b types s) where
+  abbrev BoundsFound : Option BodyBounds → Type 0
+  BoundsFound o = o ≡ body_bounds_of_range s.prefix s.old_suffix (module_tree_of tree)
+
+  body_change : (place : BodyBounds) → BoundsFound (Some place) → ChangesSpellingsInOneBody h.earlier_module.old (parsed_module new tree) s.prefix s.old_suffix
+  body_change place found = record {
     old_scan = h.earlier_module.old_scan;
     new_scan = h.earlier_module.new_scan;
     same_kinds = h.same_kinds;
     same_words = same_outside s h.earlier_module.old new h.same_kinds h.earlier_module.same h.earlier_module.written;
-    in_body = lies;
+    in_body = (body_place_read s.prefix s.old_suffix (module_tree_of tree) place (sym found)).is_bound_to_declaration;
   }
 
-  pub was_bound : TreeMatchesText (parsed_module new tree) → AreBindingsBeforeBodyChange (parsed_module new tree) b s.prefix s.old_suffix
-  was_bound parsed = record { old = h.earlier_module.old; change = body_change; parsed = parsed; resolved = h.earlier_module.resolved }
+  pub was_bound : TreeMatchesText (parsed_module new tree) → (o : Option BodyBounds) → BoundsFound o → IfSome o (λ _. AreBindingsBeforeBodyChange (parsed_module new tree) b s.prefix s.old_suffix)
+  was_bound parsed None found = tt
+  was_bound parsed (Some place) found = record { old = h.earlier_module.old; change = body_change place found; parsed = parsed; resolved = h.earlier_module.resolved }
 
   -- The old results for types can be reused, whether the names were bound again or the bindings kept.
-  pub were_types : (c : Bindings) → IsCheckResultBeforeBodyChange (resolution_with_bindings (parsed_module new tree) c) types s.prefix
-  were_types c = record { high = s.old_suffix; old = h.earlier_module.old; bindings = b; change = body_change; types_are = h.earlier_module.types_are }
+  pub were_types : (c : Bindings) → (o : Option BodyBounds) → BoundsFound o → IfSome o (λ place. IsCheckResultBeforeBodyChange (resolution_with_bindings (parsed_module new tree) c) types place.closing)
+  were_types c None found = tt
+  were_types c (Some place) found =
+      record { low = s.prefix; high = s.old_suffix; old = h.earlier_module.old; bindings = b; change = body_change place found; closes = (body_place_read s.prefix s.old_suffix (module_tree_of tree) place (sym found)).closes; types_are = h.earlier_module.types_are }

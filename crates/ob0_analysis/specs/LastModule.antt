@@ -1,17 +1,19 @@
 -- Defines the last text that was a module, and the tokens that the current text shares with it.
 -- Rule: none; used in private contracts about the results that an analysis reuses.
-use Rattle.std.specs.Prelude.{◌≡◌, ◌≤◌, ◌+◌, IfSome, Option, Some}
+use Rattle.std.specs.Prelude.{◌≡◌, ◌≤◌, ◌+◌, IfSome, Option}
 use Rattle.ob0_scan.specs.SamePrefixAndSuffix.{PrefixAndSuffixHaveSameKinds, PrefixAndSuffixHaveSameWords}
 use Rattle.ob0_scan.specs.TextWithTokens.{IsScan, TextWithTokens}
 use Rattle.ob0_scan.specs.declared.tokens.CommonPrefixAndSuffix.{CommonPrefixAndSuffix}
 use Rattle.ob0_tree.specs.declared.tree.ModuleTree.{ModuleTree}
 use Rattle.ob0_tree.specs.ParsedModule.{TreeMatchesText, parsed_module}
 use Rattle.ob0_scope_table.specs.Bindings.{resolution_with_bindings}
-use Rattle.ob0_scope_table.specs.BoundsOfBodies.{body_bounds_of_range, module_tree_of}
+use Rattle.ob0_scope_table.specs.BoundsOfBodies.{module_tree_of}
 use Rattle.ob0_scope_table.specs.Resolution.{IsResolution}
+use Rattle.ob0_scope_table.specs.declared.one_body.BodyBounds.{BodyBounds}
 use Rattle.ob0_scope_table.specs.declared.resolved.Bindings.{Bindings}
 use Rattle.ob0_types.specs.CheckedModules.{IsCheckResultOfModule}
 use Rattle.ob0_types.specs.declared.checked_modules.CheckResult.{CheckResult}
+use Rattle.ob0_analysis.specs.BodyAfterFirstIdentifier.{IsBodyAfterFirstIdentifier}
 use Rattle.ob0_analysis.specs.declared.last_module.LastModule.{LastModule}
 
 -- States that an earlier text was a module with this tree, these bindings and this result of
@@ -30,13 +32,14 @@ pub record IsEarlierModule
   pub same : PrefixAndSuffixHaveSameKinds s old.tokens new.tokens
   pub written : PrefixAndSuffixHaveSameWords s old new
 
--- States that `last` has the names and types of an earlier text that was a module. All tokens of
--- the earlier text that may differ from the current text `new` must lie in one body. `last.place`
--- must have the bounds of this body.
+-- States that `last` has the names and types of an earlier text that was a module. The tokens of the
+-- earlier text that may differ from the current text `new` must be all tokens of one body after its
+-- first identifier.
 pub record IsLastModuleOf (new : TextWithTokens) (last : LastModule) : Type 0 where
   pub tree : ModuleTree
   pub earlier_module : IsEarlierModule new tree last.bindings last.types last.same
-  pub placed : body_bounds_of_range last.same.prefix last.same.old_suffix (module_tree_of tree) ≡ Some last.place
+  pub place : BodyBounds
+  pub placed : IsBodyAfterFirstIdentifier (module_tree_of tree) last.same.prefix last.same.old_suffix place
 
 -- States that the range of tokens that may differ according to `wide` includes the range of tokens
 -- that may differ according to `narrow`. At the end of the range, `wide` must add as many tokens in

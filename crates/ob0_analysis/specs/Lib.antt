@@ -4,7 +4,7 @@ pub mod AnalysisInvariants
 pub mod ReuseConditions
 pub mod LastModule
 pub mod OneBody
-pub mod NewBody
+pub mod BodyAfterFirstIdentifier
 pub mod SameRuns
 pub mod TextBytes
 pub use Rattle.ob0_types.specs.CheckedModules

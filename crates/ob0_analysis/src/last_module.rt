@@ -9,34 +9,33 @@
 //!
 //! The earlier module's tree isn't kept while the parser refuses the texts, so the body that
 //! contains the differences can't be found again. Therefore the whole body counts as different from
-//! the start (`widen_difference_to_body`). Each further change must lie in the same body
-//! (`keep_optional_module_across_change`).
+//! the start (`keep_last_module`). Each further change must lie in the same body
+//! (`keep_across_change`).
 
-ghost use Rattle.std.specs.Prelude.{◌≡◌, ◌≤◌, IfSome, Some};
+ghost use Rattle.std.specs.Prelude.{◌≡◌, IfSome};
 ghost use Rattle.ob0_analysis.specs.LastModule.{IsEarlierModule, WidensDifference, KeepsLastModule, IsLastModuleOf};
 
 use ob0_scan::{CommonPrefixAndSuffix, Tokens};
-use ob0_scope_table::{Bindings, BodyBounds, body_bounds_in_tree};
+use ob0_scope_table::{Bindings, body_bounds_in_tree};
 use ob0_tree::ModuleTree;
 use ob0_types::CheckResult;
 
 /// The names and types of the last text that was a module. `same` describes the tokens that the
-/// current text is known to share with that module. All other tokens of that module lie in one
-/// body. `place` has the token indexes of this body's first identifier and of its block's closing
-/// name.
+/// current text is known to share with that module. The other tokens of that module are all tokens
+/// of one body after its first identifier.
 #[derive(Drop)]
 pub(crate) struct LastModule {
     pub(crate) bindings: Bindings,
     pub(crate) types: CheckResult,
     pub(crate) same: CommonPrefixAndSuffix,
-    pub(crate) place: BodyBounds,
 }
 
 impl LastModule {
     /// Keeps the names and types of the previous text, a module (`tree`, `bindings`, `types`), for
     /// a changed text with the tokens `tokens`. All tokens of the previous text that may differ
     /// (`same.prefix..same.old_suffix`) must lie in one body, after its first identifier. Otherwise
-    /// returns None.
+    /// returns None. From now on, all tokens of this body after its first identifier count as
+    /// different. Also returns None if in the changed text they would end after the last token.
     pub(crate) fn keep_last_module(
         tokens: &Tokens,
         tree: &ModuleTree,
@@ -48,43 +47,36 @@ impl LastModule {
         ensures { IfSome result (IsLastModuleOf tokens.now) }
     {
         let body = body_bounds_in_tree(tree, same.prefix, same.old_suffix)?;
-        let wider = widen_difference_to_body(same, body, tokens.tokens().len())?;
-        let place = body_bounds_in_tree(tree, wider.prefix, wider.old_suffix)?;
+        let prefix = body.first.checked_add(1)?;
+        let end = body.closing.checked_sub(1)?;
+        let wider = widen_difference(same, prefix, end)?;
+        if wider.new_suffix > tokens.tokens().len() {
+            return None;
+        }
         Some(LastModule {
             bindings,
             types,
             same: wider,
-            place,
         })
     }
 
     /// Keeps the names and types of the last module when the text changes again. `change` describes
     /// the tokens that this change keeps. Returns None if `last` is None, or if the change doesn't
     /// lie in the body that contains all earlier differences.
-    pub(crate) fn keep_optional_module_across_change(
+    pub(crate) fn keep_across_change(
         last: Option<LastModule>,
         change: CommonPrefixAndSuffix,
     ) -> Option<LastModule>
         ensures { KeepsLastModule last change result }
     {
-        match last {
-            Some(last) => last.keep_across_change(change),
-            None => None,
-        }
-    }
-
-    /// Keeps the names and types of the last module when the text changes again. `change` describes
-    /// the tokens that this change keeps. Returns None if the change doesn't lie in the body that
-    /// contains all earlier differences.
-    fn keep_across_change(self, change: CommonPrefixAndSuffix) -> Option<LastModule>
-        ensures { KeepsLastModule (Some self) change result }
-    {
+        let Some(kept) = last else {
+            return None;
+        };
         let LastModule {
             bindings,
             types,
             same,
-            place,
-        } = self;
+        } = kept;
         let wider = widen_difference(change, same.prefix, same.new_suffix)?;
         Some(LastModule {
             bindings,
@@ -94,30 +86,8 @@ impl LastModule {
                 old_suffix: same.old_suffix,
                 new_suffix: wider.new_suffix,
             },
-            place,
         })
     }
-}
-
-/// Extends the range of tokens that may differ (`same.prefix..same.old_suffix`) to the whole body
-/// `body` of the old text. The extended range begins after the body's first identifier and ends
-/// before the END of its block. Returns None if a token that may differ lies outside the extended
-/// range. Also returns None if, in the current text, the extended range would end after the last of
-/// the `count` tokens.
-fn widen_difference_to_body(
-    same: CommonPrefixAndSuffix,
-    body: BodyBounds,
-    count: usize,
-) -> Option<CommonPrefixAndSuffix>
-    ensures { IfSome result (λ wider. WidensDifference same wider × (wider.new_suffix ≤ count)) }
-{
-    let prefix = body.first.checked_add(1)?;
-    let end = body.closing.checked_sub(1)?;
-    let wider = widen_difference(same, prefix, end)?;
-    if wider.new_suffix > count {
-        return None;
-    }
-    Some(wider)
 }
 
 /// Extends the range of tokens of the old text that may differ, from `same.prefix..same.old_suffix`

@@ -61,7 +61,10 @@ impl ModuleParts {
         ensures { IfOk result (λ m. m.module_read ≡ parsed_module tokens tree) }
     {
         let bindings = bindings_of(alloc, &Module::from_parts(&tokens, &tree))?;
-        let types = check_types(alloc, &tokens, &tree, &bindings)?;
+        let types = check_result_of(
+            alloc,
+            &Resolved::from_parts(&Module::from_parts(&tokens, &tree), &bindings),
+        )?;
         Ok(ModuleParts {
             tokens,
             tree,
@@ -145,23 +148,4 @@ impl ModuleParts {
         } = self;
         (tokens, tree, bindings, types)
     }
-}
-
-/// Checks the types of a module. Fails only if an allocation fails.
-pub(crate) fn check_types(
-    alloc: Global,
-    tokens: &Tokens,
-    tree: &ModuleTree,
-    bindings: &Bindings,
-) -> Result<CheckResult, AllocError>
-    requires parsed { TreeMatchesText (parsed_module tokens.now tree.now) }
-    requires resolved { IsResolution (resolution_with_bindings (parsed_module tokens.now tree.now)
-        bindings.now) }
-    ensures { IfOk result
-        (IsCheckResultOfModule (resolution_with_bindings (parsed_module tokens.now tree.now) bindings.now)) }
-{
-    let module = Module::from_parts(tokens, tree);
-    let resolved = Resolved::from_parts(&module, bindings);
-    let types = check_result_of(alloc, &resolved)?;
-    Ok(types)
 }

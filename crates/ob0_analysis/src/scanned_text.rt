@@ -15,9 +15,8 @@ ghost use Rattle.ob0_analysis.specs.declared.scanned_text.ReanalysisFailure.TheV
 ghost use Rattle.ob0_analysis.specs.declared.scanned_text.ParseOutcome.TheVariants.{NoTree};
 ghost use Rattle.ob0_analysis.specs.ReportedErrors.{IsWellTypedModule, ReportsErrorsOf, reported_diagnosis_of};
 ghost use Rattle.ob0_analysis.specs.OneBody.{IsEarlierModuleWithSameKinds};
-ghost use Rattle.ob0_types.specs.OneBody.{IsCheckResultBeforeBodyChange};
 
-use crate::changed_body::{differs_only_in_one_body, rebind_names, recheck_types};
+use crate::changed_body::{rebind_names, recheck_types};
 use crate::diagnoses::Diagnosis;
 use crate::differences::TextDifference;
 use crate::last_module::LastModule;
@@ -31,8 +30,8 @@ use ob0_scan::{
     CommonPrefixAndSuffix, Fault, RescanFailure, RescanWithComparison, Tokens, rescan_in_place,
 };
 use ob0_scope::laws::{bindings_depend_only_on_names, bindings_depend_only_on_spellings};
-use ob0_scope_table::Bindings;
-use ob0_tree::ModuleTree;
+use ob0_scope_table::{Bindings, Resolved, body_bounds_in_tree};
+use ob0_tree::{Module, ModuleTree};
 use ob0_types::CheckResult;
 use ob0_types::laws::check_result_depends_only_on_spellings;
 use std::alloc::{AllocError, Global};
@@ -260,7 +259,7 @@ impl ScannedTextAnalysis {
             same_words: _,
         } = changed;
         let tokens = rescan.tokens;
-        let last = LastModule::keep_optional_module_across_change(last, same);
+        let last = LastModule::keep_across_change(last, same);
         if !same_kinds {
             return ScannedTextAnalysis::analyse_tokens(
                 alloc,
@@ -385,9 +384,9 @@ impl ScannedTextAnalysis {
         ScannedTextAnalysis::analyse_tokens(alloc, tokens, kept.move_to_changed_text(same), last)
     }
 
-    /// Analyses a text that has the same tree as the previous text. If the identifiers have the
-    /// same spellings as before (`same_names`) and no name has a fault, the bindings are kept.
-    /// Otherwise names are bound again, because bindings or faults may have changed.
+    /// Analyses a text that has the same tree as the previous text. `same_names` says that the
+    /// identifiers have the same spellings as before. If the texts differ in only one body, the
+    /// bindings and types outside this body are reused.
     fn reanalyse_with_same_tree(
         alloc: Global,
         tokens: Tokens,
@@ -404,39 +403,22 @@ impl ScannedTextAnalysis {
             → IsResolution (resolution_with_bindings (parsed_module tokens tree) bindings) }
         ensures { IfOk result (λ r. r ≡ tokens.text) }
     {
-        let in_body = differs_only_in_one_body(&tokens, &tree, same);
-        if same_names && bindings.faults.is_empty() {
-            return ScannedTextAnalysis::reanalyse_with_bindings(
-                alloc, tokens, tree, bindings, types, same, in_body,
-            );
-        }
-        let names = rebind_names(alloc, &tokens, &tree, bindings, same, in_body)?;
-        ScannedTextAnalysis::reanalyse_with_bindings(
-            alloc, tokens, tree, names, types, same, in_body,
-        )
-    }
-
-    /// Analyses a text, given its tree and its bindings. The tree is also the previous text's tree,
-    /// and `types` are the previous text's types. If the texts differ in only one body (`in_body`),
-    /// the types outside this body are reused. Otherwise all types are checked again.
-    fn reanalyse_with_bindings(
-        alloc: Global,
-        tokens: Tokens,
-        tree: ModuleTree,
-        bindings: Bindings,
-        types: CheckResult,
-        same: CommonPrefixAndSuffix,
-        in_body: bool,
-    ) -> Result<ScannedTextAnalysis, AllocError>
-        requires parsed { TreeMatchesText (parsed_module tokens tree) }
-        requires resolved { IsResolution (resolution_with_bindings (parsed_module tokens tree)
-            bindings) }
-        requires before { in_body ≡ true
-            → IsCheckResultBeforeBodyChange (resolution_with_bindings (parsed_module tokens tree) bindings) types same.prefix }
-        ensures { IfOk result (λ r. r ≡ tokens.text) }
-    {
-        let types = recheck_types(alloc, &tokens, &tree, &bindings, types, same, in_body)?;
-        let parts = ModuleParts::from_parts(tokens, tree, bindings, types);
+        let body = body_bounds_in_tree(&tree, same.prefix, same.old_suffix);
+        let names = rebind_names(
+            alloc,
+            &Module::from_parts(&tokens, &tree),
+            bindings,
+            same,
+            same_names,
+            body,
+        )?;
+        let types = recheck_types(
+            alloc,
+            &Resolved::from_parts(&Module::from_parts(&tokens, &tree), &names),
+            types,
+            body,
+        )?;
+        let parts = ModuleParts::from_parts(tokens, tree, names, types);
         Ok(ScannedTextAnalysis::from_module(parts))
     }
 

@@ -1,5 +1,5 @@
 -- Nothing is reported for a module exactly if it is well-typed.
-use Rattle.std.proofs.Common.{◌≤◌, ◌≡◌, ◌↔◌, ◌+◌, ◌&&◌, ◌||◌, if◌then◌else◌, Bool, true, false, not, List, [], ◌∷◌, ◌++◌, IfSome, MatchOption, is_some, Option, Some, None, length, refl, sym, ap, ◌∙◌, true≢false, arith, length-append}
+use Rattle.std.proofs.Common.{◌≡◌, ◌↔◌, ◌+◌, ◌&&◌, ◌||◌, if◌then◌else◌, Bool, true, false, not, List, [], ◌∷◌, ◌++◌, IfSome, MatchOption, is_some, Option, Some, None, length, refl, sym, ap, ◌∙◌, true≢false, arith, length-append}
 use Rattle.std.proofs.lemmas.List.{nil_from_length}
 use Rattle.std.specs.List.{filter, list_any}
 use Rattle.ob0_language_names.specs.Names.{naming_by_spelling}

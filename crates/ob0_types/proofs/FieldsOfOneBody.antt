@@ -1,6 +1,6 @@
 -- The field at a token of a module is found in the statements of the one body that contains the token, or else in the
 -- declarations. The identifiers of a module ascend, so the parts before and after have no field at that token.
-use Rattle.std.proofs.Common.{◌≡◌, ℕ, ◌+◌, ◌==◌, ◌<◌, ◌≤◌, Bool, true, false, nat_lt, if◌then◌else◌, List, [], ◌∷◌, ◌++◌, length, Option, Some, None, refl, sym, ap, ◌∙◌, subst, arith, append-nil, append_assoc, eqb-true, ⊎_elim, ltb-true, ltb-false}
+use Rattle.std.proofs.Common.{◌≡◌, ℕ, ◌+◌, ◌==◌, ◌<◌, ◌≤◌, Bool, true, false, nat_lt, if◌then◌else◌, List, [], ◌∷◌, ◌++◌, length, Option, Some, None, refl, sym, ap, ◌∙◌, subst, arith, append_assoc, eqb-true, ⊎_elim, ltb-true, ltb-false}
 use Rattle.std.proofs.lemmas.Bool.{cases_lt}
 use Rattle.ob0_tree.specs.IdentifierIndexes.{AreAscendingWithin}
 use Rattle.ob0_tree.specs.ParsedModule.{TreeMatchesText, named_tree_of, tree_of}
@@ -19,7 +19,7 @@ use Rattle.ob0_types_fields.specs.FieldIdentifiers.{declared_fields, field_at_to
 use Rattle.ob0_types_fields.specs.IdentifierOwners.{fields_in_parameter_sections, fields_in_tree, fields_in_types, fields_in_variables, fields_with_owners, identifier_owners_in_block, identifier_owners_in_formals, identifier_owners_in_module, identifier_owners_in_procedure, identifier_owners_in_procedures, identifier_owners_in_tree, identifier_owners_in_type_section, identifier_owners_in_variable_section, identifiers_without_owners, meanings_by_token}
 use Rattle.ob0_types_fields.proofs.OwnedTokens.{module-tokens, tokens}
 use Rattle.ob0_types_fields.proofs.WalkFindsAllFields.{among-append, fields_in_tree-fields, formals-fields, plain-fields, type_section-fields, variable_section-fields}
-use Rattle.ob0_types.specs.OneBody.{body_with_token_in_block, body_with_token_in_module, body_with_token_in_procedure, body_with_token_in_procedures}
+use Rattle.ob0_types.specs.OneBody.{body_with_token_in_block, body_with_token_in_procedure, body_with_token_in_procedures}
 
 abbrev Owned : Type 0
 Owned = List (ℕ × Option ℕ)
@@ -123,15 +123,15 @@ module _ (t : ℕ) (m : Meanings ℕ Shape Signature) where
       omega (arith, d.last.1)
 
   -- A procedure that closes before the token is passed over, and any other one contains the token or follows it.
-  chosen : (p : Tree ℕ (item procedure)) (k j own : ℕ) (rest : Tree ℕ (items procedure)) (statements : Tree ℕ (maybe body))
-      → at_owned t (identifier_owners_in_procedure m k p) ≡ or_else (at t (fields_in_tree m (body_with_token_in_procedure t p).statements)) (at t (fields_declared_in_procedure k p))
-      → at_owned t (identifier_owners_in_procedures m j rest ++ identifier_owners_in_tree m None statements) ≡ or_else (at t (fields_in_tree m (body_with_token_in_procedures t own rest statements).statements)) (at t (fields_declared_in_procedures j rest))
+  chosen : (p : Tree ℕ (item procedure)) (k j : ℕ) (rest : Tree ℕ (items procedure)) (statements : Tree ℕ (maybe body))
+      → at_owned t (identifier_owners_in_procedure m k p) ≡ or_else (at t (fields_in_tree m (body_with_token_in_procedure t p))) (at t (fields_declared_in_procedure k p))
+      → at_owned t (identifier_owners_in_procedures m j rest ++ identifier_owners_in_tree m None statements) ≡ or_else (at t (fields_in_tree m (body_with_token_in_procedures t rest statements))) (at t (fields_declared_in_procedures j rest))
       → {middle : ℕ} → closing_name p < middle
       → (closing_name p + 1 ≤ t → at_owned t (identifier_owners_in_procedure m k p) ≡ None)
       → (t < middle → at_owned t (identifier_owners_in_procedures m j rest ++ identifier_owners_in_tree m None statements) ≡ None)
       → or_else (at_owned t (identifier_owners_in_procedure m k p)) (at_owned t (identifier_owners_in_procedures m j rest ++ identifier_owners_in_tree m None statements))
-      ≡ or_else (at t (fields_in_tree m (body_with_token_in_procedures t own (more p rest) statements).statements)) (or_else (at t (fields_declared_in_procedure k p)) (at t (fields_declared_in_procedures j rest)))
-  chosen p k j own rest statements first later closes passed behind = one (nat_lt (closing_name p) t) refl
+      ≡ or_else (at t (fields_in_tree m (body_with_token_in_procedures t (more p rest) statements))) (or_else (at t (fields_declared_in_procedure k p)) (at t (fields_declared_in_procedures j rest)))
+  chosen p k j rest statements first later closes passed behind = one (nat_lt (closing_name p) t) refl
     where
       P : Option FieldIdentifier
       P = at_owned t (identifier_owners_in_procedure m k p)
@@ -140,7 +140,7 @@ module _ (t : ℕ) (m : Meanings ℕ Shape Signature) where
       R = at_owned t (identifier_owners_in_procedures m j rest ++ identifier_owners_in_tree m None statements)
 
       one : (b : Bool) → nat_lt (closing_name p) t ≡ b
-          → or_else P R ≡ or_else (at t (fields_in_tree m (if b then body_with_token_in_procedures t own rest statements else body_with_token_in_procedure t p).statements)) (or_else (at t (fields_declared_in_procedure k p)) (at t (fields_declared_in_procedures j rest)))
+          → or_else P R ≡ or_else (at t (fields_in_tree m (if b then body_with_token_in_procedures t rest statements else body_with_token_in_procedure t p))) (or_else (at t (fields_declared_in_procedure k p)) (at t (fields_declared_in_procedures j rest)))
       one true e =
           let none = passed (let less = ltb-true (closing_name p) t e in omega (arith, less)) in
           let undeclared : at t (fields_declared_in_procedure k p) ≡ None = second_none _ _ (sym first ∙ none) in
@@ -151,9 +151,9 @@ module _ (t : ℕ) (m : Meanings ℕ Shape Signature) where
           ap (or_else P) none ∙ (or_none P ∙ (first ∙ ap (or_else _) (sym (ap (or_else (at t (fields_declared_in_procedure k p))) undeclared ∙ or_none (at t (fields_declared_in_procedure k p))))))
 
   mutual
-    block_field : (k own low high : ℕ) (b : Tree ℕ block) → AreAscendingWithin low (tokens (identifier_owners_in_block m k b)) high
-        → at_owned t (identifier_owners_in_block m k b) ≡ or_else (at t (fields_in_tree m (body_with_token_in_block t own b).statements)) (at t (fields_declared_in_block k b))
-    block_field k own low high (forms_block (declares cs ts vs ps) statements) h =
+    block_field : (k low high : ℕ) (b : Tree ℕ block) → AreAscendingWithin low (tokens (identifier_owners_in_block m k b)) high
+        → at_owned t (identifier_owners_in_block m k b) ≡ or_else (at t (fields_in_tree m (body_with_token_in_block t b))) (at t (fields_declared_in_block k b))
+    block_field k low high (forms_block (declares cs ts vs ps) statements) h =
         let b : Tree ℕ block = forms_block (declares cs ts vs ps) statements in
         let C : Owned = identifiers_without_owners cs in
         let T : Owned = identifier_owners_in_type_section k ts in
@@ -169,8 +169,8 @@ module _ (t : ℕ) (m : Meanings ℕ Shape Signature) where
         let variables : List FieldIdentifier = fields_in_variables (constructor_count_before_variables k b) (section_variables vs) in
         let declared : fields_with_owners front ≡ types ++ variables =
         among-append C (T ++ V) ∙ ((λ i. plain-fields cs i ++ fields_with_owners (T ++ V)) ∙ (among-append T V ∙ (λ i. type_section-fields k ts i ++ variable_section-fields (constructor_count_before_variables k b) vs i))) in
-        let inner = fields_in_tree m (body_with_token_in_procedures t own ps statements).statements in
-        let later = among_field j own c.middle high ps statements c.last in
+        let inner = fields_in_tree m (body_with_token_in_procedures t ps statements) in
+        let later = among_field j c.middle high ps statements c.last in
         let found : (x : FieldIdentifier) → at t inner ≡ Some x → at_owned t front ≡ None =
         λ x e. none_before t low c.middle high front (Q ++ S) c.first c.last x (later ∙ ap (λ o. or_else o (at t (fields_declared_in_procedures j ps))) e) in
         ap (at_owned t) parts
@@ -181,26 +181,26 @@ module _ (t : ℕ) (m : Meanings ℕ Shape Signature) where
         (sym (at_append t (types ++ variables) (fields_declared_in_procedures j ps) ∙ ap (λ l. or_else (at t l) (at t (fields_declared_in_procedures j ps))) (sym declared))
         ∙ ap (at t) (append_assoc types variables (fields_declared_in_procedures j ps))))))
 
-    among_field : (k own low high : ℕ) (ps : Tree ℕ (items procedure)) (statements : Tree ℕ (maybe body))
+    among_field : (k low high : ℕ) (ps : Tree ℕ (items procedure)) (statements : Tree ℕ (maybe body))
         → AreAscendingWithin low (tokens (identifier_owners_in_procedures m k ps ++ identifier_owners_in_tree m None statements)) high
         → at_owned t (identifier_owners_in_procedures m k ps ++ identifier_owners_in_tree m None statements)
-        ≡ or_else (at t (fields_in_tree m (body_with_token_in_procedures t own ps statements).statements)) (at t (fields_declared_in_procedures k ps))
-    among_field k own low high end statements h = ap (at t) (fields_in_tree-fields m statements) ∙ sym (or_none (at t (fields_in_tree m statements)))
-    among_field k own low high (more p rest) statements h =
+        ≡ or_else (at t (fields_in_tree m (body_with_token_in_procedures t ps statements))) (at t (fields_declared_in_procedures k ps))
+    among_field k low high end statements h = ap (at t) (fields_in_tree-fields m statements) ∙ sym (or_none (at t (fields_in_tree m statements)))
+    among_field k low high (more p rest) statements h =
         let j : ℕ = k + procedure_constructor_count p in
         let P : Owned = identifier_owners_in_procedure m k p in
         let R : Owned = identifier_owners_in_procedures m j rest in
         let S : Owned = identifier_owners_in_tree m None statements in
         let c = cut low P (R ++ S) high (subst (λ l. AreAscendingWithin low (tokens l) high) (append_assoc P R S) h) in
         let first = procedure_field k low c.middle p c.first in
-        let later = among_field j own c.middle high rest statements c.last in
+        let later = among_field j c.middle high rest statements c.last in
         let both = ap (at_owned t) (append_assoc P R S) ∙ owned_append t P (R ++ S) in
-        both ∙ (chosen p k j own rest statements first later (procedure_closes k low c.middle p c.first)
+        both ∙ (chosen p k j rest statements first later (procedure_closes k low c.middle p c.first)
         (λ past. none_below t low (closing_name p + 1) P (procedure_ends k low c.middle p c.first) past) (λ less. none_above t c.middle high (R ++ S) c.last less)
-        ∙ ap (or_else (at t (fields_in_tree m (body_with_token_in_procedures t own (more p rest) statements).statements))) (sym (at_append t (fields_declared_in_procedure k p) (fields_declared_in_procedures j rest))))
+        ∙ ap (or_else (at t (fields_in_tree m (body_with_token_in_procedures t (more p rest) statements)))) (sym (at_append t (fields_declared_in_procedure k p) (fields_declared_in_procedures j rest))))
 
     procedure_field : (k low high : ℕ) (p : Tree ℕ (item procedure)) → AreAscendingWithin low (tokens (identifier_owners_in_procedure m k p)) high
-        → at_owned t (identifier_owners_in_procedure m k p) ≡ or_else (at t (fields_in_tree m (body_with_token_in_procedure t p).statements)) (at t (fields_declared_in_procedure k p))
+        → at_owned t (identifier_owners_in_procedure m k p) ≡ or_else (at t (fields_in_tree m (body_with_token_in_procedure t p))) (at t (fields_declared_in_procedure k p))
     procedure_field k low high (declares_procedure x fs b closing) h =
         let p : Tree ℕ (item procedure) = declares_procedure x fs b closing in
         let j : ℕ = constructor_count_before_procedure_block k p in
@@ -209,8 +209,8 @@ module _ (t : ℕ) (m : Meanings ℕ Shape Signature) where
         let last : Owned = (closing, None) ∷ [] in
         let c = cut (x + 1) A (B ++ last) high h.1 in
         let d = cut c.middle B last high c.last in
-        let inner = fields_in_tree m (body_with_token_in_block t closing b).statements in
-        let within = block_field j closing c.middle d.middle b d.first in
+        let inner = fields_in_tree m (body_with_token_in_block t b) in
+        let within = block_field j c.middle d.middle b d.first in
         let sections : List FieldIdentifier = fields_in_parameter_sections k (formal_parameter_sections fs) in
         let found : (y : FieldIdentifier) → at t inner ≡ Some y → at_owned t A ≡ None =
         λ y e. none_before t (x + 1) c.middle d.middle A B c.first d.first y (within ∙ ap (λ o. or_else o (at t (fields_declared_in_block j b))) e) in
@@ -221,15 +221,15 @@ module _ (t : ℕ) (m : Meanings ℕ Shape Signature) where
 
 pub field_of_one_body : (r : Resolution) (t : ℕ) → TreeMatchesText r.module_read
     → field_at_token t (field_identifiers r)
-    ≡ or_else (field_at_token t (fields_in_tree (meanings_by_token (declared_object (named_tree_of r.module_read)) r) (body_with_token_in_module t (tree_of r.module_read)).statements)) (field_at_token t (declared_fields r.module_read))
+    ≡ or_else (field_at_token t (fields_in_tree (meanings_by_token (declared_object (named_tree_of r.module_read)) r) (body_with_token_in_block t (module_block (tree_of r.module_read))))) (field_at_token t (declared_fields r.module_read))
 field_of_one_body r t parsed =
     let m = meanings_by_token (declared_object (named_tree_of r.module_read)) r in
     let ascend = subst (λ ts. AreAscendingWithin 0 ts (length r.module_read.source.tokens)) (sym (module-tokens m (tree_of r.module_read))) (leaves_ascend r.module_read parsed) in
     in_module m (tree_of r.module_read) (length r.module_read.source.tokens) ascend
   where
     in_module : (m : Meanings ℕ Shape Signature) (tree : Tree ℕ module_text) (high : ℕ) → AreAscendingWithin 0 (tokens (identifier_owners_in_module m tree)) high
-        → at_owned t (identifier_owners_in_module m tree) ≡ or_else (at t (fields_in_tree m (body_with_token_in_module t tree).statements)) (at t (fields_declared_in_block 0 (module_block tree)))
+        → at_owned t (identifier_owners_in_module m tree) ≡ or_else (at t (fields_in_tree m (body_with_token_in_block t (module_block tree)))) (at t (fields_declared_in_block 0 (module_block tree)))
     in_module m (forms_module x b closing) high h =
         let B : Owned = identifier_owners_in_block m 0 b in
         let c = cut (x + 1) B ((closing, None) ∷ []) high h.1 in
-        owned_append t B ((closing, None) ∷ []) ∙ (or_none (at_owned t B) ∙ block_field t m 0 closing (x + 1) c.middle b c.first)
+        owned_append t B ((closing, None) ∷ []) ∙ (or_none (at_owned t B) ∙ block_field t m 0 (x + 1) c.middle b c.first)

@@ -1,8 +1,8 @@
 -- If one body of a module changed, the module is equal to the older one without this body and without the bodies that
 -- had faults. Outside the body both have the same names, and a body declares nothing. So these names are bound alike.
-use Rattle.std.proofs.Common.{◌≡◌, ℕ, zero, suc, Bool, true, false, nat_eq, nat_lt, ◌||◌, if◌then◌else◌, List, [], ◌∷◌, ◌++◌, Option, map, refl, sym, ap, ◌∙◌, eq-eqb, eqb-true}
+use Rattle.std.proofs.Common.{◌≡◌, ℕ, zero, suc, Bool, true, false, nat_eq, ◌||◌, if◌then◌else◌, List, [], ◌∷◌, ◌++◌, Option, map, refl, sym, ap, ◌∙◌, eq-eqb, eqb-true}
 use Rattle.std.proofs.lemmas.Bool.{or_left, or_right}
-use Rattle.ob0_tree.specs.Tree.{Tree, block, body, constants, declares, declares_procedure, end, forms_block, forms_module, item, items, mapped_tree, maybe, module_text, more, none, procedure, type_definitions, variables}
+use Rattle.ob0_tree.specs.Tree.{Tree, block, body, declares, declares_procedure, end, forms_block, forms_module, item, items, mapped_tree, maybe, module_text, more, none, procedure}
 use Rattle.ob0_tree.specs.TokenIndexLeaves.{token_value_at}
 use Rattle.ob0_tree.specs.ParsedModule.{tree_of}
 use Rattle.ob0_tree.proofs.Mapped.{mapped_twice}
@@ -12,7 +12,7 @@ use Rattle.ob0_scan.specs.declared.tokens.CommonPrefixAndSuffix.{CommonPrefixAnd
 use Rattle.ob0_scope.proofs.BodyBound.{alike_outside, bound, bound_outside}
 use Rattle.ob0_scope.proofs.BodyChanges.{names_kept}
 use Rattle.ob0_scope_table.specs.Bindings.{resolution_with_bindings}
-use Rattle.ob0_scope_table.specs.BodyReplacement.{PathToBody, block_without_body, closing_name_at_path, closing_name_at_path_in_block, closing_name_at_path_in_procedure, closing_name_at_path_in_procedure_list, module_without_body, path_after_inserting_first_procedure, path_to_body_in_block, path_to_body_in_module, path_to_body_in_procedure, path_to_body_in_procedure_list, procedure_list_without_body, procedure_without_body, shifted_token_index}
+use Rattle.ob0_scope_table.specs.BodyReplacement.{PathToBody, block_without_body, closing_name_at_path, closing_name_at_path_in_block, closing_name_at_path_in_procedure, closing_name_at_path_in_procedure_list, module_without_body, path_to_body_in_module, procedure_list_without_body, procedure_without_body, shifted_token_index}
 use Rattle.ob0_scope_table.specs.SpellingChangesInOneBody.{closing_name}
 use Rattle.ob0_scope_table.specs.Resolution.{IsResolution, Resolution, ordinal_and_spelling_at_token}
 use Rattle.ob0_scope_table.proofs.BodyReplacement.{names_outside}
@@ -21,38 +21,9 @@ use Rattle.ob0_types_check.specs.WalksOverSomeBodies.{IncludesChangedAndFaultyBo
 use Rattle.ob0_types_check.proofs.SameFaults.{first_equal, further_equal}
 use Rattle.ob0_types_check.proofs.SameModules.{block_in, constants_in, formals_in, name_in, procedures_in, statements_in, types_in, variables_in}
 use Rattle.ob0_types.specs.NewBody.{IsCheckResultBeforeBodyReplacement}
-use Rattle.ob0_types.specs.OneBody.{IsCheckResultBeforeBodyChange, body_with_token_in_block, body_with_token_in_module, body_with_token_in_procedure, body_with_token_in_procedures, module_with_source}
+use Rattle.ob0_types.specs.OneBody.{IsCheckResultBeforeBodyChange, module_with_source}
 use Rattle.ob0_types.specs.declared.checked_modules.CheckResult.{CheckResult}
 use Rattle.ob0_types.proofs.Among.{all_weaker, among_further, among_last}
-
--- ---- the body that contains a token is the one to which the path to this token leads
-
-module _ (low : ℕ) where
-  -- The path leads to the same body when another procedure is put before the others.
-  closing_later : (path : PathToBody) (own : ℕ) (cs : Tree ℕ (maybe constants)) (ts : Tree ℕ (maybe type_definitions)) (vs : Tree ℕ (maybe variables)) (p : Tree ℕ (item procedure)) (rest : Tree ℕ (items procedure)) (a : Tree ℕ (maybe body))
-      → closing_name_at_path_in_block path own (forms_block (declares cs ts vs rest) a) ≡ closing_name_at_path_in_block (path_after_inserting_first_procedure path) own (forms_block (declares cs ts vs (more p rest)) a)
-  closing_later [] own cs ts vs p rest a = refl
-  closing_later (k ∷ path) own cs ts vs p rest a = refl
-
-  mutual
-    block_leads : (own : ℕ) (b : Tree ℕ block) → (body_with_token_in_block low own b).closing ≡ closing_name_at_path_in_block (path_to_body_in_block low b) own b
-    block_leads own (forms_block (declares cs ts vs ps) a) = among_leads own cs ts vs ps a
-
-    among_leads : (own : ℕ) (cs : Tree ℕ (maybe constants)) (ts : Tree ℕ (maybe type_definitions)) (vs : Tree ℕ (maybe variables)) (ps : Tree ℕ (items procedure)) (a : Tree ℕ (maybe body))
-        → (body_with_token_in_procedures low own ps a).closing ≡ closing_name_at_path_in_block (path_to_body_in_procedure_list low ps) own (forms_block (declares cs ts vs ps) a)
-    among_leads own cs ts vs end a = refl
-    among_leads own cs ts vs (more p rest) a =
-        elim (nat_lt (closing_name p) low) as (λ z. (if z then body_with_token_in_procedures low own rest a else body_with_token_in_procedure low p).closing
-        ≡ closing_name_at_path_in_block (if z then path_after_inserting_first_procedure (path_to_body_in_procedure_list low rest) else zero ∷ path_to_body_in_procedure low p) own (forms_block (declares cs ts vs (more p rest)) a)) [
-          | true ↦ among_leads own cs ts vs rest a ∙ closing_later (path_to_body_in_procedure_list low rest) own cs ts vs p rest a
-          | false ↦ procedure_leads p
-        ]
-
-    procedure_leads : (p : Tree ℕ (item procedure)) → (body_with_token_in_procedure low p).closing ≡ closing_name_at_path_in_procedure (path_to_body_in_procedure low p) p
-    procedure_leads (declares_procedure x fs b closing) = block_leads closing b
-
-  body_leads : (t : Tree ℕ module_text) → (body_with_token_in_module low t).closing ≡ closing_name_at_path (path_to_body_in_module low t) t
-  body_leads (forms_module x b closing) = block_leads closing b
 
 -- ---- a tree without some bodies
 
@@ -192,24 +163,22 @@ bound_alike path old new was is same = sym (bound_outside new.module_read path n
 
 -- ---- the spellings in one body changed
 
-module _ (r : Resolution) (types : CheckResult) (low : ℕ) (w : IsCheckResultBeforeBodyChange r types low) where
+module _ (r : Resolution) (types : CheckResult) (closing : ℕ) (w : IsCheckResultBeforeBodyChange r types closing) where
   abbrev before : Resolution
   before = resolution_with_bindings (module_with_source w.old r.module_read) w.bindings
 
-  pub were_faulty : IsResolution r → IncludesChangedAndFaultyBodies (is_body_in_list (types.bodies_with_faults.items ++ (body_with_token_in_module low (tree_of r.module_read)).closing ∷ [])) r
+  pub were_faulty : IsResolution r → IncludesChangedAndFaultyBodies (is_body_in_list (types.bodies_with_faults.items ++ closing ∷ [])) r
   were_faulty is =
-      let tree : Tree ℕ module_text = tree_of r.module_read in
-      let path : PathToBody = path_to_body_in_module low tree in
-      let own : ℕ = (body_with_token_in_module low tree).closing in
+      let path : PathToBody = path_to_body_in_module w.low (tree_of r.module_read) in
       let faulty : List ℕ = types.bodies_with_faults.items in
-      let test : ℕ → Bool = is_body_in_list (faulty ++ own ∷ []) in
+      let test : ℕ → Bool = is_body_in_list (faulty ++ closing ∷ []) in
       record {
         old = before;
         left_out = test;
         resolved = w.types_are.resolved;
-        bodies_with_faults = all_weaker (is_body_in_list faulty) test (faulty_bodies before) (λ k h. among_further faulty (own ∷ []) k h) w.types_are.bodies_with_faults;
-        equal = equal_in_place path before r test refl (bound_alike path before r w.types_are.resolved is (alike_outside r.module_read before.module_read path (names_kept w.old r.module_read low w.high is.parsed w.change)))
-            (ap test (sym (body_leads low tree)) ∙ among_last faulty own);
+        bodies_with_faults = all_weaker (is_body_in_list faulty) test (faulty_bodies before) (λ k h. among_further faulty (closing ∷ []) k h) w.types_are.bodies_with_faults;
+        equal = equal_in_place path before r test refl (bound_alike path before r w.types_are.resolved is (alike_outside r.module_read before.module_read path (names_kept w.old r.module_read w.low w.high is.parsed w.change)))
+            (ap test w.closes ∙ among_last faulty closing);
       }
 
 -- ---- the statements of one body were replaced
@@ -223,23 +192,20 @@ among_moved move (x ∷ xs) k h = one_of (among_moved move xs k) (nat_eq x k) re
     one_of later true e h = or_left (nat_eq (move x) (move k)) (is_body_in_list (map move xs) (move k)) (eq-eqb (move x) (move k) (ap move (eqb-true x k e)))
     one_of later false e h = or_right (nat_eq (move x) (move k)) (is_body_in_list (map move xs) (move k)) (later h)
 
-module _ (r : Resolution) (types : CheckResult) (s : CommonPrefixAndSuffix) (w : IsCheckResultBeforeBodyReplacement r types s) where
+module _ (r : Resolution) (types : CheckResult) (s : CommonPrefixAndSuffix) (closing : ℕ) (w : IsCheckResultBeforeBodyReplacement r types s closing) where
   abbrev move : ℕ → ℕ
   move = shifted_token_index s
 
-  pub were_faulty_elsewhere : IsResolution r → (bodies : List ℕ) → bodies ≡ map move types.bodies_with_faults.items → IncludesChangedAndFaultyBodies (is_body_in_list (bodies ++ (body_with_token_in_module s.prefix (tree_of r.module_read)).closing ∷ [])) r
+  pub were_faulty_elsewhere : IsResolution r → (bodies : List ℕ) → bodies ≡ map move types.bodies_with_faults.items → IncludesChangedAndFaultyBodies (is_body_in_list (bodies ++ closing ∷ [])) r
   were_faulty_elsewhere is bodies are =
-      let tree : Tree ℕ module_text = tree_of r.module_read in
-      let own : ℕ = (body_with_token_in_module s.prefix tree).closing in
       let faulty : List ℕ = types.bodies_with_faults.items in
-      let test : ℕ → Bool = is_body_in_list (bodies ++ own ∷ []) in
-      let found : own ≡ closing_name_at_path w.path tree = body_leads s.prefix tree ∙ ap (λ path. closing_name_at_path path tree) w.replaced.new_path in
+      let test : ℕ → Bool = is_body_in_list (bodies ++ closing ∷ []) in
       record {
         old = w.old;
         left_out = λ k. test (move k);
         resolved = w.types_are.resolved;
-        bodies_with_faults = all_weaker (is_body_in_list faulty) (λ k. test (move k)) (faulty_bodies w.old) (λ k h. among_further bodies (own ∷ []) (move k) (ap (λ xs. is_body_in_list xs (move k)) are ∙ among_moved move faulty k h)) w.types_are.bodies_with_faults;
+        bodies_with_faults = all_weaker (is_body_in_list faulty) (λ k. test (move k)) (faulty_bodies w.old) (λ k h. among_further bodies (closing ∷ []) (move k) (ap (λ xs. is_body_in_list xs (move k)) are ∙ among_moved move faulty k h)) w.types_are.bodies_with_faults;
         equal = equal_moved w.path w.old r test move w.replaced.outside w.replaced.closing
             (bound_alike w.path w.old r w.types_are.resolved is (alike_outside r.module_read w.old.module_read w.path (names_outside w.old.module_read r.module_read w.path s w.replaced)))
-            (ap test (sym found) ∙ among_last bodies own);
+            (ap test w.closes ∙ among_last bodies closing);
       }

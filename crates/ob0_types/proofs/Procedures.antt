@@ -6,16 +6,16 @@ use Rattle.ob0_tree.specs.View.{items_of, procedure_of}
 use Rattle.ob0_tree.specs.declared.tree.Procedure.{Procedure, out-Procedure}
 use Rattle.ob0_tree.proofs.Viewed.{procedure_parts}
 use Rattle.ob0_scope_table.specs.SpellingChangesInOneBody.{closing_name}
-use Rattle.ob0_types.specs.OneBody.{OneBody, body_with_token_in_procedures, body_with_token_in_procedure}
+use Rattle.ob0_types.specs.OneBody.{body_with_token_in_procedures, body_with_token_in_procedure}
 
-module _ (low own : ℕ) (statements : Tree ℕ (maybe body)) where
-  abbrev body_left : ℕ → List Procedure → OneBody
-  body_left k xs = body_with_token_in_procedures low own (items_of procedure_of (drop k xs)) statements
+module _ (low : ℕ) (statements : Tree ℕ (maybe body)) where
+  abbrev body_left : ℕ → List Procedure → Tree ℕ (maybe body)
+  body_left k xs = body_with_token_in_procedures low (items_of procedure_of (drop k xs)) statements
 
   one_more : (xs : List Procedure) (k : ℕ) (q : Procedure) → k < length xs → q ≡ get_or xs k q
       → body_left k xs ≡ (if nat_lt (out-Procedure q).closing low then body_left (k + 1) xs else body_with_token_in_procedure low (procedure_of q))
   one_more xs k q less here =
-      ap (λ ys. body_with_token_in_procedures low own (items_of procedure_of ys) statements) (drop_more xs k q less ∙ ap (λ y. y ∷ drop (k + 1) xs) (sym here))
+      ap (λ ys. body_with_token_in_procedures low (items_of procedure_of ys) statements) (drop_more xs k q less ∙ ap (λ y. y ∷ drop (k + 1) xs) (sym here))
       ∙ ap (λ n. if nat_lt n low then body_left (k + 1) xs else body_with_token_in_procedure low (procedure_of q)) (ap closing_name (procedure_parts q))
 
   pub past_one : (xs : List Procedure) (k : ℕ) (q : Procedure) → k < length xs → q ≡ get_or xs k q → (out-Procedure q).closing < low → body_left (k + 1) xs ≡ body_left k xs
@@ -26,5 +26,5 @@ module _ (low own : ℕ) (statements : Tree ℕ (maybe body)) where
   in_one xs k q less here le =
       one_more xs k q less here ∙ ap (λ b. if b then body_left (k + 1) xs else body_with_token_in_procedure low (procedure_of q)) (le-ltb (out-Procedure q).closing low le)
 
-  pub past_all : (xs : List Procedure) (k : ℕ) → length xs ≤ k → body_left k xs ≡ record { closing = own; statements = statements }
-  past_all xs k all = ap (λ ys. body_with_token_in_procedures low own (items_of procedure_of ys) statements) (drop_all k xs all)
+  pub past_all : (xs : List Procedure) (k : ℕ) → length xs ≤ k → body_left k xs ≡ statements
+  past_all xs k all = ap (λ ys. body_with_token_in_procedures low (items_of procedure_of ys) statements) (drop_all k xs all)

@@ -11,17 +11,16 @@
 //! a field walks the tree (`fields.rt`).
 
 ghost use Rattle.ob0_scope_table.specs.Resolution.{is_duplicate_or_end_name_fault};
-ghost use Rattle.ob0_tree.specs.ParsedModule.{tree_of};
 ghost use Rattle.ob0_types.specs.CheckedModules.{IsCheckResultOfModule, IsCorrectlyChecked};
 ghost use Rattle.ob0_types.specs.FaultOrder.{AreFirstFaultsWhenSorted, compare_faults_by_tokens};
 ghost use Rattle.ob0_types.specs.NewBody.{IsCheckResultBeforeBodyReplacement};
-ghost use Rattle.ob0_types.specs.OneBody.{IsCheckResultBeforeBodyChange, body_with_token_in_module};
+ghost use Rattle.ob0_types.specs.OneBody.{IsCheckResultBeforeBodyChange};
 ghost use Rattle.ob0_types_check.specs.WalksOverSomeBodies.{IncludesChangedAndFaultyBodies, IsReportOfModule, is_body_in_list};
 ghost use Rattle.std.specs.List.{filter};
 ghost use Rattle.std.specs.Cow.{cow_value};
 ghost use Rattle.std.specs.Prelude.{◌≡◌, ◌↔◌, ◌++◌, [], ◌∷◌, length, IfOk, OnOk, MatchOption};
 
-use crate::one_body::{body_with_token_in_module, shifted_token_indexes};
+use crate::one_body::shifted_token_indexes;
 use ob0_language_values::Scalar;
 use ob0_scan::{CommonPrefixAndSuffix, Fault, MAX_FAULTS};
 use ob0_scope_table::{
@@ -134,16 +133,17 @@ pub fn check_result_of<'t>(
     check_result_from_report(resolved, report)
 }
 
-/// Returns the result of checking a module after the spellings of tokens in one body changed. No
-/// token with an index less than `low` has changed. `before` is the result before the change. The
-/// other bodies are checked again only if they had faults, or if more than 32 bodies had faults.
+/// Returns the result of checking a module after the spellings of tokens in one body changed.
+/// `closing` is the closing name of that body's block. `before` is the result before the change.
+/// The other bodies are checked again only if they had faults, or if more than 32 bodies had
+/// faults.
 pub fn check_result_after_body_change<'t>(
     alloc: Global,
     resolved: &'t Resolved<'t>,
     before: CheckResult,
-    low: usize,
+    closing: usize,
 ) -> Result<CheckResult, AllocError>
-    requires { IsCheckResultBeforeBodyChange resolved.now before low }
+    requires { IsCheckResultBeforeBodyChange resolved.now before closing }
     ensures { IfOk result (IsCheckResultOfModule resolved.now) }
 {
     // The proof needs this call: its contract states the module's invariant.
@@ -153,52 +153,51 @@ pub fn check_result_after_body_change<'t>(
         faults: _,
         bodies_with_faults,
     } = before;
-    check_result_walking_bodies(alloc, resolved, bodies_with_faults, low)
+    check_result_walking_bodies(alloc, resolved, bodies_with_faults, closing)
 }
 
 /// Returns the result of checking a module after the statements of one body were replaced, perhaps
-/// by a different number of tokens. `before` is the result before the replacement. `same` says
-/// which tokens at the start and at the end of the text are unchanged. The other bodies are checked
-/// again only if they had faults, or if more than 32 bodies had faults.
+/// by a different number of tokens. `closing` is the closing name of that body's block in the new
+/// module. `before` is the result before the replacement. `same` says which tokens at the start and
+/// at the end of the text are unchanged. The other bodies are checked again only if they had
+/// faults, or if more than 32 bodies had faults.
 pub fn check_result_after_body_replacement<'t>(
     alloc: Global,
     resolved: &'t Resolved<'t>,
     before: CheckResult,
     same: CommonPrefixAndSuffix,
+    closing: usize,
 ) -> Result<CheckResult, AllocError>
-    requires { IsCheckResultBeforeBodyReplacement resolved.now before same }
+    requires { IsCheckResultBeforeBodyReplacement resolved.now before same closing }
     ensures { IfOk result (IsCheckResultOfModule resolved.now) }
 {
     // The proof needs this call: its contract states the module's invariant.
     let _module = resolved.module();
     match shifted_token_indexes(alloc, before.bodies_with_faults.as_slice(), same)? {
-        Some(bodies) => check_result_walking_bodies(alloc, resolved, bodies, same.prefix),
+        Some(bodies) => check_result_walking_bodies(alloc, resolved, bodies, closing),
         None => check_result_of(alloc, resolved),
     }
 }
 
-/// Returns the result of checking a module in which one body changed, the body that contains the
-/// token `low`. `bodies` has the closing name of each other body that may have a fault. If there
-/// are at most 32 of these, only they and the changed body are checked. Otherwise all bodies are
-/// checked.
+/// Returns the result of checking a module in which one body changed, the body of the block with
+/// the closing name `closing`. `bodies` has the closing name of each other body that may have a
+/// fault. If there are at most 32 of these, only they and the changed body are checked. Otherwise
+/// all bodies are checked.
 fn check_result_walking_bodies<'t>(
     alloc: Global,
     resolved: &'t Resolved<'t>,
     bodies: Vec<usize>,
-    low: usize,
+    closing: usize,
 ) -> Result<CheckResult, AllocError>
-    requires { IncludesChangedAndFaultyBodies
-        (is_body_in_list
-        (bodies.items ++ (body_with_token_in_module low (tree_of resolved.now.module_read)).closing ∷ []))
+    requires { IncludesChangedAndFaultyBodies (is_body_in_list (bodies.items ++ closing ∷ []))
         resolved.now }
     ensures { IfOk result (IsCheckResultOfModule resolved.now) }
 {
     if bodies.len() > MAX_FAULTY_BODIES_FOR_PARTIAL_CHECK {
         return check_result_of(alloc, resolved);
     }
-    let body = body_with_token_in_module(resolved.module(), low);
     let mut bodies = bodies;
-    bodies.push(body.closing)?;
+    bodies.push(closing)?;
     let report = module_report_walking_some_bodies(alloc, resolved, bodies.as_slice())?;
     check_result_from_report(resolved, report)
 }

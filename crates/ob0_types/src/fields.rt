@@ -11,7 +11,7 @@ ghost use Rattle.ob0_tree.specs.IdentifierIndexes.{AreIdentifierTokens, AreAscen
 ghost use Rattle.ob0_types_fields.specs.FieldIdentifiers.{field_at_token, field_at_token_and_offset, field_declaring_token, field_identifiers, module_field_at_offset, field_index_in_record, field_tokens_in_module};
 
 use crate::checked_modules::WellTyped;
-use crate::one_body::body_with_token_in_module;
+use crate::one_body::body_with_token_in_block;
 use ob0_scope::{count_tokens_before_offset, is_identifier_at_offset};
 use ob0_types_fields::{
     FieldIdentifier, declared_field, declared_field_at_token, selected_field_at_token,
@@ -65,8 +65,8 @@ fn field_at_token(well_typed: &WellTyped<'_>, token: usize) -> Option<FieldIdent
     ensures { result ≡ field_at_token token (field_identifiers well_typed.now) }
 {
     let names = well_typed.resolved();
-    let body = body_with_token_in_module(names.module(), token);
-    match selected_field_at_token(well_typed.declarations(), names, body.statements, token) {
+    let body = body_with_token_in_block(names.module().block(), token);
+    match selected_field_at_token(well_typed.declarations(), names, body, token) {
         Some(field) => Some(field),
         None => declared_field_at_token(names, token),
     }

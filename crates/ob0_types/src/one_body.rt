@@ -1,57 +1,37 @@
-//! Finds the body of a module that contains a range of tokens. A body is the statements of a block.
-//! Also finds the new indexes of tokens after the tokens of one body were replaced.
+//! Finds the body of a module that contains a token. A body is the statements of a block. Also finds
+//! the new indexes of tokens after the tokens of one body were replaced.
 
 ghost use Rattle.std.specs.Prelude.{◌≡◌, IfOk, IfSome, map};
-ghost use Rattle.ob0_tree.specs.ParsedModule.{tree_of};
-ghost use Rattle.ob0_tree.specs.View.{block_of, procedure_of};
+ghost use Rattle.ob0_tree.specs.View.{block_of, body_of, procedure_of};
 ghost use Rattle.ob0_scope_table.specs.BodyReplacement.{shifted_token_index};
-ghost use Rattle.ob0_types.specs.OneBody.{body_with_token_in_block, body_with_token_in_module, body_with_token_in_procedure, body_view};
+ghost use Rattle.ob0_types.specs.OneBody.{body_with_token_in_block, body_with_token_in_procedure};
 
 use ob0_scan::CommonPrefixAndSuffix;
-use ob0_tree::{Block, Module, Procedure, Statement};
+use ob0_tree::{Block, Procedure, Statement};
 use std::alloc::{AllocError, Global};
 
-/// A body: the statements of a block and the token of the block's closing name.
-#[derive(Clone, Copy)]
-pub(crate) struct Body<'t> {
-    pub(crate) closing: usize,
-    pub(crate) statements: &'t Option<Vec<Statement>>,
-}
-
-/// Returns the body that contains a range of tokens, given the index `low` of the range's first
-/// token. If the range isn't in one body, the result may be any body of the module.
-pub(crate) fn body_with_token_in_module<'t>(read: &'t Module<'t>, low: usize) -> Body<'t>
-    ensures { body_view result ≡ body_with_token_in_module low (tree_of read.now) }
-{
-    body_with_token_in_block(read.block(), read.closing_name(), low)
-}
-
-/// Returns the body that contains a range of tokens, given the index `low` of the range's first
-/// token. This is the body of this block or of a procedure in the block. If the range isn't in one
-/// body, the result may be any of these bodies. `own` is the block's closing name.
+/// Returns the body that contains the token with this index: the body of this block or of a
+/// procedure in the block. If none of these bodies contains the token, the result may be any of
+/// them.
 #[cycle(blocks)]
-fn body_with_token_in_block<'t>(b: &'t Block, own: usize, low: usize) -> Body<'t>
-    ensures { body_view result ≡ body_with_token_in_block low own (block_of b.now) }
+pub(crate) fn body_with_token_in_block(b: &Block, token: usize) -> &Option<Vec<Statement>>
+    ensures { body_of result.now ≡ body_with_token_in_block token (block_of b.now) }
 {
     for p in &b.procedures {
-        if p.closing >= low {
-            return body_with_token_in_procedure(p, low);
+        if p.closing >= token {
+            return body_with_token_in_procedure(p, token);
         }
     }
-    Body {
-        closing: own,
-        statements: &b.body,
-    }
+    &b.body
 }
 
-/// Returns the body that contains a range of tokens, given the index `low` of the range's first
-/// token. This is the body of this procedure or of a procedure in it. If the range isn't in one
-/// body, the result may be any of these bodies.
+/// Returns the body that contains the token with this index: the body of this procedure or of a
+/// procedure in it. If none of these bodies contains the token, the result may be any of them.
 #[cycle(blocks)]
-fn body_with_token_in_procedure<'t>(p: &'t Procedure, low: usize) -> Body<'t>
-    ensures { body_view result ≡ body_with_token_in_procedure low (procedure_of p.now) }
+fn body_with_token_in_procedure(p: &Procedure, token: usize) -> &Option<Vec<Statement>>
+    ensures { body_of result.now ≡ body_with_token_in_procedure token (procedure_of p.now) }
 {
-    body_with_token_in_block(&p.block, p.closing, low)
+    body_with_token_in_block(&p.block, token)
 }
 
 /// Returns the index in the changed text of a token outside the replaced tokens, given its old

@@ -1,4 +1,4 @@
-use Rattle.std.proofs.Common.{◌≡◌, ℕ, zero, suc, ◌≤◌, ◌<◌, List, [], ◌∷◌, arith, Bool, true, false, ◌&&◌, if◌then◌else◌, Option, Some, None, get_or, length, refl, sym, ap, ◌∙◌, subst, ltb-false, ltb-true}
+use Rattle.std.proofs.Common.{◌≡◌, ℕ, zero, suc, ◌≤◌, ◌<◌, List, [], ◌∷◌, arith, Bool, true, false, ◌&&◌, if◌then◌else◌, Option, Some, None, get_or, length, refl, sym, ap, ◌∙◌, ltb-false, ltb-true}
 use Rattle.std.specs.Prelude.{slice_get}
 use Rattle.ob0_scan.specs.declared.lexeme.Token.{Token}
 use Rattle.ob0_scan.specs.TextWithTokens.{TextWithTokens}

@@ -2,7 +2,6 @@ use Rattle.std.proofs.Common.{◌≡◌, List, ℕ, length, ◌∙◌, ap, sym, 
 use Rattle.ob0_tree.specs.IdentifierIndexes.{AreIdentifierTokens, AreAscendingWithin}
 use Rattle.ob0_tree.specs.ParsedModule.{named_tree_of, tree_of}
 use Rattle.ob0_language_types.specs.Bindings.{declared_object}
-use Rattle.ob0_scope_table.specs.Resolution.{Resolution}
 use Rattle.ob0_types_fields.specs.FieldIdentifiers.{field_identifiers, field_tokens_in_module, tokens_of_field}
 use Rattle.ob0_types_fields.specs.IdentifierOwners.{fields_in_module, meanings_by_token}
 use Rattle.ob0_types_fields.proofs.FieldIdentifierList.{fields_ascend, fields_are_identifiers, kept_ascend, kept_are_identifiers}
