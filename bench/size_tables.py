@@ -69,8 +69,7 @@ ob0_types_check/src/reporting: includes_body module_report_walking_some_bodies
 # The functions that look in a tree for the body that contains a token.
 SEARCHES = """
 ob0_scope/src/body_range: find_body_in_block find_body_in_procedure
-ob0_scope_table/src/one_body: body_bounds_in_block body_bounds_in_module body_bounds_in_procedure body_bounds_in_tree
-ob0_scope_table/src/one_body: is_range_in_one_body
+ob0_scope_table/src/one_body: body_bounds_in_block body_bounds_in_procedure body_bounds_in_tree
 ob0_types/src/one_body: body_with_token_in_block body_with_token_in_procedure
 """
 

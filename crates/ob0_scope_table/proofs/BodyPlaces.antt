@@ -156,38 +156,3 @@ module _ (low high own : ℕ) where
 
     pub in_statements : (xs : List Procedure) (k : ℕ) → length xs ≤ k → place_from k xs ≡ body_bounds_of_statements_if (first_identifier_is_at_or_before_token low (identifiers role.DeclaringName statements)) statements own
     in_statements xs k all = ap (λ ys. place_among (items_of procedure_of ys) statements) (drop_all k xs all)
-
--- ---- a range has a place exactly if it is inside a body
-
-module _ (low high : ℕ) where
-  begins_placed : (own : ℕ) (statements : Tree ℕ (maybe body)) → is_some (body_bounds_of_statements_if (first_identifier_is_at_or_before_token low (identifiers role.DeclaringName statements)) statements own) ≡ first_identifier_is_at_or_before_token low (identifiers role.DeclaringName statements)
-  begins_placed own statements = one (identifiers role.DeclaringName statements)
-    where
-      one : (xs : List (Role × ℕ)) → is_some (place_by low own xs) ≡ first_identifier_is_at_or_before_token low xs
-      one [] = refl
-      one (x ∷ xs) = elim (nat_le x.1 low) as (λ z. is_some {T = BodyBounds} (if z then a_place x.1 own else None) ≡ z) [ true ↦ refl | false ↦ refl ]
-
-  mutual
-    among_placed : (own : ℕ) (ps : Tree ℕ (items procedure)) (statements : Tree ℕ (maybe body)) → is_some (place_among low high own ps statements) ≡ is_range_in_body_of_procedures_or_statements low high ps statements
-    among_placed own end statements = begins_placed own statements
-    among_placed own (more p ps) statements =
-        elim (nat_lt (closing_name p) low) as (λ z. is_some (if z then place_among low high own ps statements else place_reached low high own (closing_name p) p)
-        ≡ (if z then is_range_in_body_of_procedures_or_statements low high ps statements else nat_le high (closing_name p) && is_range_in_body_of_procedure low high p)) [
-          | true ↦ among_placed own ps statements
-          | false ↦
-              elim (nat_le high (closing_name p)) as (λ z. is_some (body_bounds_of_statements_if (z && is_range_in_body_of_procedure low high p) (body_at_path_in_procedure (path_to_body_in_procedure low p) p) (closing_name_at_path_in_procedure (path_to_body_in_procedure low p) p))
-              ≡ (z && is_range_in_body_of_procedure low high p)) [ true ↦ procedure_placed p | false ↦ refl ]
-        ]
-
-    pub block_placed : (own : ℕ) (b : Tree ℕ block) → is_some (body_bounds_in_block low high own b) ≡ is_range_in_body_of_block low high b
-    block_placed own (forms_block (declares cs ts vs ps) statements) = ap is_some (among_block low high own cs ts vs ps statements) ∙ among_placed own ps statements
-
-    procedure_placed : (p : Tree ℕ (item procedure)) → is_some (body_bounds_in_procedure low high p) ≡ is_range_in_body_of_procedure low high p
-    procedure_placed (declares_procedure x fs b closing) = block_placed closing b
-
-  pub body_placed : (t : Tree ℕ module_text) → is_some (body_bounds_of_range low high t) ≡ is_range_in_one_body low high t
-  body_placed (forms_module x b closing) =
-      elim (nat_le high closing) as (λ z. is_some (body_bounds_of_statements_if (z && is_range_in_body_of_block low high b) (body_at_path_in_block (path_to_body_in_block low b) b) (closing_name_at_path_in_block (path_to_body_in_block low b) closing b)) ≡ (z && is_range_in_body_of_block low high b)) [
-        | true ↦ block_placed closing b
-        | false ↦ refl
-      ]

@@ -13,7 +13,7 @@ mod token_lookups;
 pub use faults::{
     FaultAtTokens, collect_faults_with_spans, fault_at_token, is_duplicate_or_end_name_fault,
 };
-pub use one_body::{BodyBounds, body_bounds_in_module, body_bounds_in_tree, is_range_in_one_body};
+pub use one_body::{BodyBounds, body_bounds_in_tree};
 pub use ordinal_entry::OrdinalEntry;
 pub use predeclared_names::{
     FALSE_ORDINAL, PREDECLARED_COUNT, READ_ORDINAL, TRUE_ORDINAL, WRITE_LN_ORDINAL, WRITE_ORDINAL,

@@ -3,14 +3,13 @@
 //! `low` is at or after its first identifier, and `high` is at or before its block's closing name.
 
 ghost use Rattle.std.specs.Prelude.{◌≡◌};
-ghost use Rattle.ob0_tree.specs.ParsedModule.{tree_of};
 ghost use Rattle.ob0_tree.specs.View.{block_of, body_of, procedure_of};
 ghost use Rattle.ob0_tree.specs.Tree.{identifiers};
 ghost use Rattle.ob0_tree.specs.declared.tree.Role.TheVariants as roles;
 ghost use Rattle.ob0_scope_table.specs.BoundsOfBodies.{body_bounds_of_range, body_bounds_of_statements_if, body_bounds_in_block, body_bounds_in_procedure, module_tree_of};
-ghost use Rattle.ob0_scope_table.specs.SpellingChangesInOneBody.{first_identifier_is_at_or_before_token, is_range_in_one_body};
+ghost use Rattle.ob0_scope_table.specs.SpellingChangesInOneBody.{first_identifier_is_at_or_before_token};
 
-use ob0_tree::{Block, Module, ModuleTree, Procedure, Statement, first_identifier};
+use ob0_tree::{Block, ModuleTree, Procedure, Statement, first_identifier};
 
 /// The bounds of a body: the token index of its first identifier, and the token index of its
 /// block's closing name.
@@ -18,15 +17,6 @@ use ob0_tree::{Block, Module, ModuleTree, Procedure, Statement, first_identifier
 pub struct BodyBounds {
     pub first: usize,
     pub closing: usize,
-}
-
-/// Returns whether one body contains the tokens from `low` up to, but not including, `high`. This
-/// means that `low` is at or after the body's first identifier, and `high` is at or before the
-/// closing name of the body's block.
-pub fn is_range_in_one_body(read: &Module<'_>, low: usize, high: usize) -> bool
-    ensures { result ≡ is_range_in_one_body low high (tree_of read.now) }
-{
-    body_bounds_in_module(read, low, high).is_some()
 }
 
 /// Returns the bounds of the body that contains the tokens from `low` up to, but not including,
@@ -38,17 +28,6 @@ pub fn body_bounds_in_tree(tree: &ModuleTree, low: usize, high: usize) -> Option
         return None;
     }
     body_bounds_in_block(&tree.block, tree.closing, low, high)
-}
-
-/// Returns the bounds of the body that contains the tokens from `low` up to, but not including,
-/// `high` in a module. Returns None if no body contains them.
-pub fn body_bounds_in_module(read: &Module<'_>, low: usize, high: usize) -> Option<BodyBounds>
-    ensures { result ≡ body_bounds_of_range low high (tree_of read.now) }
-{
-    if high > read.closing_name() {
-        return None;
-    }
-    body_bounds_in_block(read.block(), read.closing_name(), low, high)
 }
 
 /// Returns the bounds of the body that contains the tokens from `low` up to, but not including,
