@@ -72,15 +72,15 @@ impl Memory {
         ensures full { OnErr result (vec_capacity cells.old < vec_len cells.old + count) }
         ensures room { OnOk result (length cells.new.items < 2 ^ 64) }
     {
-        if count > MAX_INLINE_ZEROS {
-            return self.push_many_zeros(cells, count);
+        let length = cells.len();
+        if count <= MAX_INLINE_ZEROS
+            && cells.capacity() - length >= MAX_INLINE_ZEROS
+            && cells.extend_from_slice(&[0; MAX_INLINE_ZEROS]).is_ok()
+        {
+            cells.truncate(length + count);
+            return Ok(());
         }
-        for _cell in 0..count {
-            self.push(cells, 0)?;
-        }
-        // For the proof: the length of a list has at most 64 bits.
-        let _length = cells.len();
-        Ok(())
+        self.push_many_zeros(cells, count)
     }
 
     #[inline(never)]
