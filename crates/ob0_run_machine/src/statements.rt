@@ -79,8 +79,10 @@ fn store_chain(
     ensures { StepRunsStatement result machine.old machine.new (levels_of level.now)
         (lowered.stores_number (variable_of variable.now) (chain_of c.now)) }
 {
+    // The address comes first, which takes two instructions less.
+    let address = variable_address(variable, level);
     let v = evaluate_chain(c, level, machine.cells.as_slice())?;
-    store_in_cell(&mut machine.cells, variable_address(variable, level), v);
+    store_in_cell(&mut machine.cells, address, v);
     Ok(())
 }
 
@@ -113,10 +115,33 @@ fn increase_variable(
 }
 
 /// Assigns to a variable the result of an operation on this variable, or returns the operation's
-/// fault. Like `store_number`, this function isn't inlined.
+/// fault. Like `store_number`, this function isn't inlined. It leaves operands that are neither a
+/// literal nor a variable to `update_variable_with_expression`.
 #[tactic(auto, unfolding(crate::specs::Execution::execute))]
 #[inline(never)]
 fn update_variable(
+    variable: &Variable,
+    link: &ChainLink,
+    level: &Level<'_>,
+    machine: &mut Machine<'_>,
+) -> Result<(), StopReason>
+    ensures { StepRunsStatement result machine.old machine.new (levels_of level.now)
+        (lowered.stores_number (variable_of variable.now)
+        (operation_with_link link.now (lowered.cell (variable_of variable.now)))) }
+{
+    if let ChainLink::Other(_operator, _n) = link {
+        return update_variable_with_expression(variable, link, level, machine);
+    }
+    let v = evaluate_update(variable, link, level, machine.cells.as_slice())?;
+    store_in_cell(&mut machine.cells, variable_address(variable, level), v);
+    Ok(())
+}
+
+/// Does what `update_variable` does. It is a function of its own, so `update_variable` has no
+/// registers to save.
+#[tactic(auto, unfolding(crate::specs::Execution::execute))]
+#[inline(never)]
+fn update_variable_with_expression(
     variable: &Variable,
     link: &ChainLink,
     level: &Level<'_>,
