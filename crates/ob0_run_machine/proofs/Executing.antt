@@ -257,6 +257,37 @@ unfolding execute
 all-after enters t ls [] x s = continued_running (execute enters t ls (statement_of x) s) _ (λ s. refl)
 all-after enters t ls (y ∷ ys) x s = continued_twice (execute enters t ls (statement_of y) s) _ _ (execute enters t ls (statement_of x)) (all-after enters t ls ys x)
 
+-- a list of a single IF without ELSIF parts
+
+alone : (enters : CallEffect) (t : ℕ) (ls : Levels) (i : Conditional) (x : Instruction) (xs : List Instruction) (s : MachineState) → xs ≡ x ∷ [] → statement_of x ≡ conditional_of i → execute_sequence enters t ls (sequence_of xs) s ≡ execute enters t ls (conditional_of i) s
+unfolding execute
+alone enters t ls i x xs s only made = ap (λ xs. execute_sequence enters t ls (sequence_of xs) s) only ∙ continued_running (execute enters t ls (statement_of x) s) _ (λ s. refl) ∙ ap (λ a. execute enters t ls a s) made
+
+-- the only item of a list
+pub only_item : (xs : List Instruction) (x : Instruction) → length xs < 2 → 0 < length xs → x ≡ get_or xs 0 x → xs ≡ x ∷ []
+only_item [] x few some is = absurd (omega (arith, some))
+only_item (y ∷ []) x few some is = ap (λ z. z ∷ []) (sym is)
+only_item (y ∷ z ∷ zs) x few some is = absurd (omega (arith, few))
+
+pub only_if_fails : {xs : List Instruction} (m : Machine) (ls : Levels) (i : Conditional) (x : Instruction) (e : EvaluationFault) → xs ≡ x ∷ [] → statement_of x ≡ conditional_of i → ends (end_of e) ≡ truth_value ls m.cells.items (truth_of (out-Conditional i).condition)
+    → (enters : CallEffect) (t : ℕ) → sequence_effect t ls (sequence_of xs) enters (state_of m) ≡ stopped (end_of e) (output_items m.output.items)
+only_if_fails m ls i x e only made h enters t = alone enters t ls i x _ (state_of m) only made ∙ if-goes enters t ls i (state_of m) (ends (end_of e)) h
+
+pub only_if_taken : {xs : List Instruction} (m : Machine) (ls : Levels) (i : Conditional) (x : Instruction) (ss : List Instruction) → xs ≡ x ∷ [] → statement_of x ≡ conditional_of i → gives true ≡ truth_value ls m.cells.items (truth_of (out-Conditional i).condition)
+    → ss ≡ (out-Conditional i).body.items → (enters : CallEffect) (t : ℕ) → sequence_effect t ls (sequence_of xs) enters (state_of m) ≡ sequence_effect t ls (sequence_of ss) enters (state_of m)
+only_if_taken m ls i x ss only made h same enters t = alone enters t ls i x _ (state_of m) only made ∙ if-goes enters t ls i (state_of m) (gives true) h
+    ∙ ap (λ ss. execute_sequence enters t ls (sequence_of ss) (state_of m)) (sym same)
+
+pub only_if_passed : {xs : List Instruction} (m : Machine) (ls : Levels) (i : Conditional) (x : Instruction) (ss : List Instruction) → xs ≡ x ∷ [] → statement_of x ≡ conditional_of i → gives false ≡ truth_value ls m.cells.items (truth_of (out-Conditional i).condition)
+    → length (out-Conditional i).others.items ≤ 0 → ss ≡ (out-Conditional i).otherwise.items → (enters : CallEffect) (t : ℕ) → sequence_effect t ls (sequence_of xs) enters (state_of m) ≡ sequence_effect t ls (sequence_of ss) enters (state_of m)
+only_if_passed m ls i x ss only made h none same enters t = alone enters t ls i x _ (state_of m) only made ∙ if-goes enters t ls i (state_of m) (gives false) h
+    ∙ branch-last enters t ls i (out-Conditional i).others.items 0 (state_of m) none ∙ ap (λ ss. execute_sequence enters t ls (sequence_of ss) (state_of m)) (sym same)
+
+-- the statements that stand for a body run in its place
+pub does_chosen : {post : CallPostcondition} {r : Result (Unit {0}) StopReason} {m m' : Machine} (t : ℕ) (ls : Levels) (xs ss : List Instruction) → ((enters : CallEffect) (t : ℕ) → sequence_effect t ls (sequence_of xs) enters (state_of m) ≡ sequence_effect t ls (sequence_of ss) enters (state_of m))
+    → StepHasEffect post r m m' (sequence_effect t ls (sequence_of ss)) → StepHasEffect post r m m' (sequence_effect t ls (sequence_of xs))
+does_chosen {r = r} {m' = m'} t ls xs ss h d = record { has_effect = λ enters p. subst (IsProgressAfterStep r m') (sym (h enters t)) (d.has_effect enters p) }
+
 pub then_last : {post : CallPostcondition} {r : Result (Unit {0}) StopReason} {start now m : Machine} (t : ℕ) (ls : Levels) (xs : List Instruction) (u : Unit {0}) (x : Instruction) → StepHasEffect post (Ok u) start now (sequence_effect t ls (sequence_of xs))
     → StepHasEffect post r now m (statement_effect t ls (statement_of x)) → StepHasEffect post r start m (sequence_effect t ls (sequence_of (xs ++ x ∷ [])))
 then_last {r = r} {start = start} {now = now} {m = m} t ls xs u x d e = record {

@@ -1,10 +1,9 @@
 -- Converts the machine's activations (`Level`), and the addresses that it passes for VAR parameters
 -- (`VarParameterAddresses`), to the lists that the definitions of runs use.
 -- Rule: none; used in contracts of the machine.
-use Rattle.std.specs.Prelude.{ℕ, List, Option, Some, None, [], ◌∷◌}
+use Rattle.std.specs.Prelude.{ℕ, List, Option, Some, None, [], ◌∷◌, if◌then◌else◌, nat_lt, take}
 use denote.Ref.{Bor}
 use Rattle.ob0_run_machine.specs.declared.addresses.VarParameterAddresses.{VarParameterAddresses}
-use Rattle.ob0_run_machine.specs.declared.addresses.VarParameterAddresses.TheVariants as addresses
 use Rattle.ob0_run_machine.specs.declared.level.Level as code
 use Rattle.ob0_run_machine.specs.Evaluation.{Levels}
 
@@ -29,7 +28,4 @@ levels_of_option (Some l) = levels_of l.now
 
 -- returns the addresses that a call passes for its VAR parameters, in the order of the parameters
 abbrev pub address_list_of : VarParameterAddresses → List ℕ
-address_list_of addresses.Empty = []
-address_list_of (addresses.One a) = a ∷ []
-address_list_of (addresses.Two a b) = a ∷ b ∷ []
-address_list_of (addresses.More all) = all.items
+address_list_of a = if nat_lt 2 a.count then a.all.items else take a.count a.few

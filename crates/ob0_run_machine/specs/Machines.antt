@@ -10,6 +10,8 @@
 use Rattle.std.specs.Prelude.{◌≡◌, ℕ, ℤ, List, map, Ok, Err, None, Option, Some, option_map, Result, true}
 use denote.MutBor.{MutBor}
 use denote.Ref.{Bor}
+use Rattle.ob0_run_machine.specs.declared.code.Instruction as code
+use Rattle.ob0_run_machine.specs.declared.stop_reasons.EvaluationFault.{EvaluationFault}
 use Rattle.ob0_run_machine.specs.declared.stop_reasons.StopReason.{StopReason}
 use Rattle.ob0_run_machine.specs.declared.level.Level as level
 use Rattle.ob0_run_machine.specs.declared.machine.Item.{Item}
@@ -17,12 +19,12 @@ use Rattle.ob0_run_machine.specs.declared.machine.Item.TheVariants as item
 use Rattle.ob0_run_machine.specs.declared.machine.Machine.{Machine}
 use Rattle.ob0_run_machine.specs.declared.memory.Memory.{Memory}
 use Rattle.ob0_run_machine.specs.Allocations.{has_failed}
-use Rattle.ob0_run_machine.specs.StepOutcomes.{end_of_stop_reason}
+use Rattle.ob0_run_machine.specs.StepOutcomes.{end_of, end_of_stop_reason}
 use Rattle.ob0_run_machine.specs.Evaluation.{MachineEnd, Levels, StepResult, ends, gives}
 use Rattle.ob0_run_machine.specs.Execution.{CallEffect, CallArguments, MachineProgress, MachineState, OutputItem, run_routine, call, levels_in_call, execute, execute_sequence, execute_branches, line_out, number_out, running, stopped}
 use Rattle.ob0_run_machine.specs.Levels.{levels_of}
 use Rattle.ob0_run_machine.specs.LoweredSyntax.{Branches, Routine, Instruction, InstructionList}
-use Rattle.ob0_run_machine.specs.LoweredCodeViews.{program_of}
+use Rattle.ob0_run_machine.specs.LoweredCodeViews.{program_of, sequence_of}
 use Rattle.ob0_run_machine.specs.declared.code.LoweredCode.{LoweredCode}
 
 -- converts an `Item` of the machine's output to an `OutputItem`
@@ -109,6 +111,16 @@ pub record StepHasEffect (post : CallPostcondition) (r : Result (Unit {0}) StopR
   pub has_effect : (enters : CallEffect)
       → CallsHaveEffect post enters
       → IsProgressAfterStep r m' (doing enters (state_of m))
+
+-- States that the statements `r` have the same effect as the statements `xs`, in the state of the
+-- machine `m` and in the activations `ls`. If `r` is a fault, states that it ends the run of `xs`.
+abbrev pub ReplacesStatements : Result (Bor (List code.Instruction)) EvaluationFault → Machine → Levels → List code.Instruction → Type 0
+ReplacesStatements (Ok ss) m ls xs =
+    (enters : CallEffect) (t : ℕ)
+    → sequence_effect t ls (sequence_of xs) enters (state_of m) ≡ sequence_effect t ls (sequence_of ss.now) enters (state_of m)
+ReplacesStatements (Err e) m ls xs =
+    (enters : CallEffect) (t : ℕ)
+    → sequence_effect t ls (sequence_of xs) enters (state_of m) ≡ stopped (end_of e) (output_items m.output.items)
 
 -- Returns the passed arguments of a call, with the cells `cells` and the addresses `addresses`.
 -- `cells` has all cells so far, with the passed values at the end.

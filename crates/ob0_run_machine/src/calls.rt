@@ -10,7 +10,7 @@ ghost use Rattle.ob0_run_machine.specs.LoweredCodeViews.{procedure_of};
 use crate::code::{LoweredCode, Routine};
 use crate::level::Level;
 use crate::machine::Machine;
-use crate::statements::run_sequence_inline;
+use crate::statements::run_body;
 use crate::stop_reasons::StopReason;
 
 /// Returns the procedure at the index `procedure` of `procedures`, or None if there is no procedure
@@ -29,6 +29,7 @@ fn procedure_at_index<'p>(procedures: &'p [Routine], procedure: usize) -> Option
 /// Runs a procedure whose arguments have been passed. First adds the cells of the variables that it
 /// declares, with the value 0, then runs its body. Does nothing if `procedure` is None. The closure
 /// `enter` performs the calls in the body.
+#[inline(always)]
 fn run_routine<F: Fn(&mut Machine<'_>, usize, &Level<'_>) -> Result<(), StopReason>>(
     procedure: Option<&Routine>,
     level: &Level<'_>,
@@ -47,7 +48,7 @@ fn run_routine<F: Fn(&mut Machine<'_>, usize, &Level<'_>) -> Result<(), StopReas
             machine
                 .memory
                 .push_zeros(&mut machine.cells, procedure.cells)?;
-            run_sequence_inline(&procedure.body, level, turns, machine, enter)
+            run_body(&procedure.body, level, turns, machine, enter)
         }
     }
 }
@@ -65,7 +66,7 @@ fn drop_variables(machine: &mut Machine<'_>, level: &Level<'_>)
 /// Runs the procedure at the index `procedure`, whose arguments have been passed. Drops the cells
 /// of its activation, `level`, when it returns. `calls` is the number of calls that may still be
 /// opened, including this call. If `calls` is 0, the call ends the run with CallBound.
-#[inline(never)]
+#[inline(always)]
 pub(crate) fn call(
     program: &LoweredCode,
     calls: u32,

@@ -29,18 +29,13 @@ pub(crate) struct Level<'l> {
 pub(crate) fn enclosing_level<'l>(level: &'l Level<'l>, up: usize) -> Option<&'l Level<'l>>
     ensures { levels_of_option result ≡ drop up (levels_of level.now) }
 {
+    if up == 1 {
+        return level.enclosing;
+    }
     if up == 0 {
         return Some(level);
     }
-    match level.enclosing {
-        None => None,
-        Some(level) => {
-            if up == 1 {
-                return Some(level);
-            }
-            enclosing_level_out_of_line(level, up - 1)
-        }
-    }
+    enclosing_level_out_of_line(level, up)
 }
 
 #[inline(never)]

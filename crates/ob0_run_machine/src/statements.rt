@@ -2,16 +2,16 @@
 //! function that may reach a call. Each function returns the reason why the run stops
 //! (`StopReason`), so `run_statement` returns the results of the functions that it calls unchanged.
 
-ghost use Rattle.std.specs.Prelude.{◌≡◌, ◌++◌, ◌∷◌, [], IfSome, List, ℕ, ℤ};
+ghost use Rattle.std.specs.Prelude.{◌≡◌, ◌++◌, ◌∷◌, [], drop, IfSome, List, ℕ, ℤ};
 ghost use Rattle.ob0_run_machine.specs.StepOutcomes.{outcome_of_result};
 ghost use Rattle.ob0_run_machine.specs.Evaluation.{Levels, place_address as address_of, gives, number_value, truth_value};
 ghost use Rattle.ob0_run_machine.specs.CountingLoops.{IsCountingLimit, IsCountingCondition, limit_value};
 ghost use Rattle.ob0_run_machine.specs.declared.code.Comparator.TheVariants.{Less};
 ghost use Rattle.ob0_run_machine.specs.declared.code.Instruction.{Increase};
 ghost use Rattle.ob0_run_machine.specs.Execution.{CallEffect, execute};
-ghost use Rattle.ob0_run_machine.specs.Levels.{levels_of};
+ghost use Rattle.ob0_run_machine.specs.Levels.{levels_of, levels_of_option};
 ghost use Rattle.ob0_run_machine.specs.LoweredSyntax as lowered;
-ghost use Rattle.ob0_run_machine.specs.Machines.{StepHasEffect, StepRunsStatement, IsProgressAfterStep, procedure_entry_effect, statement_effect, sequence_effect, elsifs_effect, state_of};
+ghost use Rattle.ob0_run_machine.specs.Machines.{ReplacesStatements, StepHasEffect, StepRunsStatement, IsProgressAfterStep, procedure_entry_effect, statement_effect, sequence_effect, elsifs_effect, state_of};
 ghost use Rattle.ob0_run_machine.specs.LoweredCodeViews.{operation_with_link, conditional_of, call_of, chain_of, variable_comparison, variable_increase, number_of, elsif_branches, else_statements, place_of, repeat_of, variable_element_of, sequence_of, statement_of, truth_of, variable_of, while_of};
 
 use crate::addresses::VarParameterAddresses;
@@ -79,8 +79,10 @@ fn store_chain(
     ensures { StepRunsStatement result machine.old machine.new (levels_of level.now)
         (lowered.stores_number (variable_of variable.now) (chain_of c.now)) }
 {
+    // The address comes first, which takes two instructions less.
+    let address = variable_address(variable, level);
     let v = evaluate_chain(c, level, machine.cells.as_slice())?;
-    store_in_cell(&mut machine.cells, variable_address(variable, level), v);
+    store_in_cell(&mut machine.cells, address, v);
     Ok(())
 }
 
@@ -113,10 +115,33 @@ fn increase_variable(
 }
 
 /// Assigns to a variable the result of an operation on this variable, or returns the operation's
-/// fault. Like `store_number`, this function isn't inlined.
+/// fault. Like `store_number`, this function isn't inlined. It leaves operands that are neither a
+/// literal nor a variable to `update_variable_with_expression`.
 #[tactic(auto, unfolding(crate::specs::Execution::execute))]
 #[inline(never)]
 fn update_variable(
+    variable: &Variable,
+    link: &ChainLink,
+    level: &Level<'_>,
+    machine: &mut Machine<'_>,
+) -> Result<(), StopReason>
+    ensures { StepRunsStatement result machine.old machine.new (levels_of level.now)
+        (lowered.stores_number (variable_of variable.now)
+        (operation_with_link link.now (lowered.cell (variable_of variable.now)))) }
+{
+    if let ChainLink::Other(_operator, _n) = link {
+        return update_variable_with_expression(variable, link, level, machine);
+    }
+    let v = evaluate_update(variable, link, level, machine.cells.as_slice())?;
+    store_in_cell(&mut machine.cells, variable_address(variable, level), v);
+    Ok(())
+}
+
+/// Does what `update_variable` does. It is a function of its own, so `update_variable` has no
+/// registers to save.
+#[tactic(auto, unfolding(crate::specs::Execution::execute))]
+#[inline(never)]
+fn update_variable_with_expression(
     variable: &Variable,
     link: &ChainLink,
     level: &Level<'_>,
@@ -217,25 +242,27 @@ fn run_write_line(level: &Level<'_>, machine: &mut Machine<'_>) -> Result<(), St
 }
 
 /// Enters the procedure of a call whose arguments have been passed. `base` is the address of the
-/// first cell of the procedure's activation, and `addresses` are the addresses of its VAR
-/// parameters.
+/// first cell of the procedure's activation, `addresses` are the addresses of its VAR parameters, and
+/// `enclosing` is the activation in which it is declared.
 #[inline(always)]
 fn enter_procedure<F: Fn(&mut Machine<'_>, usize, &Level<'_>) -> Result<(), StopReason>>(
     c: &ProcedureCall,
     base: usize,
     addresses: &[usize],
-    level: &Level<'_>,
+    enclosing: Option<&Level<'_>>,
     machine: &mut Machine<'_>,
     enter: &F,
 ) -> Result<(), StopReason>
     requires { F.IsAlwaysCallable enter.now }
-    ensures { StepHasEffect (F.post enter.now) result machine.old machine.new
-        (procedure_entry_effect c.now.procedure c.now.up (levels_of level.now) base addresses.now) }
+    ensures { (ls : Levels)
+        → levels_of_option enclosing.entry ≡ drop c.now.up ls
+        → StepHasEffect (F.post enter.now) result machine.old machine.new
+        (procedure_entry_effect c.now.procedure c.now.up ls base addresses.now) }
 {
     let entered = Level {
         base,
         addresses,
-        enclosing: enclosing_level(level, c.up),
+        enclosing,
     };
     enter(machine, c.procedure, &entered)
 }
@@ -254,7 +281,7 @@ fn run_call<F: Fn(&mut Machine<'_>, usize, &Level<'_>) -> Result<(), StopReason>
         (statement_effect t (levels_of level.now) (call_of c.now)) }
 {
     let base = machine.cell_count();
-    let mut addresses = VarParameterAddresses::Empty;
+    let mut addresses = VarParameterAddresses::new(&machine.memory);
     pass_arguments(
         &mut machine.memory,
         c.arguments.as_slice(),
@@ -263,26 +290,8 @@ fn run_call<F: Fn(&mut Machine<'_>, usize, &Level<'_>) -> Result<(), StopReason>
         &mut machine.cells,
         &mut addresses,
     )?;
-    match &addresses {
-        VarParameterAddresses::Empty => enter_procedure(c, base, &[], level, machine, enter),
-        VarParameterAddresses::One(a) => enter_procedure(c, base, &[*a], level, machine, enter),
-        VarParameterAddresses::Two(a, b) => enter_procedure(
-            c,
-            base,
-            &[*a, *b],
-            level,
-            machine,
-            enter,
-        ),
-        VarParameterAddresses::More(all) => enter_procedure(
-            c,
-            base,
-            all.as_slice(),
-            level,
-            machine,
-            enter,
-        ),
-    }
+    let enclosing = enclosing_level(level, c.up);
+    enter_procedure(c, base, addresses.as_slice(), enclosing, machine, enter)
 }
 
 /// Returns the value of a condition, or the fault that ends its evaluation.
@@ -338,9 +347,7 @@ fn run_statement<F: Fn(&mut Machine<'_>, usize, &Level<'_>) -> Result<(), StopRe
 /// procedures run their bodies without a function call.
 #[inline(always)]
 #[cycle(execution)]
-pub(crate) fn run_sequence_inline<
-    F: Fn(&mut Machine<'_>, usize, &Level<'_>) -> Result<(), StopReason>,
->(
+fn run_sequence_inline<F: Fn(&mut Machine<'_>, usize, &Level<'_>) -> Result<(), StopReason>>(
     statements: &[Instruction],
     level: &Level<'_>,
     turns: u32,
@@ -355,6 +362,57 @@ pub(crate) fn run_sequence_inline<
         run_statement(s, level, turns, machine, enter)?;
     }
     Ok(())
+}
+
+/// Returns the statements that have the same effect as `statements`. If these are a single IF
+/// without ELSIF parts, evaluates its condition and returns the statements of its THEN or ELSE
+/// part. Otherwise returns `statements`. Returns a fault if the evaluation of the condition has
+/// one.
+#[inline(always)]
+fn choose_statements<'s>(
+    statements: &'s [Instruction],
+    level: &Level<'_>,
+    machine: &Machine<'_>,
+) -> Result<&'s [Instruction], EvaluationFault>
+    ensures { ReplacesStatements result machine.now (levels_of level.now) statements.now }
+{
+    let [first] = statements else {
+        return Ok(statements);
+    };
+    match first {
+        Instruction::If(i) => {
+            let others = i.others.as_slice();
+            let count = others.len();
+            if count > 0 {
+                return Ok(statements);
+            }
+            match evaluate_condition(&i.condition, level, machine) {
+                Ok(true) => Ok(&i.body),
+                Ok(false) => Ok(&i.otherwise),
+                Err(fault) => Err(fault),
+            }
+        }
+        _ => Ok(statements),
+    }
+}
+
+/// Runs the statements of a procedure's body in order, until one of them ends the run. If the body
+/// is a single IF, as in most recursive procedures, runs the statements of its branch without a
+/// function call (`choose_statements`).
+#[inline(always)]
+pub(crate) fn run_body<F: Fn(&mut Machine<'_>, usize, &Level<'_>) -> Result<(), StopReason>>(
+    statements: &[Instruction],
+    level: &Level<'_>,
+    turns: u32,
+    machine: &mut Machine<'_>,
+    enter: &F,
+) -> Result<(), StopReason>
+    requires { F.IsAlwaysCallable enter.now }
+    ensures { StepHasEffect (F.post enter.now) result machine.old machine.new
+        (sequence_effect turns (levels_of level.now) (sequence_of statements.now)) }
+{
+    let chosen = choose_statements(statements, level, machine)?;
+    run_sequence_inline(chosen, level, turns, machine, enter)
 }
 
 /// Runs statements in order, until one of them ends the run. This function isn't inlined. It runs

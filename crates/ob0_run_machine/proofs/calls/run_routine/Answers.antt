@@ -14,4 +14,4 @@ pub returns-in_ok-push_zeros-in-Some : goal.returns-in_ok-push_zeros-in-Some
 returns-in_ok-push_zeros-in-Some g c = activates c.args.turns (levels_of c.args.level.now) (procedure_of c.in-Some.procedure.now) (ap (option_map (λ p. procedure_of p.now)) c.in-Some.is)
     c.in_ok-push_zeros-in-Some.ensures.items c.in_ok-push_zeros-in-Some.ensures.room
     (ap (λ cells. record { cells = cells; input = c.args.machine.now.input.now; output = output_items c.args.machine.now.output.items }) c.in_ok-push_zeros-in-Some.ensures.items)
-    (does_sequence c.args.turns (levels_of c.args.level.now) c.deref.ensures.value c.run_sequence_inline.ensures)
+    (does_sequence c.args.turns (levels_of c.args.level.now) c.deref.ensures.value c.run_body.ensures)
