@@ -58,7 +58,8 @@ module _ (low high wide_low wide_high : ℕ) (place : BodyBounds) (front : place
         | false ↦ λ e. absurd (cc (e))
       ]) e
 
-  -- What holds of a block also holds if the range must end at or before the block's closing name.
+  -- The bounds in a block are also the same if the range must end at or before the block's closing
+  -- name.
   before_closing : (least top closing : ℕ) (r : Role) (b : Tree ℕ block) → Ascend least (ids b ++ ((r, closing) ∷ [])) top
       → (Ascend least (ids b) closing → body_bounds_in_block low high closing b ≡ Some place → Widened least closing (body_bounds_in_block wide_low wide_high closing b))
       → bounds_before low high closing b ≡ Some place → Widened least closing (bounds_before wide_low wide_high closing b)

@@ -34,8 +34,8 @@ impl LastModule {
     /// Keeps the names and types of the previous text, a module (`tree`, `bindings`, `types`), for
     /// a changed text with the tokens `tokens`. All tokens of the previous text that may differ
     /// (`same.prefix..same.old_suffix`) must lie in one body, after its first identifier. Otherwise
-    /// returns None. From now on, all tokens of this body after its first identifier count as
-    /// different. Also returns None if in the changed text they would end after the last token.
+    /// returns None. Later, all tokens of this body after its first identifier count as different.
+    /// Also returns None if in the changed text they would end after the last token.
     pub(crate) fn keep_last_module(
         tokens: &Tokens,
         tree: &ModuleTree,

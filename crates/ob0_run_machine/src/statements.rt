@@ -137,7 +137,7 @@ fn update_variable(
     Ok(())
 }
 
-/// Does what `update_variable` does. It is a function of its own, so `update_variable` has no
+/// Does the same as `update_variable`. Because this function is separate, `update_variable` has no
 /// registers to save.
 #[tactic(auto, unfolding(crate::specs::Execution::execute))]
 #[inline(never)]

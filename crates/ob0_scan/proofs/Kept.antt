@@ -117,7 +117,8 @@ unchanged_there f [] i d less = absurd (omega (arith, less))
 unchanged_there f (x ∷ xs) zero d less = refl
 unchanged_there f (x ∷ xs) (suc i) d less = unchanged_there f xs i d (omega (arith, less))
 
--- If the items from index `k` on are replaced by as many others, `written_over` is a `Vec` of `n` items after that.
+-- Returns the items of a `Vec` of length `n` after the items at index `k` and later are replaced by
+-- as many others, `new`.
 abbrev pub written_over : {X : Type 0} → ℕ → ℕ → List X → List X → List X → List X
 written_over k n xs items new =
     take n ((take k xs ++ (new ++ post_of k (length xs - k) xs)) ++ drop (length (take k xs ++ (new ++ post_of k (length xs - k) xs))) items)

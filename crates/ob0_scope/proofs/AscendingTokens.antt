@@ -1,5 +1,5 @@
--- Proves that the lists of tokens in the bindings of a module ascend: those of the declaring names,
--- of the looked-up names and of the undeclared names.
+-- Proves that the lists of tokens in the bindings of a module ascend: the lists of declaring names,
+-- of looked-up names and of undeclared names.
 use Rattle.std.proofs.Common.{◌<◌, ◌≤◌, ℕ, ◌+◌, zero, suc, Option, Some, None, List, [], ◌∷◌, length, get_or, sym, subst, arith}
 use Rattle.std.specs.List.Sorted.{IsNonDecreasing}
 use Rattle.ob0_tree.specs.declared.tree.Role.{Role}

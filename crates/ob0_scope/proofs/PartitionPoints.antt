@@ -28,7 +28,7 @@ ordered n m (x ∷ xs) (suc i) zero le inside p q =
 ordered n m (x ∷ xs) (suc i) (suc j) le inside p q =
     let later = ordered n m xs i j le (omega (arith, inside)) (next_suc n x xs i p) (next_suc m x xs j q) in omega (arith, later)
 
--- The point of a smaller number isn't after that of a greater one.
+-- The point of a smaller number isn't after the point of a greater one.
 pub points_ordered : (n m : ℕ) (xs : List ℕ) (i j : ℕ) → n ≤ m → IsPointOf n xs i → IsPointOf m xs j → i ≤ j
 points_ordered n m xs i j le p q = ordered n m xs i j le p.inside p.splits q.splits
 

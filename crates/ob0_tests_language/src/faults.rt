@@ -131,8 +131,8 @@ static TEXTS_WITH_CHANGES: &[(&str, u64, u64, &str)] = changes![
     TWO_VARIABLES, 41, 41, "; z := 1";
     "MODULE M; TYPE T = RECORD f, g: INTEGER END; VAR t: T; PROCEDURE P(a, b: T); BEGIN a := b; a.f := t.g END P; \
         BEGIN P(t, t); t := t END M.", 101, 101, "; a.g := b.f";
-    // A statement that is added to a body beside errors elsewhere: before and after bodies with type
-    // errors, in a body with one, and beside errors in declarations.
+    // A statement is added to a body of a module with errors: before and after bodies with type errors,
+    // in a body with a type error, and in a module with errors in declarations.
     TWO_TYPE_ERRORS, 51, 51, "; x := x + 1";
     TWO_TYPE_ERRORS, 51, 51, "; IF x THEN z := x END";
     TWO_TYPE_ERRORS, 87, 87, "; x := 2";

@@ -142,7 +142,7 @@ equal_in_place path old new test tree alike is_left_out =
     ∙ (module_kept (Option ℕ × Name) (label_in new) (label_in old) (value_in new) (value_in old) test less same
     ∙ ap (labelled old) (module_twice test path t is_left_out)))
 
--- If the tokens have other indexes, the same holds. A closing name's test is that of its new index.
+-- If the tokens have other indexes, the same holds. A closing name is tested by its new index.
 equal_moved : (path : PathToBody) (old new : Resolution) (test : ℕ → Bool) (move : ℕ → ℕ) → module_without_body path (tree_of new.module_read) ≡ mapped_tree move move (module_without_body path (tree_of old.module_read)) → closing_name_at_path path (tree_of new.module_read) ≡ move (closing_name_at_path path (tree_of old.module_read))
     → BoundAlike path old new → test (closing_name_at_path path (tree_of new.module_read)) ≡ true → AreEqualExceptInBodies (λ k. test (move k)) test old new
 equal_moved path old new test move outside closing alike is_left_out =

@@ -11,8 +11,7 @@ use ob0_tree::{Block, Procedure, Statement};
 use std::alloc::{AllocError, Global};
 
 /// Returns the body that contains the token with this index: the body of this block or of a
-/// procedure in the block. If none of these bodies contains the token, the result may be any of
-/// them.
+/// procedure in the block. If no body contains the token, the result may be any of these bodies.
 #[cycle(blocks)]
 pub(crate) fn body_with_token_in_block(b: &Block, token: usize) -> &Option<Vec<Statement>>
     ensures { body_of result.now ≡ body_with_token_in_block token (block_of b.now) }
@@ -26,7 +25,7 @@ pub(crate) fn body_with_token_in_block(b: &Block, token: usize) -> &Option<Vec<S
 }
 
 /// Returns the body that contains the token with this index: the body of this procedure or of a
-/// procedure in it. If none of these bodies contains the token, the result may be any of them.
+/// procedure in it. If no body contains the token, the result may be any of these bodies.
 #[cycle(blocks)]
 fn body_with_token_in_procedure(p: &Procedure, token: usize) -> &Option<Vec<Statement>>
     ensures { body_of result.now ≡ body_with_token_in_procedure token (procedure_of p.now) }
