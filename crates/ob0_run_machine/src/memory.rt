@@ -14,7 +14,7 @@ ghost use Rattle.ob0_run_machine.specs.Allocations.{has_failed};
 use crate::cell_copies::copy_to_later_cells;
 use std::alloc::{AllocError, Global};
 
-/// The largest number of cells that `push_zeros` adds without a function call.
+/// The largest number of cells that `push_zeros` adds one by one.
 const MAX_INLINE_ZEROS: usize = 8;
 
 /// The allocator of a run's lists, and whether an allocation has failed (`has_failed`).
@@ -59,9 +59,8 @@ impl Memory {
     }
 
     /// Adds `count` cells with the value 0 at the end of `cells`. If `count` is at most
-    /// `MAX_INLINE_ZEROS`, as in most procedures, and there is room for that many cells, all of
-    /// these are added at once, and then those after the first `count` are dropped. Two stores of a
-    /// known length take fewer instructions than a loop.
+    /// `MAX_INLINE_ZEROS`, as in most procedures, the cells are added one by one, without a
+    /// function call.
     #[inline(always)]
     pub(crate) fn push_zeros(
         &mut self,
@@ -73,15 +72,15 @@ impl Memory {
         ensures full { OnErr result (vec_capacity cells.old < vec_len cells.old + count) }
         ensures room { OnOk result (length cells.new.items < 2 ^ 64) }
     {
-        let length = cells.len();
-        if count <= MAX_INLINE_ZEROS
-            && cells.capacity() - length >= MAX_INLINE_ZEROS
-            && cells.extend_from_slice(&[0; MAX_INLINE_ZEROS]).is_ok()
-        {
-            cells.truncate(length + count);
-            return Ok(());
+        if count > MAX_INLINE_ZEROS {
+            return self.push_many_zeros(cells, count);
         }
-        self.push_many_zeros(cells, count)
+        for _cell in 0..count {
+            self.push(cells, 0)?;
+        }
+        // For the proof: the length of a list has at most 64 bits.
+        let _length = cells.len();
+        Ok(())
     }
 
     #[inline(never)]

@@ -70,7 +70,7 @@ fn checked_sum(left: i32, right: i32) -> Option<i32>
 }
 
 /// Returns the difference, or None if it has more than 32 bits. Computes the difference in 64 bits,
-/// which compiles to a subtraction and a jump on overflow. (`checked_sub` takes six instructions
+/// which compiles to a subtraction and a jump on overflow. (`checked_sub` takes four instructions
 /// more.)
 #[inline(always)]
 fn checked_difference(left: i32, right: i32) -> Option<i32>

@@ -1,15 +1,17 @@
-use Rattle.std.proofs.Common.{rules, ◌≡◌, ◌≤◌, ◌+◌, ◌++◌, ℕ, ℤ, List, length, take, pos, sym, ap, ◌∙◌, if◌then◌else◌}
-use Rattle.std.specs.Prelude.{replicate}
-use Rattle.std.proofs.Math.Seq.{take-append-add}
-use Rattle.std.proofs.lemmas.List.{take-replicate}
+use Rattle.std.proofs.Common.{◌++◌, ◌∷◌, [], pos, arith, sym, ap, ◌∙◌}
+use Rattle.std.proofs.lemmas.List.{append-nil, append_assoc, replicate_more}
 use Rattle.ob0_run_machine.specs.Execution.{zeros}
 use Rattle.ob0_run_machine.proofs.memory.Memory.push_zeros.Goals as goal
 
--- the first of eight zeros that were added
-first_zeros : (xs ys : List ℤ) (l n : ℕ) → l ≡ length xs → ys ≡ xs ++ replicate 8 (pos 0) → n ≤ 8 → take (l + n) ys ≡ xs ++ zeros n
-first_zeros xs ys l n same grown few = ap (λ l. take (l + n) ys) same ∙ ap (take (length xs + n)) grown ∙ take-append-add xs (replicate 8 (pos 0)) n ∙ ap (λ zs. xs ++ zs) (take-replicate n 8 (pos 0) few)
+pub loop-cell-init : goal.loop-cell-init
+loop-cell-init c = (sym (append-nil c.args.cells.now.items), omega arith)
 
-pub returns-then-is_ok-clause-items : goal.returns-then-is_ok-clause-items
-returns-then-is_ok-clause-items c = c.truncate.ensures.items
-    ∙ first_zeros c.args.cells.now.items c.extend_from_slice.new.self.items c.len-length.result c.args.count (search rules)
-    (c.extend_from_slice.ensures.items ∙ ap (λ b. if b then c.args.cells.now.items ++ replicate 8 (pos 0) else c.args.cells.now.items) (sym c.if-is_ok.ensures.value)) c.if-count-le-MAX_INLINE_ZEROS.true
+pub loop-cell-preserved : goal.loop-cell-preserved
+loop-cell-preserved c =
+    let items = c.in_ok-push.ensures.items ∙ ap (λ xs. xs ++ pos 0 ∷ []) c.loop-cell.invariant.0
+    ∙ append_assoc c.args.cells.now.items (zeros c.loop-cell._cell) (pos 0 ∷ [])
+    ∙ ap (λ xs. c.args.cells.now.items ++ xs) (replicate_more c.loop-cell._cell (pos 0)) in
+    (items, omega (arith, c.loop-cell.invariant.1, c.push.ensures.capacity))
+
+pub returns-clause-items : goal.returns-clause-items
+returns-clause-items c = c.loop-cell.invariant.0 ∙ ap (λ n. c.args.cells.now.items ++ zeros n) (omega arith)
