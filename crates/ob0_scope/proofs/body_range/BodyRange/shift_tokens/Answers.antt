@@ -1,5 +1,5 @@
 use Rattle.std.proofs.Common.{ap, ◌∙◌, ◌<◌, length, arith}
-use Rattle.ob0_scan.proofs.Kept.{changed_on}
+use Rattle.ob0_scope.proofs.ChangedInPlace.{changed_on}
 use Rattle.ob0_scope.specs.BindingsOutsideBody.{shifted_token}
 use Rattle.ob0_scope.proofs.body_range.BodyRange.shift_tokens.Goals as goal
 

@@ -1,4 +1,4 @@
-use Rattle.ob0_scan.proofs.Kept.{ChangedTo}
+use Rattle.ob0_scope.proofs.ChangedInPlace.{ChangedTo}
 use Rattle.ob0_scope.specs.BindingsOutsideBody.{shifted_token}
 use Rattle.ob0_scope.proofs.body_range.BodyRange.shift_tokens.Given as goal
 
