@@ -2,10 +2,11 @@
 from __future__ import annotations
 
 import os
+import re
 import shutil
 import subprocess
 import tempfile
-from typing import IO, List, Optional
+from typing import IO, Dict, List, Optional
 
 from common import match_of
 
@@ -21,6 +22,20 @@ def instructions(words: List[str], given: IO[bytes]) -> int:
     own = {**os.environ, "PYTHONHASHSEED": "0", "LC_ALL": "C.UTF-8"}
     done = subprocess.run(callgrind, stdin=given, stdout=subprocess.DEVNULL, stderr=subprocess.PIPE, env=own, check=False)
     return int(match_of(r"Collected : (\d+)", done.stderr.decode())[1])
+
+
+def instructions_by_function(words: List[str], given: IO[bytes]) -> Dict[str, int]:
+    """How many instructions a command takes on this input in each of its functions, without the functions that these call."""
+    with tempfile.TemporaryDirectory() as room:
+        out = os.path.join(room, "out")
+        callgrind = ["valgrind", "--tool=callgrind", f"--callgrind-out-file={out}", *words]
+        subprocess.run(callgrind, stdin=given, stdout=subprocess.DEVNULL, stderr=subprocess.DEVNULL, check=True)
+        annotate = ["callgrind_annotate", "--threshold=100", "--show-percs=no", out]
+        listed = subprocess.run(annotate, stdout=subprocess.PIPE, stderr=subprocess.DEVNULL, check=True).stdout.decode()
+    found: Dict[str, int] = {}
+    for count, name in re.findall(r"^ *([\d,]+)  [^ :]+:([^ ].*?)(?: \[.*)?$", listed, re.M):
+        found[name] = found.get(name, 0) + int(count.replace(",", ""))
+    return found
 
 
 def instructions_of_conversation(program: str, given: bytes) -> int:

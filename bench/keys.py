@@ -64,6 +64,12 @@ def typed(text: str) -> Longer:
     return [did_open(text)], [did_open(text), *talk], len(TYPED)
 
 
+def with_undeclared_name(text: str) -> str:
+    """The text with an assignment to an undeclared name after its first assignment."""
+    at = match_of(r":= [^;\n]*;", text).end()
+    return f"{text[:at]} Undeclared1 := 1;{text[at:]}"
+
+
 def query(text: str, method: str, params: Message) -> Longer:
     question = request(5, f"textDocument/{method}", {"textDocument": {"uri": URI}, **params})
     return [did_open(text)], [did_open(text), question], 1
@@ -110,6 +116,9 @@ def rows() -> Iterator[tuple[str, Longer]]:
         yield "  a blank more or less", in_and_out(text, r":= [^;\n]*[0-9]", " ")
         yield "  a statement more or less", in_and_out(text, r":= [^;\n]*;", ";")
         yield "  a key typed, with three questions", typed(text)
+        faulty = with_undeclared_name(text)
+        yield "  a digit, beside an undeclared name", in_and_out(faulty, r":= [^;\n]*[0-9]", "1")
+        yield "  a statement, beside an undeclared name", in_and_out(faulty, r":= [^;\n]*;", ";")
     uses = corpus.uses(100000, False)
     yield "references, 100,000 places", query(uses, "references", {"context": {"includeDeclaration": True}, "position": place(0, 18)})
     yield "rename, 100,000 places", query(uses, "rename", {"newName": "y", "position": place(0, 18)})
