@@ -4,8 +4,8 @@
   bench/whole_modules.py [CHANGES]    this many changes, 10,000 by default, in conversations of 100
 
 The conversations are those of the test of random changes. Callgrind counts the calls of the functions that scan a changed text, parse
-it, bind all its names and check all its types. The script fails if all
-types are checked again after a quarter of the changes. It needs valgrind."""
+it, bind all its names and check its types. These functions must not be inlined. The script fails if all types are checked again
+after a quarter of the changes. It needs valgrind."""
 from __future__ import annotations
 
 import collections
@@ -28,7 +28,8 @@ COUNTED = {
     "rescan_in_place": "scanned from the change on",
     "reparse_tree": "parsed",
     "bindings_of": "bound as a whole",
-    "check_result_of": "checked as a whole",
+    "check_result_from_report": "checked",
+    "check_result_walking_bodies": "checked in some bodies, or in all if more than 32 have a fault",
 }
 CALLED = re.compile(r"cfn=(.*)|calls=(\d+)")
 
@@ -85,7 +86,9 @@ def main(words: List[str]) -> int:
     print(f"{count:,} changes in {len(runs):,} conversations, each of which begins with one text that is read from scratch")
     for name, what in COUNTED.items():
         print(f"  {sum(it[name] for it in runs):>9,} texts {what} ({name})")
-    bound, checked = (sum(it[name] for it in runs) - len(runs) for name in ("bindings_of", "check_result_of"))
+    # (each conversation begins with a text that is bound and checked from scratch)
+    bound, all_checked, in_some = (sum(it[name] for it in runs) for name in ("bindings_of", *[*COUNTED][-2:]))
+    bound, checked = bound - len(runs), all_checked - in_some - len(runs)
     by_texts = sum(kinds[it] for it in ways.LONG)
     print(f"  {bound:>9,} changes after which all names are bound again ({by_texts:,} by the texts, as the tests count)")
     print(f"  {checked:>9,} changes after which all types are checked again")
