@@ -6,7 +6,7 @@ import tempfile
 from collections import Counter
 
 import prose
-from harness import TOP, holds, same, test, text_of
+from harness import same, test
 from homes import write
 
 PAGE = """# Of a heading that is there
@@ -41,10 +41,7 @@ LONG = " ".join(["word"] * 36)
 
 @test("prose: no file has more of the forty phrases or of comments without a verb than tests/prose.txt says, no page another long sentence")
 def none_rose() -> None:
-    wanted = list(prose.lines())
-    if "\n".join(wanted) + "\n" != text_of(os.path.relpath(prose.LIST, TOP)):
-        same(prose.risen(), [], "what rose: word it otherwise (`tools/prose.py FILE` shows each place)")
-        holds(False, "counts fell, or files went: `tools/prose.py --write` writes that down")
+    same(prose.risen(), [], "what rose: word it in another way (`tools/prose.py FILE` shows each place)")
 
 
 @test("prose: phrases, long sentences and comments without a verb are found, and code isn't read")

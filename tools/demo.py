@@ -172,7 +172,7 @@ def main() -> int:
     status = play(Recorded())
     say("that was the program without its proofs")
     print(
-        "`make build` proves every function and builds the program: half an hour to an hour on four processors. It says\n"
+        "`make build` proves every function and builds the program: about an hour on four processors. It says\n"
         f"which crate is being proved, how many are left and the time so far, and leaves the proved program as\n"
         f"{os.path.relpath(common.BINARY, os.getcwd())}. After that `make demo` plays this with it, and `make install` installs it."
     )
