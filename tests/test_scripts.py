@@ -104,12 +104,17 @@ def format_statuses() -> None:
 FAULT = harness.diagnostic("Undeclared", "not declared", "4:2-4:3")
 
 
-def server_with(edits: list[Message], more: Iterable[Message] = (), faults: Iterable[Message] = ()) -> str:
+STARTED: list[Content] = [{"id": 1, "result": {"capabilities": {"positionEncoding": "utf-8"}}}]
+
+
+def server_with(edits: list[Message], more: Iterable[Message] = (), faults: Iterable[Message] = (), meanwhile: str = "") -> str:
     """A server that answers the first request for a layout with these edits; of the text that they make it has these faults, and
-    answers with more edits."""
-    answers: list[Content] = [{"id": 1, "result": {"capabilities": {"positionEncoding": "utf-8"}}}, published([]), {"id": 3, "result": edits}, published([])]
+    answers with more edits. It runs a line of Python once the first text is opened."""
+    answers: list[Content] = [published([]), {"id": 3, "result": edits}, published([])]
     answers += [published([*faults]), {"id": 5, "result": [*more]}, published([]), {"id": 6, "result": None}]
-    return "#!/usr/bin/env python3\nimport sys\nsys.stdout.buffer.write(%r)\nsys.stdout.flush()\nsys.stdin.read()\n" % frames(answers)
+    waits = "got = b''\nwhile b'didOpen' not in got: got += os.read(0, 65536)"
+    says = "sys.stdout.buffer.write(%r); sys.stdout.flush()"
+    return "\n".join(["#!/usr/bin/env python3", "import os, sys", says % frames(STARTED), waits, meanwhile, says % frames(answers), "sys.stdin.read()", ""])
 
 
 @test("scripts: ob0-format writes no text whose tokens differ, whatever a server answers")
@@ -128,6 +133,27 @@ def guarded() -> None:
             same((found[0], text_of(work, "good.mod")), (0 if wanted != LAID_OUT else 4, wanted), f"with {given}: {found}")
 
         in_folder(MODULES, trial)
+
+
+@test("scripts: ob0-format leaves a file that another program changes before the server has answered")
+def format_late() -> None:
+    edits: list[Message] = [{"range": harness.extent("4:7-4:8"), "newText": "1 "}]
+    trials = {
+        f"open('good.mod', 'w').write({FAULTY!r})": (FAULTY, "another program has changed it in the meantime, so it isn't formatted"),
+        f"open('new', 'w').write({LAID_OUT!r}); os.replace('new', 'good.mod')": (LAID_OUT.replace("1\n", "1 \n"), ""),
+        "os.unlink('good.mod')": (None, "No such file or directory"),
+    }
+    for meanwhile, (wanted, why) in trials.items():
+
+        def trial(work: str, own: dict[str, str], meanwhile: str = meanwhile, wanted: str | None = wanted, why: str = why) -> None:
+            other = os.path.join(work, "..", "other")
+            write(os.path.join(other, "ob0"), server_with(edits, meanwhile=meanwhile))
+            os.chmod(os.path.join(other, "ob0"), 0o755)
+            found = ran(["python3", FORMAT, "good.mod"], work, {**own, "PATH": other + os.pathsep + own["PATH"]})
+            same(found, (4, "", f"good.mod: {why}\n") if why else (0, "good.mod\n", ""), meanwhile)
+            same({it: text_of(work, it) for it in os.listdir(work)}, {"good.mod": wanted} if wanted else {}, f"the files after {meanwhile}")
+
+        in_folder({"good.mod": LAID_OUT}, trial)
 
 
 @test("scripts: a failed write leaves the old file, and nothing beside it")
@@ -238,9 +264,6 @@ def format_devices() -> None:
 
     in_folder(MODULES, trial)
     holds("`TooLong` | the text has more than 1,048,576 bytes" in text_of("docs", "LANGUAGE.md"), "the page has another longest text")
-
-
-STARTED: list[Content] = [{"id": 1, "result": {"capabilities": {"positionEncoding": "utf-8"}}}]
 
 
 def first_by(lines: str, answers: list[Content], work: str, own: dict[str, str]) -> dict[str, str]:
