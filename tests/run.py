@@ -33,6 +33,7 @@ HERE = os.path.dirname(os.path.abspath(__file__))
 sys.path.insert(0, os.path.join(HERE, "lib"))
 
 import harness  # noqa: E402 (it says where the scripts are)
+import common  # noqa: E402
 import editors  # noqa: E402
 import processes  # noqa: E402
 
@@ -251,6 +252,13 @@ def chosen_by(words: list[str]) -> list[int]:
     return [at for at, (name, _) in enumerate(harness.TESTS) if name not in done and (not given or any(it in name for it in given))]
 
 
+def settle() -> None:
+    """Gives each test the same surroundings, whatever the user's are. The tests' configuration of git replaces the user's,
+    which may sign commits or refuse the repository of another user."""
+    common.settle()
+    os.environ.update(GIT_CONFIG_NOSYSTEM="1", GIT_CONFIG_GLOBAL=os.path.join(HERE, "lib", "gitconfig"))
+
+
 def end_by_signal() -> None:
     """Has SIGTERM end the tests that run, as Ctrl-C does."""
     signal.signal(signal.SIGTERM, lambda number, _: sys.exit(128 + number))
@@ -258,6 +266,7 @@ def end_by_signal() -> None:
 
 def main(words: list[str]) -> int:
     end_by_signal()
+    settle()
     if isinstance(sys.stdout, io.TextIOWrapper):
         sys.stdout.reconfigure(errors="backslashreplace")
     is_first = "--first" in words

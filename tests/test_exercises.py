@@ -9,7 +9,6 @@ import io
 import itertools
 import os
 import re
-import shutil
 import signal
 import subprocess
 import tempfile
@@ -20,7 +19,7 @@ from typing import Any
 import harness
 from common import match_of
 from harness import TOP, Server, did_open, holds, is_running, need_program, run, same, test, text_of
-from homes import as_another, run_plainly, temporary, write
+from homes import as_another, copy, run_plainly, temporary, write
 
 FOLDER = os.path.join("examples", "exercises")
 PAGE = text_of(FOLDER, "README.md")
@@ -312,7 +311,7 @@ def unreadable() -> None:
     with temporary() as room:
         # (another user than root may not enter the checkout, so the script and the program are copied)
         for name in ("mark.py", "README.md", *(f"{it}.txt" for it in NAMES)):
-            shutil.copy(os.path.join(TOP, FOLDER, name), room)
+            copy(os.path.join(TOP, FOLDER, name), room)
         write(os.path.join(room, "ob0"), "#!/bin/sh\nexit 0\n")
         for name in ("a", "b", "c"):
             write(os.path.join(room, name, "Reverse.mod"), "")

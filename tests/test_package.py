@@ -15,7 +15,7 @@ import common
 import package
 from common import match_of
 from harness import TOP, examples, holds, same, test, text_of, want, want_proved
-from homes import run_in_terminal, run_plainly, temporary, write
+from homes import copy, run_in_terminal, run_plainly, temporary, write
 from screen import Screen
 
 MODULE = "MODULE N;\nBEGIN x := 1 END N.\n"
@@ -175,7 +175,7 @@ def in_copy(*commits: tuple[int, str, str]) -> list[str]:
     """The version of the packages in a repository of its own, which has the scripts and these commits: a time and a tag for each."""
     versions = []
     with temporary() as room:
-        shutil.copytree(os.path.join(TOP, "tools"), os.path.join(room, "tools"))
+        copy(os.path.join(TOP, "tools"), os.path.join(room, "tools"))
         git = ["git", "-c", "user.name=x", "-c", "user.email=x@example.org"]
         own = {key: value for key, value in os.environ.items() if key != "BUILD_VERSION"}
         subprocess.run([*git, "init", "--quiet"], cwd=room, check=True)

@@ -20,8 +20,8 @@ import glibc
 import notices
 import package
 from common import match_of
-from harness import TOP, holds, leave_out, same, test, text_of, want
-from homes import run_plainly, temporary, write
+from harness import TOP, holds, leave_out, same, test, text_of, tracked, want
+from homes import copy, run_plainly, temporary, write
 from snippets import FENCED
 
 # each place that has the program's version, with what is around it
@@ -56,11 +56,10 @@ class Repository:
         kept = {key: value for key, value in os.environ.items() if not key.startswith(("GIT_", "BUILD_", "SOURCE_", "DEB", "MAKE"))}
         names = {"NAME": "x", "EMAIL": "x@example.org"}
         self.own = {**kept, "HOME": home, **{f"GIT_{who}_{it}": value for who in ("AUTHOR", "COMMITTER") for it, value in names.items()}}
-        found = subprocess.run(["git", "ls-files", "-z", "--", *NEEDED], cwd=TOP, stdout=subprocess.PIPE, check=True).stdout
-        for it in (os.fsdecode(name) for name in found.split(b"\0") if name):
-            if os.path.isfile(os.path.join(TOP, it)):
+        for it in tracked():
+            if any(it == name or it.startswith(name + "/") for name in NEEDED):
                 os.makedirs(os.path.dirname(os.path.join(self.room, it)), exist_ok=True)
-                shutil.copy(os.path.join(TOP, it), os.path.join(self.room, it))
+                copy(os.path.join(TOP, it), os.path.join(self.room, it))
         write(os.path.join(self.room, ".gitignore"), text_of(".gitignore"))
         self.ran("git", "init", "--quiet")
         self.commit()

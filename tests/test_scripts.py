@@ -16,7 +16,7 @@ from typing import Any, TypeVar
 import harness
 import package
 from harness import Content, Message, TOP, examples, frames, holds, is_running, need_program, published, same, test, text_of, want
-from homes import as_another, write
+from homes import as_another, copy, write
 from snippets import fenced
 
 T = TypeVar("T")
@@ -164,7 +164,7 @@ def failed_write() -> None:
             at = os.path.join(work, "..", "bin", name)
             source = os.path.realpath(at)
             os.unlink(at)
-            shutil.copy(source, at)
+            copy(source, at)
         os.chmod(os.path.dirname(work), 0o755)
         os.chmod(work, 0o555)
         found = ran([*as_another(), "ob0-format", "loose.ob0"], work, own)
@@ -240,7 +240,7 @@ def format_others() -> None:
 
     def trial(work: str, own: dict[str, str]) -> None:
         room = os.path.dirname(work)
-        shutil.copy(FORMAT, os.path.join(room, "ob0-format"))
+        copy(FORMAT, os.path.join(room, "ob0-format"))
         write(os.path.join(room, "ob0"), server_with([{"range": harness.extent("0:7-0:7"), "newText": " "}]))
         for name, mode in (("", 0o755), ("ob0", 0o755), ("work", 0o777), ("work/good.mod", 0o666)):
             os.chmod(os.path.join(room, name), mode)

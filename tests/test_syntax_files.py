@@ -16,7 +16,7 @@ import package
 import snippets
 from common import match_of
 from harness import TOP, examples, holds, need_program, same, test, text_of, want
-from homes import at_home, run_in_terminal, run_plainly, temporary, write
+from homes import at_home, copy, run_in_terminal, run_plainly, temporary, write
 from screen import Screen
 
 PREDECLARED = {"INTEGER", "BOOLEAN", "TRUE", "FALSE", "Read", "Write", "WriteLn"}
@@ -392,7 +392,7 @@ def managed(words: list[str], name: str, folders: list[str], lines: list[str], s
         kept = {key: value for key, value in os.environ.items() if not key.startswith("XDG_")}
         own, report = {**kept, "HOME": room, "TERM": "xterm"}, os.path.join(room, "report")
         for it in folders:
-            shutil.copytree(os.path.join(TOP, "editors", it), os.path.join(room, "ob0", "editors", it))
+            copy(os.path.join(TOP, "editors", it), os.path.join(room, "ob0", "editors", it))
         same(run_plainly(["sh", "-e", "-c", shell], own, room), (0, ""), shell)
         write(os.path.join(room, "rc.vim"), "\n".join(["set nocompatible", *lines, "filetype plugin indent on", "syntax on", ""]))
         write(os.path.join(room, "new.mod"), SAMPLE)
@@ -447,7 +447,7 @@ def managed_in_emacs() -> None:
     (file,) = re.findall(r"`M-x package-install-file RET (\S+) RET`", text_of("editors", "emacs", "README.md"))
     with temporary() as room:
         own = {**os.environ, "HOME": room, "LC_ALL": "C.UTF-8"}
-        shutil.copytree(os.path.join(TOP, "editors", "emacs"), os.path.join(room, "ob0", "editors", "emacs"))
+        copy(os.path.join(TOP, "editors", "emacs"), os.path.join(room, "ob0", "editors", "emacs"))
         write(os.path.join(room, "new.mod"), SAMPLE)
         write(os.path.join(room, "init.el"), lines)
         words = ["emacs", "--batch", "--eval", "(progn (require 'package) (package-initialize))"]

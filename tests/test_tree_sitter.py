@@ -5,13 +5,12 @@ import functools
 import json
 import os
 import re
-import shutil
 from typing import Any
 
 import random_texts
 from common import match_of
 from harness import TOP, Server, did_open, examples, holds, need_program, same, test, text_of, want
-from homes import at_home, run_plainly, temporary, write
+from homes import at_home, copy, run_plainly, temporary, write
 from snippets import fenced
 
 FOLDER = os.path.join(TOP, "editors", "tree-sitter")
@@ -189,7 +188,7 @@ def installed() -> None:
 def generated() -> None:
     want("tree-sitter 0.22")  # (tree-sitter-cli of Debian 13)
     with temporary() as room:
-        shutil.copy(os.path.join(FOLDER, "grammar.js"), room)
+        copy(os.path.join(FOLDER, "grammar.js"), room)
         status, said = run_plainly(["tree-sitter", "generate", "--no-bindings"], {**os.environ, "HOME": room}, room)
         same(status, 0, said)
         for it in ("parser.c", "grammar.json", "node-types.json"):

@@ -16,7 +16,7 @@ import common
 import harness
 import package
 from harness import TOP, holds, same, test, text_of
-from homes import temporary, write
+from homes import copy, temporary, write
 
 # Each of these notes the words that it is called with in the file `called`, and then says what a file has.
 RT = """#!/bin/sh
@@ -24,7 +24,8 @@ echo "rt $*" >> '{room}/called'
 case $1 in
   version) echo 'a kit' ;;
   help) echo "flags: $FLAGS" ;;
-  ci) cat '{room}/ci'
+  ci) umask >> '{room}/seen'; env | grep ^GIT_ >> '{room}/seen'
+      cat '{room}/ci'
       if [ "$PROGRAM" ]; then mkdir -p '{room}/crates/ob0/out'; echo "$PROGRAM" > '{room}/crates/ob0/out/ob0'; fi
       exit "$STATUS" ;;
 esac
@@ -58,8 +59,8 @@ def try_some(libraries: Libraries) -> Any:
 
 
 class Whole(NamedTuple):
-    """A run of tools/test.py: its status, its last line, all that it printed, what it called, and the lines of bin/results and of the
-    stamp."""
+    """A run of tools/test.py: its status, its last line, all that it printed, what it called, the lines of bin/results and of the
+    stamp, and the umask and the variables of git that `rt ci` had."""
 
     status: int
     last: str
@@ -68,6 +69,7 @@ class Whole(NamedTuple):
     results: List[str]
     stamp: str
     stamp_before: str
+    seen: str
 
 
 def whole(
@@ -76,7 +78,7 @@ def whole(
 ) -> Whole:  # fmt: skip
     """Runs tools/test.py where `rt ci` and the two parts of the tests end with these lines."""
     with temporary() as room:
-        shutil.copytree(os.path.join(TOP, "tools"), os.path.join(room, "tools"), ignore=shutil.ignore_patterns("__pycache__"))
+        copy(os.path.join(TOP, "tools"), os.path.join(room, "tools"))
         files = {"tools/mutants.py": MUTANTS.format(others=others, tried=tried), "tools/notices.py": "def keep() -> None:\n    pass\n", "tools/editors.py": "TOOLS = REQUIRED = {}\n"}
         files.update({"ci": f"rt: ob0_low proved\n{ci}\n", "--first": first, "--rest": rest, "called": ""})
         files.update({"tests/run.py": TESTS.format(room=room, variables=VARIABLES)})
@@ -91,10 +93,10 @@ def whole(
         ran = subprocess.run(words, stdout=subprocess.PIPE, stderr=subprocess.STDOUT, env=own, check=False)
         said = ran.stdout.decode()
         lines: Dict[str, str] = {}
-        for it in ("called", "bin/results", "bin/ob0.stamp", "stamp"):
+        for it in ("called", "bin/results", "bin/ob0.stamp", "stamp", "seen"):
             lines[it] = text_of(room, it) if os.path.exists(os.path.join(room, it)) else ""
         called, results = lines["called"].splitlines(), lines["bin/results"].splitlines()
-        return Whole(ran.returncode, said.rstrip("\n").rpartition("\n")[2], said, called, results, lines["bin/ob0.stamp"], lines["stamp"])
+        return Whole(ran.returncode, said.rstrip("\n").rpartition("\n")[2], said, called, results, lines["bin/ob0.stamp"], lines["stamp"], lines["seen"])
 
 
 @test("whole: what passes is counted over all parts, in order, and the stamp has the last line once all have ended")
@@ -161,6 +163,13 @@ def no_choice() -> None:
     same([it.splitlines()[-1].strip() for it in runs], ["python3 tools/test.py"] * 2, "what is run")
 
 
+@test("whole: `rt ci` runs under umask 022 and without the variables of git, whatever the shell has")
+def settled() -> None:
+    os.umask(0o077)
+    with mock.patch.dict(os.environ, {"GIT_DIR": "/of/another", "GIT_INDEX_FILE": "/of/another/index"}):
+        same(whole().seen, "0022\n", "the umask, and the variables of git")
+
+
 @test("whole: the least numbers of tests are near those of the present ones")
 def least() -> None:
     spec = importlib.util.spec_from_file_location("whole", os.path.join(TOP, "tools", "test.py"))
@@ -203,7 +212,7 @@ def verdict() -> None:
                 write(os.path.join(room, "path", name), text.format(room=room, status=status))
                 os.chmod(os.path.join(room, "path", name), 0o755)
             os.mkdir(os.path.join(room, ".ci"))
-            shutil.copy(os.path.join(TOP, ".ci", "run"), os.path.join(room, ".ci"))
+            copy(os.path.join(TOP, ".ci", "run"), os.path.join(room, ".ci"))
             own = {**os.environ, "PATH": os.path.join(room, "path") + os.pathsep + os.environ["PATH"]}
             ran = subprocess.run([os.path.join(room, ".ci", "run")], stdout=subprocess.PIPE, stderr=subprocess.STDOUT, env=own, check=False)
             last = ran.stdout.decode().rstrip("\n").rpartition("\n")[2]

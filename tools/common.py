@@ -28,6 +28,14 @@ def stop(why: str, status: int = 2) -> NoReturn:
     sys.exit(status)
 
 
+def settle() -> None:
+    """Makes what is started from here independent of the user's shell: everybody can read the files that it makes, and git
+    finds the repository by the folder. (In a hook and in `git rebase -x` the variables of git can name another one.)"""
+    os.umask(0o022)
+    for name in [it for it in os.environ if it.startswith("GIT_")]:
+        del os.environ[name]
+
+
 def need(command: str) -> str:
     """The path of a command, or the end of the script, which says what is missing."""
     found = shutil.which(command)

@@ -562,6 +562,7 @@ def room_of(prefix: str, root: str) -> str:
 
 def main(words: list[str]) -> None:
     command, *places = words
+    common.settle()
     try:
         if command == "notes":
             return notes()

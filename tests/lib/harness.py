@@ -4,6 +4,7 @@ from __future__ import annotations
 
 import array
 import fcntl
+import functools
 import glob
 import json
 import os
@@ -463,6 +464,22 @@ def text_of(*path: str) -> str:
     """A file of the repository."""
     with open(os.path.join(TOP, *path), encoding="utf-8") as file:
         return file.read()
+
+
+BUILT = {".git", "bin", "out", "node_modules", "__pycache__"}  # folders with files that are made from others
+
+
+@functools.lru_cache(None)
+def tracked() -> tuple[str, ...]:
+    """The paths of the repository's files: those that git knows, or in an archive of the sources all that aren't built."""
+    if os.path.exists(os.path.join(TOP, ".git")):
+        found = subprocess.run(["git", "ls-files", "-z"], cwd=TOP, stdout=subprocess.PIPE, check=True).stdout
+        return tuple(it for it in os.fsdecode(found).split("\0") if it and os.path.isfile(os.path.join(TOP, it)))
+    paths = []
+    for at, folders, files in os.walk(TOP):
+        folders[:] = [it for it in folders if it not in BUILT]
+        paths += [os.path.relpath(os.path.join(at, it), TOP) for it in files]
+    return tuple(paths)
 
 
 def examples() -> list[str]:

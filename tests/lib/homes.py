@@ -5,6 +5,7 @@ import contextlib
 import os
 import shutil
 import signal
+import stat
 import subprocess
 import sys
 import tempfile
@@ -54,6 +55,24 @@ def write(path: str, text: str) -> None:
     os.makedirs(os.path.dirname(path), exist_ok=True)
     with open(path, "w", encoding="utf-8", newline="") as file:
         file.write(text)
+
+
+def copy(source: str, target: str, *ignored: str) -> None:
+    """Copies a file, or a folder without the names that these patterns match. Everybody can read the copy, whatever the modes
+    of the source are: a clone that was made under umask 077 has other modes."""
+    if os.path.isdir(source):
+        shutil.copytree(source, target, ignore=shutil.ignore_patterns("__pycache__", *ignored), dirs_exist_ok=True)
+    else:
+        target = shutil.copy(source, target)
+    open_up(target)
+
+
+def open_up(path: str) -> None:
+    """Sets the modes of a file, or of a folder and everything in it, to those of a clone under umask 022."""
+    for at in [path, *(os.path.join(at, it) for at, folders, files in os.walk(path) for it in folders + files)]:
+        mode = os.lstat(at).st_mode
+        if not stat.S_ISLNK(mode):
+            os.chmod(at, 0o755 if stat.S_ISDIR(mode) or mode & 0o100 else 0o644)
 
 
 def as_another() -> list[str]:
