@@ -66,6 +66,24 @@ def refused_by_answer() -> None:
     same(judged(error + "record `View` has no field `len_utf16`\n" + end), mutants.ELSEWHERE, "a name that is gone")
 
 
+# An answer that names a goal which the edit takes away: the prover breaks its message off before it says so.
+GONE = """./proofs/{at}/Answers.antt:25:23: error: `{goal}`: `goal.{goal}`: module
+  `Rattle.{crate}.proofs.{at}`
+  has no `{goal}` that can be named from here
+"""
+
+
+@test("mutants: a name that is gone is found in the whole message, however the prover breaks it into lines")
+def gone_in_later_line() -> None:
+    end = "fn ob0_text::passes::character_width: not proved\nonly=1 proved=0\n"
+    said = GONE.format(at="passes/character_width", goal="returns-in-Utf16", crate="ob0_text") + end
+    same(judged(said), mutants.ELSEWHERE, "a goal that is gone")
+    same(judged(said.replace("module\n  ", "module ")), mutants.ELSEWHERE, "in two lines")
+    other = "./proofs/passes/character_width/Answers.antt:9:3: error: `returns-in-Utf16`: the two types differ\n"
+    same(judged(said.replace(end, other + end)), mutants.REFUSED, "an answer that fails beside it")
+    same(checks.messages_of("a\n  b\nc\n\n d\n"), ["a b", "c", "", " d", ""], "messages")
+
+
 @test("mutants: the proof of methods that call each other is below their type")
 def proof_of_cycle() -> None:
     errors = [f"./proofs/{at}/+blocks/Answers.antt:9:3: error: `block-returns`: a type" for at in ("low/Visit", "low", "other/Visit")]

@@ -60,6 +60,8 @@ def by_something_else() -> None:
     for said in (
         BY_ANSWER.replace("clause-taken", "clause-memory"),
         BY_ANSWER.replace("Framer/feed", "Framer/next"),
+        # (the kit prints the first line of a message: that the module has no such name is in the next one)
+        BY_ANSWER.partition(": as printed")[0] + ": `goal.returns-in-Bad-stage-clause-taken`: module `Rattle.ob0_frame.proofs.framer.",
         BY_ANSWER.replace("`: as printed, the two types first differ where one has `(Rattle.ob0_fr", ""),
         "refused, as it must be (only because a proof file names what the edit took away, so this says little of the contract): x",
         "refused, as it must be",
