@@ -103,11 +103,12 @@ def mark(*words: str) -> tuple[int, str]:
     return run_plainly(["python3", "-B", script, "--program", program, *LONGEST, *words], dict(os.environ), TOP)
 
 
-def marked(exercise: str, text: str, *words: str) -> tuple[int, str]:
+def marked(exercise: str, text: str, *words: str, encoding: str = "utf-8") -> tuple[int, str]:
     """What is said of one module, and the status."""
     with tempfile.TemporaryDirectory() as room:
         file = os.path.join(room, f"{exercise}.mod")
-        write(file, text)
+        with open(file, "wb") as it:
+            it.write(text.encode(encoding))
         status, said = mark(*words, file)
         return status, said.partition("\n")[2].strip()
 
@@ -237,6 +238,25 @@ def unmarked() -> None:
     same(sorted(lines[2:-1]), sorted(f"  {it} {why}" for it, why in UNMARKED.items()), "the lines of what isn't marked")
 
 
+@test("exercises: a link in a folder isn't marked, but a path may be a link")
+def linked() -> None:
+    script = os.path.join(TOP, FOLDER, "mark.py")
+    need_program()
+    with temporary() as room:
+        write(os.path.join(room, "anna", "Clock.mod"), answer("Clock"))
+        for name, target in {"bob/Clock.mod": "../anna/Clock.mod", "bob/Leap.mod": os.path.join(TOP, "tests", "answers", "Leap.mod")}.items():
+            os.makedirs(os.path.join(room, "bob"), exist_ok=True)
+            os.symlink(target, os.path.join(room, name))
+        for it in ("Power.mod", "more"):
+            os.symlink("nowhere", os.path.join(room, "bob", it))
+        os.symlink("anna", os.path.join(room, "carla"))
+        words = ["python3", "-B", script, "--program", os.path.abspath(harness.BINARY), "bob", "carla", "bob/Clock.mod"]
+        status, said = run_plainly(words, dict(os.environ), room)
+    links = [f"  {it} is not marked: it is a link" for it in ("Clock.mod", "Leap.mod", "Power.mod", "more")]
+    same((status, said.splitlines()[:5]), (1, ["bob:", *links]), said)
+    holds("carla:\n  Clock.mod   right\n" in said and "bob/Clock.mod:\n  Clock.mod   right\n" in said, said)
+
+
 @test("exercises: several folders have a last line, and the status is 0 only if each has something to mark and all of it is right")
 def folders() -> None:
     right_one, wrong_one = answer("Clock"), answer("Clock").replace("DIV", "MOD", 1)
@@ -273,6 +293,7 @@ def told_apart() -> None:
 def explained() -> None:
     said = "Clock.mod   wrong: line 1, column 1: save it without a byte order mark"
     same(marked("Clock", "\ufeff" + answer("Clock")), (1, said))
+    same(marked("Clock", answer("Clock"), encoding="utf-16"), (1, "Clock.mod   wrong: it isn't UTF-8: save it as UTF-8"))
     arrays = ", ".join(f"a{it}" for it in range(150))
     large = f"MODULE Clock; TYPE T = ARRAY 65536 OF INTEGER; PROCEDURE P; VAR {arrays}: T; BEGIN P END P; BEGIN P END Clock."
     said = "the run ends with Memory: it takes too much memory: does each loop and each recursion end? Is an array too large?"
@@ -297,13 +318,15 @@ def any_names() -> None:
     with temporary() as room:
         for name in ("a", "n\udce4me", "two\nlines", "z"):
             write(os.path.join(room, name, "Clock.mod"), answer("Clock"))
-        write(os.path.join(room, "a", "Ger\udce4t.txt"), "")
+        for name in ("Ger\udce4t.txt", "\x9b1m.txt", "\u202etxt.dom"):
+            write(os.path.join(room, "a", name), "")
         for more in LOCALES:
             status, out, err = marking(room, ["a", "n\udce4me", "two\nlines", "z"], **more)
             lines = out.split(b"\n")
             same((status, err, out.count(b"  Clock.mod   right\n")), (0, b"", 4), f"with {more}: {out!r}")
-            same(lines[2], b"  Ger\xe4t.txt is not marked: it isn't named like an exercise", "a name that isn't UTF-8")
-            same(lines[-2], b"a 1, n\xe4me 1, two\\x0alines 1, z 1", "the last line")
+            named = [it.partition(b" is not marked: ")[0].strip() for it in lines[2:5]]
+            same(sorted(named), [b"Ger\xe4t.txt", b"\\u202etxt.dom", b"\\x9b1m.txt"], "names that aren't UTF-8 or that change what a terminal shows")
+            same(lines[-2], b"a 1, n\xe4me 1, two\\nlines 1, z 1", "the last line")
 
 
 @test("exercises: a folder or a file that can't be read is said, and the others are marked")
@@ -428,19 +451,24 @@ def seconds() -> None:
 
 @test("exercises: a table has a row for each path and a column for each exercise, and no cell is a formula or breaks a row")
 def table() -> None:
-    wrong_one, names = answer("Clock").replace("DIV", "MOD", 1), ["anna", "=1+1", "two\nlines", "n\udce4me, \"x\""]
+    wrong_one, names = answer("Clock").replace("DIV", "MOD", 1), ["anna", "=1+1", "two\nlines", "n\udce4me, \"x\"", "\uff1d1+1"]
     with temporary() as room:
         for name in names:
             write(os.path.join(room, name, "Clock.mod"), wrong_one if name == "anna" else answer("Clock"))
         write(os.path.join(room, "anna", "Leap.mod"), answer("Leap"))
-        write(os.path.join(room, "anna", "more.txt"), "")
+        write(os.path.join(room, "anna", "a;=1+2;b"), "")
         status, out, err = marking(room, ["--table", *names, "nosuch"], **LOCALES[-1])
     rows = list(csv.reader(io.StringIO(out.decode(), newline="")))
     same((status, err, rows[0]), (1, b"", ["name", "right", *NAMES, "others"]), "the head")
-    same([it[:2] for it in rows[1:]], [["anna", "1"], ["'=1+1", "1"], ["two\nlines", "1"], ['n\\xe4me, "x"', "1"], ["nosuch", "0"]], "the rows")
+    shown = ["anna", "'=1+1", "two\\nlines", 'n\\xe4me, "x"', "'\uff1d1+1"]
+    same([it[:2] for it in rows[1:]], [*([it, "1"] for it in shown), ["nosuch", "0"]], "the rows")
     same({len(it) for it in rows}, {15}, "the number of cells")
     same(rows[1][2:5], ["wrong: for the input 3661: line 1 should be 1 1 1, and is 61 1 1", "right", ""], "the marks of one")
-    same([it[-1] for it in rows[1:3] + rows[5:]], ["more.txt is not marked: it isn't named like an exercise", "", "there is no nosuch"], "the rest")
+    same([it[-1] for it in rows[1:3] + rows[6:]], ["a\\x3b=1+2\\x3bb is not marked: it isn't named like an exercise", "", "there is no nosuch"], "the rest")
+    holds(out.startswith(b'"name","right","Clock",'), "each cell is in quotes")
+    # (a spreadsheet may take `;` for the end of a cell)
+    cells = [it for row in csv.reader(io.StringIO(out.decode(), newline=""), delimiter=";") for it in row]
+    same([it for it in cells if it.startswith(("=", "+", "-", "@"))], [], "cells that are formulas if `;` separates them")
 
 
 @test("exercises: a teacher's own inputs are those of another folder, whose files are the exercises")
@@ -453,7 +481,7 @@ def own_inputs() -> None:
         write(os.path.join(room, "anna", "Double.mod"), "MODULE D; VAR y: INTEGER; BEGIN Read(y); Write(2 * y) END D.")
         write(os.path.join(room, "anna", "Clock.mod"), "")
         wanted = ["anna:", "  Leap.mod    wrong: for the input 2028: line 1 should be 1, and is 0", "  Double.mod  right"]
-        wanted += ["  Clock.mod is not marked: it isn't named like an exercise", "  1 of 2 right", ""]
+        wanted += ["  Clock.mod is not marked: the inputs have no Clock.txt", "  1 of 2 right", ""]
         same(marking(room, ["--inputs", "own", "anna"]), (1, "\n".join(wanted).encode(), b""), "own inputs")
         for text, said in (
             ("3 4\n", "own/Leap.txt: a case is a line `in: 1 2` and then lines `out: 3`, and not 3 4"),

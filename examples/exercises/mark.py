@@ -26,6 +26,7 @@ from typing import IO, Any, Dict, Iterator, List, NamedTuple, NoReturn, Optional
 HERE = os.path.dirname(os.path.abspath(__file__))
 ENDINGS = (".mod", ".Mod", ".ob0")
 WHERE = " (docs/MESSAGES.md says what that means)"
+UNCHECKED = {"fault: Utf8": "it isn't UTF-8: save it as UTF-8", "fault: File": "it can't be read"}
 MOST_PRINTED = 1 << 20  # bytes
 MOST_MEMORY = 2 << 30  # bytes
 CAUSES = {
@@ -40,7 +41,7 @@ CAUSES = {
 }
 
 STOPPING = (signal.SIGINT, signal.SIGTERM, signal.SIGHUP)
-FORMULA = ("=", "+", "-", "@", "\t", "\r")  # what a spreadsheet takes as the start of a formula
+FORMULA = tuple("=+-@\uff1d\uff0b\uff0d\uff20")  # the signs (also in full width) that begin a formula in a spreadsheet
 
 Lines = List[List[str]]
 
@@ -119,8 +120,11 @@ def say(line: Union[str, bytes], stream: Optional[TextIO] = sys.stdout) -> None:
 
 
 def on_a_line(name: str) -> str:
-    """Returns a name with a number for each control character, so that it is a part of one line."""
-    return re.sub(r"[\x00-\x1f\x7f]", lambda it: f"\\x{ord(it[0]):02x}", name)
+    """Returns a name with a number for each character that isn't shown as it is, such as a line end or a control of the terminal, so that
+    it is a part of one line. Its bytes that aren't UTF-8 are unchanged."""
+    letters = os.fsencode(name).decode("utf-8", "surrogateescape")
+    shown = (it if it.isprintable() or "\udc80" <= it <= "\udcff" else it.encode("unicode_escape").decode() for it in letters)
+    return os.fsdecode("".join(shown).encode("utf-8", "surrogateescape"))
 
 
 def numbers_of(lines: List[str]) -> Lines:
@@ -227,7 +231,7 @@ def fault_of(marking: Marking, file: str) -> Optional[str]:
         return None
     place = re.match(r"(\d+):(\d+): (?:Syntax: )?(.*)", found.out)
     if place is None:
-        return f"it can't be checked: {found.err.strip()}{WHERE}"
+        return UNCHECKED.get(found.err.strip(), f"it can't be checked: {found.err.strip()}{WHERE}")
     line, column = int(place[1]) + 1, int(place[2]) + 1
     cause = "save it without a byte order mark" if begins_with_mark(file) else place[3] + WHERE
     return f"line {line}, column {column}: {cause}"
@@ -285,7 +289,9 @@ def modules_in(marking: Marking, path: str) -> List[str]:
     """Returns the modules of a folder that are named like exercises, in the order of the exercises; or the one module."""
     if not os.path.isdir(path):
         return [path]
-    return [it for name in marking.cases for it in (os.path.join(path, name + ending) for ending in ENDINGS) if os.path.isfile(it)]
+    found = [os.path.join(path, name + ending) for name in marking.cases for ending in ENDINGS]
+    # (a link could lead to another's answer)
+    return [it for it in found if os.path.isfile(it) and not os.path.islink(it)]
 
 
 def unmarked(marking: Marking, path: str) -> Iterator[str]:
@@ -299,8 +305,12 @@ def why_unmarked(marking: Marking, path: str) -> str:
     """Why an entry of a folder isn't marked."""
     stem, ending = os.path.splitext(os.path.basename(path))
     meant = next((it for it in marking.cases if it.lower() == stem.lower()), None)
+    if os.path.islink(path):
+        return "it is a link"
     if not os.path.isfile(path):
         return "it is a folder" if os.path.isdir(path) else "it isn't a file"
+    if stem not in marking.cases and ending in ENDINGS and os.path.isfile(os.path.join(HERE, f"{stem}.txt")):
+        return f"the inputs have no {stem}.txt"
     if meant and ending.lower() in ENDINGS:
         return f"is it {meant}{ending if ending in ENDINGS else ending.lower()}? Upper and lower case differ"
     return "it isn't named like an exercise"
@@ -344,20 +354,21 @@ def mark(marking: Marking, path: str, is_said: bool) -> Result:
 
 
 def plain(text: str) -> str:
-    """Returns a text for a cell of a table: in UTF-8, and no formula."""
-    shown = os.fsencode(text).decode(errors="backslashreplace")
+    """Returns a text for a cell of a table: in UTF-8, on a line, and no formula, also if a spreadsheet takes `;` for the end of a cell."""
+    shown = os.fsencode(on_a_line(text)).decode(errors="backslashreplace").replace(";", "\\x3b")
     return "'" + shown if shown.startswith(FORMULA) else shown
 
 
 def row_of(marking: Marking, result: Result) -> bytes:
     """Returns a line of a table in CSV: a path's name, how many exercises are right, a cell for each exercise, and the rest."""
-    cells = ["; ".join(it.said() for it in result.modules if it.exercise == exercise) for exercise in marking.cases]
-    return csv_line([name_of(result.path), str(sum(result.exercises().values())), *cells, "; ".join(result.others)])
+    cells = [" / ".join(it.said() for it in result.modules if it.exercise == exercise) for exercise in marking.cases]
+    return csv_line([name_of(result.path), str(sum(result.exercises().values())), *cells, " / ".join(result.others)])
 
 
 def csv_line(cells: List[str]) -> bytes:
+    """Returns a line of a table, with each cell in quotes."""
     file = io.StringIO()
-    csv.writer(file).writerow([plain(it) for it in cells])
+    csv.writer(file, quoting=csv.QUOTE_ALL).writerow([plain(it) for it in cells])
     return file.getvalue().encode()[:-1]
 
 
