@@ -64,7 +64,7 @@ _ob0_watch() {
         return # (the report's file is completed as usual)
     elif ((COMP_CWORD == first)) && [[ $word == -* ]]; then
         local options="--"
-        ((first == 1)) && options="-- --report -h --help"
+        ((first == 1)) && options="-- --report -h --help -V --version"
         mapfile -t COMPREPLY < <(compgen -W "$options" -- "$word")
     elif ((COMP_CWORD > first)) && [[ ${COMP_WORDS[first]} == -- ]]; then
         # (the words of another server are completed as usual)

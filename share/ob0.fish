@@ -76,3 +76,4 @@ complete -c ob0-watch -n 'test (count (__ob0_watch_words)) = 0' -a -- -d 'Run an
 complete -c ob0-watch -n 'test (count (__ob0_watch_words)) != 0' -a '(__ob0_watch_rest)'
 complete -c ob0-watch -n __ob0_watch_begins -l report -r -F -d 'Write the report to a file'
 complete -c ob0-watch -n __ob0_watch_begins -s h -l help -d 'Print help'
+complete -c ob0-watch -n __ob0_watch_begins -s V -l version -d 'Print the version'

@@ -30,6 +30,7 @@ PLACES = [
     ("share/ob0-format.1", r'^\.TH OB0-FORMAT 1 \S+ "ob0 (\S+)"'),
     ("share/ob0-watch.1", r'^\.TH OB0-WATCH 1 \S+ "ob0 (\S+)"'),
     ("share/ob0-format", r'^VERSION = "(\S+)"'),
+    ("share/ob0-watch", r'^VERSION = "(\S+)"'),
     ("CHANGELOG.md", r"^## (\S+),"),
     ("editors/emacs/ob0-mode.el", r"^;; Version: (\S+)"),
     ("editors/vscode/package.json", r'^  "version": "([^"]+)"'),

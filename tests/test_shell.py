@@ -36,7 +36,7 @@ OFFERED = [
     ("ob0-format --check a.ob0 ", MODULES),
     ("ob0-format --", ["--check", "--help", "--version"]),
     ("ob0-watch ", [*COMMANDS, "help"]),
-    ("ob0-watch --", ["--", "--help", "--report"]),
+    ("ob0-watch --", ["--", "--help", "--report", "--version"]),
     ("ob0-watch --report ", FILES),
     ("ob0-watch --report d.txt r", ["rename", "run"]),
     ("ob0-watch --report d.txt run ", MODULES),

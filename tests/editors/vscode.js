@@ -127,10 +127,20 @@ const inline = async (document) => {
 };
 const ASKED = { rename: ["textDocument/rename", rename], layout: ["textDocument/formatting", layOut], inlining: ["textDocument/codeAction", inline] };
 
+// Writes a file as a slow disk does: it is empty for some milliseconds, which differ from one time to the next.
+const PAUSES = [1, 3, 10];
+let written = 0;
+async function rewrite(name, text) {
+  const file = fs.openSync(name, "w");
+  await new Promise((settle) => setTimeout(settle, PAUSES[written++ % PAUSES.length]));
+  fs.writeSync(file, text);
+  fs.closeSync(file);
+}
+
 const typed = async (document) => (user.type(document, 1, 0, "(* new *)\n"), document);
 const reopened = async (document) => {
   user.close(document);
-  fs.writeFileSync(document.fileName, TEXT.replace("\n", "\n(* new *)\n"));
+  await rewrite(document.fileName, TEXT.replace("\n", "\n(* new *)\n"));
   return user.open(document.fileName);
 };
 const WHEN = { "first version": [true, typed], "later version": [false, typed], "reopened": [true, reopened] };
