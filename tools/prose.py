@@ -20,7 +20,7 @@ from typing import NamedTuple
 import common
 
 LIST = os.path.join(common.TOP, "tests", "prose.txt")
-PAGES = ["*.md", "docs/**/*.md", "editors/**/*.md", "examples/**/*.md", "share/*.1"]
+PAGES = ["*.md", "docs/**/*.md", "editors/**/*.md", "examples/**/*.md", "share/*.1", "tools/statement.in"]
 GENERATED = ["docs/STATEMENT.md", "docs/SURFACE.md"]
 COMMENTED = ["crates/*/src/**/*.rt", "crates/*/specs/**/*.antt", "crates/*/proofs/**/*.antt"]
 MOST_WORDS = 35
@@ -197,7 +197,7 @@ def risen() -> list[str]:
 def show(paths: list[str]) -> None:
     """Prints each phrase of these files with what is around it, each comment without a verb, and each long sentence."""
     for path in paths:
-        is_page = path.endswith((".md", ".1"))
+        is_page = path.endswith((".md", ".1", ".in"))
         texts = paragraphs_of(path) if is_page else comments_of(path)
         for text in texts:
             for name, found in FOUND_BY.items():
