@@ -1,6 +1,6 @@
 # Completion of ob0, ob0-format and ob0-watch for bash.
 
-# Completes the word at the cursor to the modules and folders that it can become.
+# Completes the word at the cursor to modules and folders.
 _ob0_modules() {
     compopt -o filenames 2>/dev/null
     mapfile -t COMPREPLY < <(compgen -f -X '!*.@(ob0|mod|Mod)' -- "$1"; compgen -d -- "$1")
@@ -16,7 +16,7 @@ _ob0() {
             *) if [[ -z $command ]]; then command=${COMP_WORDS[at]}; else place=$((place + 1)); fi ;;
         esac
     done
-    # (a file after a redirection, and what this function finds nothing for where a file is wanted, are completed as usual)
+    # (a file after a redirection is completed as usual, and so is a file for which this function finds nothing)
     case $before in
         *[\<\>]) return ;;
     esac

@@ -5,7 +5,7 @@ function __ob0_modules
     complete -C "'' "(commandline -ct) | string match -r -- '.*(?:\.ob0|\.mod|\.Mod|/)(?:\t.*)?$'
 end
 
-# Whether the command is one of these and has no file yet.
+# Whether the command is one of these and still needs its file.
 function __ob0_wants_file
     set -l words (commandline -opc)
     set -l plain
@@ -24,7 +24,7 @@ end
 
 complete -c ob0 -f
 complete -c ob0 -n __fish_use_subcommand -a serve -d 'Serve one conversation with an editor over standard input and output'
-complete -c ob0 -n __fish_use_subcommand -a check -d 'Print what is wrong with a module'
+complete -c ob0 -n __fish_use_subcommand -a check -d 'Print the errors of a module'
 complete -c ob0 -n __fish_use_subcommand -a run -d 'Run a module on the numbers of standard input'
 complete -c ob0 -n __fish_use_subcommand -a rename -d 'Print a module with another name for one of its names'
 complete -c ob0 -n __fish_use_subcommand -a help -d 'Print how ob0 or one of its commands is used'
@@ -39,11 +39,11 @@ complete -c ob0 -n __fish_use_subcommand -s V -l version -d 'Print the version'
 
 complete -c ob0-format -f
 complete -c ob0-format -a '(__ob0_modules)'
-complete -c ob0-format -l check -d 'Change nothing, and print the names of the files that are not formatted'
+complete -c ob0-format -l check -d 'Change nothing; list the files that are not formatted'
 complete -c ob0-format -s h -l help -d 'Print help'
 complete -c ob0-format -s V -l version -d 'Print the version'
 
-# The words before the cursor, after ob0-watch and its report.
+# Prints the words before the cursor that follow ob0-watch and its report.
 function __ob0_watch_words
     set -l words (commandline -opc)
     set -e words[1]
@@ -53,13 +53,13 @@ function __ob0_watch_words
     string join \n -- $words
 end
 
-# Whether the command line has no word but the option for a report.
+# Whether the command line contains only the option for a report.
 function __ob0_watch_begins
     set -l words (commandline -opc)
     test (count $words) = 1; or test "$words[2..-1]" = --report
 end
 
-# What ob0, or the server after --, has for the word at the cursor.
+# Completes the word at the cursor as ob0 does, or as the server after -- does.
 function __ob0_watch_rest
     set -l words (__ob0_watch_words)
     if test "$words[1]" = --

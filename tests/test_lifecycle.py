@@ -181,7 +181,7 @@ HELP = {
     "serve": ("012345", ["--stdio", "--clientProcessId <N>", "UTF-16 units"]),
     "check": ("01245", ["<FILE>", "count from 0", "UTF-16", "LINE:COLUMN: CODE: MESSAGE", "/dev/stdin", "`man ob0` lists the CODEs", *PAGES]),
     "run": ("01245", ["<FILE>", "--calls <N>", "--turns <N>", "0 to 64", "0 to 100000", "to the end of standard input", "Ctrl-D", "-2147483648", "fault: END", "--turns 5"]),
-    "rename": ("01245", ["<FILE> <LINE> <COLUMN> <NAME>", "count from 0", "in UTF-16 units", "refused: REASON", "look at the status", "`man ob0` lists the REASONs", *PAGES]),
+    "rename": ("01245", ["<FILE> <LINE> <COLUMN> <NAME>", "count from 0", "in UTF-16 units", "refused: REASON", "check the status", "`man ob0` lists the REASONs", *PAGES]),
 }
 
 

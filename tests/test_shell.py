@@ -177,16 +177,6 @@ def first_module() -> None:
         same(run_plainly(["sh", "-e", "-c", "\n".join(lines)], own, work), (0, printed + "\n"), "what they print")
 
 
-@test("shell: the links between pages lead somewhere")
-def links() -> None:
-    pages = [it for at, _, files in os.walk(TOP) for it in (os.path.relpath(os.path.join(at, name), TOP) for name in files)]
-    pages = [it for it in pages if it.endswith(".md") and not it.startswith(("bin", ".git"))]
-    for page in pages:
-        for target in re.findall(r"\]\(([^)#:]+)(?:#[^)]*)?\)", text_of(page)):
-            path = os.path.join(TOP, os.path.dirname(page), target)
-            holds(os.path.exists(path), f"{page} has a link to {target}")
-
-
 @test("shell: `make` alone says what there is to make")
 def alone() -> None:
     lines = [re.sub("^# ?", "", it) for it in text_of("Makefile").partition("\nPREFIX")[0].splitlines()]

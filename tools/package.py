@@ -398,15 +398,15 @@ Suggests: bash-completion, neovim | vim-ale | elpa-eglot | kate, kakoune
 Section: devel
 Priority: optional
 Description: language server, checker and interpreter for Oberon-0
- ob0 reports what is wrong with modules of Oberon-0, the small language of
- Niklaus Wirth's Compiler Construction, and runs them. For editors that speak
- the Language Server Protocol it answers hover, definition and references,
- and its renames, inlining of constants and layout keep what a module does.
+ ob0 reports the errors of modules in Oberon-0, the small language of Niklaus
+ Wirth's Compiler Construction, and runs valid modules. For editors that speak
+ the Language Server Protocol it answers hover, definition and references.
+ Its edits (rename, inlining a constant, formatting) keep what a module does.
  .
  The package has files for Neovim, Vim, Emacs, Kate, Kakoune, nano and editors
  with GtkSourceView, completions for bash, zsh and fish, and two scripts:
- ob0-format lays files out by what the server answers, and ob0-watch reports
- whether an editor keeps the rules under which ob0's promises hold.
+ ob0-format formats files, and ob0-watch reports whether an editor keeps the
+ rules under which ob0's promises hold.
 """.encode()
 
 
