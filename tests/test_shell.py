@@ -9,7 +9,7 @@ from collections.abc import Callable
 from typing import TypeVar
 
 from common import match_of
-from harness import TOP, holds, need_program, run, same, test, text_of, want, want_proved
+from harness import TOP, holds, need_program, run, same, test, text_of, tracked, want, want_proved
 from homes import at_home, run_plainly, temporary, write
 from screen import Screen
 from snippets import fenced
@@ -179,9 +179,7 @@ def first_module() -> None:
 
 @test("shell: the links between pages lead somewhere")
 def links() -> None:
-    pages = [it for at, _, files in os.walk(TOP) for it in (os.path.relpath(os.path.join(at, name), TOP) for name in files)]
-    pages = [it for it in pages if it.endswith(".md") and not it.startswith(("bin", ".git"))]
-    for page in pages:
+    for page in (it for it in tracked() if it.endswith(".md")):
         for target in re.findall(r"\]\(([^)#:]+)(?:#[^)]*)?\)", text_of(page)):
             path = os.path.join(TOP, os.path.dirname(page), target)
             holds(os.path.exists(path), f"{page} has a link to {target}")
