@@ -254,8 +254,11 @@ def chosen_by(words: list[str]) -> list[int]:
 
 def settle() -> None:
     """Gives each test the same surroundings, whatever the user's are. The tests' configuration of git replaces the user's,
-    which may sign commits or refuse the repository of another user."""
+    which may sign commits or refuse the repository of another user. The flags of a `make` that runs tests aren't theirs."""
     common.settle()
+    common.choose_temporary()
+    for name in [it for it in os.environ if it.startswith(("MAKE", "MFLAGS"))]:
+        del os.environ[name]
     os.environ.update(GIT_CONFIG_NOSYSTEM="1", GIT_CONFIG_GLOBAL=os.path.join(HERE, "lib", "gitconfig"))
 
 

@@ -18,7 +18,7 @@ from typing import Any
 
 import harness
 from common import match_of
-from harness import TOP, Server, did_open, holds, is_running, need_program, run, same, test, text_of
+from harness import TOP, Server, did_open, holds, is_running, names_in, need_program, run, same, test, text_of
 from homes import as_another, copy, run_plainly, temporary, write
 
 FOLDER = os.path.join("examples", "exercises")
@@ -117,8 +117,8 @@ def marked(exercise: str, text: str, *words: str, encoding: str = "utf-8") -> tu
 def twelve() -> None:
     same(len(NAMES), 12, "how many")
     wanted = sorted(["README.md", "mark.py", *(f"{it}.txt" for it in NAMES)])
-    same(sorted(it for it in os.listdir(os.path.join(TOP, FOLDER)) if it != "__pycache__"), wanted, "the files")
-    same(sorted(os.listdir(os.path.join(TOP, "tests", "answers"))), sorted(f"{it}.mod" for it in NAMES), "the answers")
+    same(names_in(FOLDER), wanted, "the files")
+    same(names_in("tests", "answers"), sorted(f"{it}.mod" for it in NAMES), "the answers")
     for name, part in zip(NAMES, re.split(r"^## .*$", PAGE, flags=re.M)[1:]):
         example = match_of(r"^```\n(.*?)```$", part, re.M | re.S)[1]
         same(example.strip(), text_of(FOLDER, f"{name}.txt").partition("\n\n")[0], f"the example of {name}")

@@ -7,7 +7,7 @@ import re
 import common
 import prose
 import rooms
-from harness import TOP, holds, same, test, text_of
+from harness import TOP, holds, same, test, text_of, tracked
 
 # pages whose names of messages, ends and methods may stand without backticks on every page
 NAMING = ["docs/LANGUAGE.md", "docs/PROTOCOL.md", "docs/MESSAGES.md"]
@@ -18,8 +18,7 @@ LICENCES = "INSTALL.md#licences"
 
 def pages() -> list[str]:
     """Returns the paths of all pages in Markdown."""
-    found = [os.path.relpath(os.path.join(at, name), TOP) for at, _, files in os.walk(TOP) for name in files]
-    return sorted(it for it in found if it.endswith(".md") and not it.startswith(("bin", ".git")))
+    return sorted(it for it in tracked() if it.endswith(".md"))
 
 
 def without_blocks(page: str) -> str:

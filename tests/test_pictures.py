@@ -4,23 +4,20 @@ from __future__ import annotations
 import glob
 import os
 import re
-import subprocess
 import sys
 import xml.etree.ElementTree
 from collections.abc import Callable
 
 import common
 import harness
+import package
+import plots
+import programs
+import report
 import rooms
 import screens
-from harness import TOP, holds, need_program, same, test, text_of, want
+from harness import TOP, holds, names_in, need_program, same, test, text_of, want
 from homes import run_plainly, temporary
-
-sys.path.append(os.path.join(TOP, "bench"))
-
-import plots  # noqa: E402
-import programs  # noqa: E402
-import report  # noqa: E402
 
 PICTURES = os.path.join("docs", "pictures")
 PERFORMANCE = os.path.join("docs", "PERFORMANCE.md")
@@ -30,7 +27,7 @@ PERFORMANCE = os.path.join("docs", "PERFORMANCE.md")
 def shown() -> None:
     pages = [*glob.glob(os.path.join(TOP, "*.md")), *glob.glob(os.path.join(TOP, "docs", "*.md"))]
     linked = {os.path.normpath(os.path.join(os.path.dirname(page), it)) for page in pages for it in re.findall(r"!\[[^]]+\]\(([^)]+)\)", text_of(page))}
-    found = {os.path.join(TOP, PICTURES, it) for it in os.listdir(os.path.join(TOP, PICTURES))}
+    found = {os.path.join(TOP, PICTURES, it) for it in names_in(PICTURES)}
     same(linked, found, "the pictures of the pages, and those of the folder")
     holds(len(found) >= 3, str(found))
     for path in found:
@@ -117,13 +114,12 @@ def plotted() -> None:
         return
     same([name for name, _ in plots.rows_of(page, plots.RUNS)[1]], list(programs.PROGRAMS), "the programs that were counted")
     ratios_fit(page)
-    for word in ("the commit is `", "the machine: x86-64 Linux", "valgrind: ", "Lua: ", "Python: "):
+    for word in ("- ob0: the proved program;", "the machine: x86-64 Linux", "valgrind: ", "Lua: ", "Python: "):
         holds(word in page, f"the page says nothing of {word}")
-    commit = common.match_of(r"the commit is `(\w{40})`", page)[1]
-    if os.path.exists(os.path.join(TOP, ".git")):
-        # (a clone on the same machine also has commits that no branch leads to)
-        known = subprocess.run(["git", "-c", f"safe.directory={TOP}", "merge-base", "--is-ancestor", commit, "HEAD"], cwd=TOP, check=False, stderr=subprocess.DEVNULL)
-        same(known.returncode, 0, f"whether {commit} is an ancestor of this commit")
+    counted_sources = common.match_of(r"the sum of its sources is `([0-9a-f]{64})`", page)[1]
+    # (a version that is released has its own figures)
+    if package.versions()[0].day:
+        same(counted_sources, common.sum_of(common.sources(common.below("ob0"))), "the sources that were counted")
 
 
 def ratios_fit(page: str) -> None:

@@ -54,7 +54,7 @@ class Repository:
         self.room = os.path.join(room, "repository")
         home = os.path.join(room, "home")
         os.mkdir(home)
-        kept = {key: value for key, value in os.environ.items() if not key.startswith(("GIT_", "BUILD_", "SOURCE_", "DEB", "MAKE"))}
+        kept = {key: value for key, value in os.environ.items() if not key.startswith(("BUILD_", "SOURCE_", "DEB"))}
         names = {"NAME": "x", "EMAIL": "x@example.org"}
         self.own = {**kept, "HOME": home, **{f"GIT_{who}_{it}": value for who in ("AUTHOR", "COMMITTER") for it, value in names.items()}}
         for it in tracked():

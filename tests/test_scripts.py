@@ -37,7 +37,7 @@ def in_folder(files: dict[str, str], function: Callable[[str, dict[str, str]], T
         for name, path in (("ob0", os.path.abspath(harness.BINARY)), ("ob0-format", FORMAT)):
             os.makedirs(os.path.join(room, "bin"), exist_ok=True)
             os.symlink(path, os.path.join(room, "bin", name))
-        kept = {key: value for key, value in os.environ.items() if key != "GITHUB_ACTIONS" and not key.startswith("GIT_")}
+        kept = {key: value for key, value in os.environ.items() if key != "GITHUB_ACTIONS"}
         return function(work, {**kept, "HOME": room, "PATH": os.path.join(room, "bin") + os.pathsep + os.environ["PATH"]})
 
 

@@ -6,7 +6,7 @@ import os
 import re
 from typing import Tuple
 
-from harness import TOP, Server, did_open, holds, same, test, text_of, want
+from harness import TOP, Server, did_open, holds, names_in, same, test, text_of, want
 from homes import at_home, run_plainly, temporary
 
 Snippet = Tuple[str, str, str]  # a key, a description and a body
@@ -33,7 +33,7 @@ def of_vim() -> list[Snippet]:
 
 def of_emacs() -> list[Snippet]:
     folder = os.path.join("editors", "emacs", "snippets", "ob0-mode")
-    same(sorted(os.listdir(os.path.join(TOP, folder))), sorted(NAMES), "the files")
+    same(names_in(folder), sorted(NAMES), "the files")
     found = []
     for name in NAMES:
         head, body = text_of(folder, name).split("# --\n")

@@ -9,7 +9,7 @@ from typing import Any
 
 import random_texts
 from common import match_of
-from harness import TOP, Server, did_open, examples, holds, need_program, same, test, text_of, want
+from harness import TOP, Server, did_open, examples, holds, names_in, need_program, same, test, text_of, want
 from homes import at_home, copy, run_plainly, temporary, write
 from snippets import fenced
 
@@ -74,7 +74,7 @@ def read_by_neovim(texts: tuple[str, ...]) -> Any:
 def correct_texts() -> list[str]:
     """The modules of the examples, of the answers to the exercises, and of the tutorial, but for the one without a tree."""
     answers = os.path.join("tests", "answers")
-    found = [text_of(it) for it in [*examples(), *(os.path.join(answers, it) for it in sorted(os.listdir(os.path.join(TOP, answers))))]]
+    found = [text_of(it) for it in [*examples(), *(os.path.join(answers, it) for it in names_in(answers))]]
     return found + [text for language, text in fenced("docs/TUTORIAL.md") if language == "oberon" and "MODULE Broken" not in text]
 
 

@@ -3,10 +3,12 @@ from __future__ import annotations
 
 import hashlib
 import os
+import pathlib
 import re
 import shutil
 import subprocess
 import sys
+import tempfile
 import time
 from collections.abc import Iterable
 from typing import Any, NoReturn
@@ -14,6 +16,8 @@ from typing import Any, NoReturn
 TOP = os.path.dirname(os.path.dirname(os.path.abspath(__file__)))
 BINARY = os.path.join(TOP, "bin", "ob0")
 STAMP = BINARY + ".stamp"
+
+LONGEST_TEMPORARY = 50  # bytes: a socket in a folder below it has a path of at most 107
 
 HOW_TO_GET = {
     "rt": "it is the command of the Rattle toolchain, with which this repository is proved: install the "
@@ -34,6 +38,36 @@ def settle() -> None:
     os.umask(0o022)
     for name in [it for it in os.environ if it.startswith("GIT_")]:
         del os.environ[name]
+
+
+def unfit(folder: str) -> str:
+    """Why tests can't keep their temporary files in a folder; empty if they can."""
+    if not os.access(folder, os.W_OK | os.X_OK):
+        return "it can't be written"
+    if os.statvfs(folder).f_flag & os.ST_NOEXEC:
+        return "it is mounted noexec"
+    if re.search(r"\s", folder):
+        return "its path has a blank"
+    if len(os.fsencode(folder)) > LONGEST_TEMPORARY:
+        return f"its path has more than {LONGEST_TEMPORARY} bytes"
+    above = [folder, *(str(it) for it in pathlib.PurePath(folder).parents)]
+    closed = next((it for it in above if not os.stat(it).st_mode & 0o001), None)
+    # (only root runs programs there as another user)
+    return f"other users can't enter {closed}" if closed and os.geteuid() == 0 else ""
+
+
+def choose_temporary() -> None:
+    """Chooses the folder for temporary files: the user's, or a system's if tests fail in that; ends the script if no folder fits."""
+    whys: list[str] = []
+    for folder in dict.fromkeys([tempfile.gettempdir(), "/tmp", "/var/tmp"]):
+        why = unfit(folder)
+        if not why:
+            if whys:
+                print(f"temporary files are in {folder}: {'; '.join(whys)}", flush=True)
+            tempfile.tempdir = os.environ["TMPDIR"] = folder
+            return
+        whys.append(f"{folder} isn't used, since {why}")
+    stop(f"no folder for temporary files: {'; '.join(whys)}. Set TMPDIR to one that fits")
 
 
 def need(command: str) -> str:

@@ -59,6 +59,15 @@ def tree_sitter() -> bool:
     return said.decode(errors="replace").startswith("tree-sitter 0.22.")
 
 
+# What root runs to become another user. (What it imports later, the other user may not be able to read.)
+BECOME = "import os, sys, warnings; os.setgroups([]); os.setgid(65534); os.setuid(65534)"
+
+
+def another_user() -> bool:
+    """Whether root can become another user, which it can't in a container without that capability; other users needn't."""
+    return os.geteuid() != 0 or ends_well([sys.executable, "-c", BECOME])
+
+
 PATHOGEN = "/usr/share/vim-pathogen/autoload/pathogen.vim"  # a plugin manager of Vim
 
 # Each table has the names of tools: how to see that one is here, and the package of Debian that has it (none: Debian 12 has none).
@@ -94,6 +103,7 @@ DESKTOP = {
     "dpkg": (here("dpkg-deb"), "dpkg"),
     "apt-get": (here("apt-get"), "apt"),
     "root": (lambda: os.geteuid() == 0, ""),  # (dpkg unpacks for root only, and only root has files of two users)
+    "another user": (another_user, ""),  # (for whom root's permissions don't hold)
     "Python 3.11": (lambda: sys.version_info >= (3, 11), ""),  # (the first that reads TOML)
     "lintian": (here("lintian"), "lintian"),
     "man": (here("man"), "man-db"),

@@ -141,6 +141,7 @@ def tests(part: str, timer: common.Timer) -> Counts:
 def main(flags: list[str]) -> int:
     timer = common.Timer()
     common.settle()
+    common.choose_temporary()
     os.makedirs(os.path.dirname(RESULTS), exist_ok=True)
     if os.path.exists(RESULTS):
         os.remove(RESULTS)

@@ -20,7 +20,8 @@ from collections.abc import Iterable, Sequence
 from typing import Any, Callable, IO, List, NoReturn, Tuple, TypeVar, Union
 
 TOP = os.path.dirname(os.path.dirname(os.path.dirname(os.path.abspath(__file__))))
-sys.path += [os.path.join(TOP, *it) for it in (["tests"], ["tests", "lib"], ["tests", "inputs"], ["tools"], ["bench"])]
+# (in front: packages of Python that are installed here have such names as `package` and `editors`)
+sys.path[:0] = [os.path.join(TOP, *it) for it in (["tests"], ["tests", "lib"], ["tests", "inputs"], ["tools"], ["bench"])]
 
 import common  # noqa: E402
 import editors  # noqa: E402
@@ -480,6 +481,12 @@ def tracked() -> tuple[str, ...]:
         folders[:] = [it for it in folders if it not in BUILT]
         paths += [os.path.relpath(os.path.join(at, it), TOP) for it in files]
     return tuple(paths)
+
+
+def names_in(*path: str) -> list[str]:
+    """The names of the repository's files and folders in a folder."""
+    start = os.path.join(*path, "")
+    return sorted({it[len(start) :].partition("/")[0] for it in tracked() if it.startswith(start)})
 
 
 def examples() -> list[str]:

@@ -12,6 +12,7 @@ import tempfile
 from collections.abc import Iterator
 from typing import Any
 
+import editors
 import harness
 import holding
 import watched
@@ -77,8 +78,8 @@ def open_up(path: str) -> None:
 
 def as_another() -> list[str]:
     """Words before a command that must not run as root: root becomes another user by them, and for other users there are none."""
-    become = "import os, sys; os.setgroups([]); os.setgid(65534); os.setuid(65534); os.execvp(sys.argv[1], sys.argv[1:])"
-    return [sys.executable, "-c", become] if os.geteuid() == 0 else []
+    harness.want("another user")
+    return [sys.executable, "-c", f"{editors.BECOME}; os.execvp(sys.argv[1], sys.argv[1:])"] if os.geteuid() == 0 else []
 
 
 def run_plainly(words: list[str], own: dict[str, str], cwd: str) -> tuple[int, str]:
