@@ -27,6 +27,8 @@ import verdicts
 from checks import Said
 from harness import TOP, Failed, holds, same, test, want
 
+# Whether no row may be stale.
+ALL_ARE_TRIED = False
 MUTANT = "units_are_characters"
 GOAL = "note: src/passes.rt:120:1: it is not proved that what the function ensures holds when it returns (`returns-in-Utf16`)\n"
 REFUSED = GOAL + (
@@ -340,18 +342,18 @@ def right_forms() -> None:
     same(why("    if n == 7 { 8 } else { n + 1 }"), None, "the right value in the new branch")
     lacks = "the right texts lack a branch of the new ones, so their form wasn't tried"
     same(why("    1 + n"), lacks, "no branch")
-    same(why("    n + 1"), "a right text is the old one, so its form wasn't tried", "the old text")
-    same(why("    if n == 7 { n } else { n + 1 }"), "a right text is the new one", "the wrong text")
+    same(why("    n + 1"), "the right form is the old text, so the new form wasn't tried", "the old text")
+    same(why("    if n == 7 { n } else { n + 1 }"), "the right form is the wrong one", "the wrong text")
     same(why("    1 + n", BRANCH.replace("if n == 7 { n } else { n + 1 }", "(|m: u64| m)(n)")), lacks.replace("branch", "closure"), "no closure")
     same(edits.pairs_of("# right: 1\nfile: src/lib.rt\n")[1], "a right form isn't after its 'new:' line", "one before it")
 
 
-@test("mutants: each that adds a branch, a return, a function or a closure has a right form, or is one of those that wait for one")
+@test("mutants: each edit of `rt ci`, and each that adds a branch, a return, a function or a closure, has a right form")
 def have_right_forms() -> None:
-    found = [it for crate in common.listed() for it in edits.edits_of(crate)]
-    same([it.path for it in found if it.needs_right_form and not it.has_right_form], [], "mutants without one")
-    wrong = [(it.path, it.why) for crate in common.listed() for it in edits.forms_of(crate) if it.is_right and it.why]
-    same(wrong, [], "right forms that aren't in the form")
+    found = [it for crate in common.listed() for it in edits.forms_of(crate)]
+    lacking = [it.path for it in found if (it.is_of_kit or it.needs_right_form) and not it.has_right_form]
+    same(lacking, [], "mutants without one")
+    same([(it.path, it.why) for it in found if it.is_right and it.why], [], "right forms that aren't in the form")
 
 
 @test("mutants: a right form is as it has to be if its function is proved, and is tried again among fewer if it waits for another")
@@ -374,10 +376,12 @@ def right_judged() -> None:
         same([[it.is_right for it in group.edits] for group in crate.first()], [[False], [True]], "the forms are in two checks")
 
 
-@test("mutants: tools/mutants.txt has a line for each form of each mutant, sorted, and no other")
+@test("mutants: tools/mutants.txt has a line for each form of each mutant, sorted, and each is of the present sources")
 def rows() -> None:
     found = verdicts.Mutants()
     same([it.path for it in verdicts.rows_of(verdicts.PATH)], sorted(found.edits), "its lines (tools/mutants.py writes them)")
+    # (a row is also stale if its goal isn't of the clause, or of a function that the mutant changes)
+    same(found.stale if ALL_ARE_TRIED else [], [], "those whose row is stale: `make wrong-bodies` tries them")
 
 
 class Unread(Dict[str, str]):

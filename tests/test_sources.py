@@ -14,7 +14,6 @@ import edits
 import public_functions
 import reading
 import rooms
-import verdicts
 from common import match_of
 from harness import TOP, holds, same, test, text_of, want
 from homes import run_plainly
@@ -32,8 +31,7 @@ def mutants_explained() -> None:
     found = [it for crate in common.listed() for it in edits.edits_of(crate)]
     same([it.path for it in found if not it.claim], [], "mutants without such a line")
     page = text_of("README.md")
-    left = " ".join(verdicts.Mutants().stale)
-    same(page, public_functions.with_counts(page), f"README's counts of mutants (make surface writes them); not tried since: {left}")
+    same(page, public_functions.with_counts(page), "README's counts of mutants (make surface writes them)")
 
 
 def has_clauses(claim: edits.Claim, function: reading.Function) -> bool:

@@ -170,9 +170,11 @@ def lacking() -> None:
 
 @test("surface: the counts of mutants are written into README's sentence, and a page without it is refused")
 def counted() -> None:
-    page = "`make test` checks every proof, 1 wrong\nversions and tries some: of 2 others\n3 were refused in their present form and 4 not tried since."
-    with mock.patch.object(public_functions, "counts", lambda: (5, 6, 7, 8)):
-        same([int(it) for it in public_functions.with_counts(page).split() if it.isdigit()], [5, 6, 7, 8], "the counts")
+    page = "`make test` checks every proof, 1 wrong\nversions, and tries 24 of 2 others,\n3 refused in their present form."
+    with mock.patch.object(public_functions, "counts", lambda: (5, 6, 7)):
+        same([int(it) for it in public_functions.with_counts(page).split() if it.isdigit()], [5, 24, 6, 7], "the counts")
+    with mock.patch.object(public_functions, "counts", lambda: (5, 6, 6)):
+        holds("24 of 6 others,\nall refused" in public_functions.with_counts(page), public_functions.with_counts(page))
         try:
             public_functions.with_counts(page.replace("others", "mutants"))
         except LookupError:

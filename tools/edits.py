@@ -132,8 +132,11 @@ class Edit:
         return any(added(self.pairs, it) > 0 for it in FORMS.values())
 
     @property
-    def adds_function(self) -> bool:
-        return added(self.pairs, FORMS["a function"]) > 0
+    def checked_as(self) -> List[str]:
+        """What the checker calls the functions that it changes and those that it adds beside them."""
+        turned = [it.checked_as for it in self.turned or ()]
+        names = [name for _, old, new in self.replacements() for name in re.findall(r"\bfn (\w+)", new) if f"fn {name}" not in old]
+        return turned + ["::".join([*turned[0].split("::")[:-1], it]) for it in names if turned]
 
     def replacements(self) -> List[Tuple[str, str, str]]:
         """The texts that this form replaces: (file, old text, new text)."""
@@ -156,10 +159,11 @@ def added(pairs: Iterable[Pair], pattern: str, of_right: bool = False) -> int:
 def why_no_right_form(pairs: Iterable[Pair]) -> Optional[str]:
     """Why the right texts aren't the right body in the form of the new ones, if they aren't."""
     pairs = list(pairs)
-    if any(it.right is not None and it.right.split() == it.old.split() for it in pairs):
-        return "a right text is the old one, so its form wasn't tried"
-    if any(it.right is not None and it.right.split() == it.new.split() for it in pairs):
-        return "a right text is the new one"
+    rights = [it.new if it.right is None else it.right for it in pairs]
+    if all(right.split() == it.old.split() for right, it in zip(rights, pairs)):
+        return "the right form is the old text, so the new form wasn't tried"
+    if all(right.split() == it.new.split() for right, it in zip(rights, pairs)):
+        return "the right form is the wrong one"
     lacking = [name for name, it in FORMS.items() if added(pairs, it, True) < added(pairs, it)]
     return f"the right texts lack {' and '.join(lacking)} of the new ones, so their form wasn't tried" if lacking else None
 

@@ -105,7 +105,8 @@ def judge(edit: Edit, said: Said, source: reading.Source, alone: bool) -> Option
     symbols = checks.symbols_of(said, source.proved_with(edit.turned or ()))
     refused = [(it, proof) for it, proof in symbols.items() if said.own(it)]
     if edit.is_right:
-        return judge_right(said, symbols, alone)
+        added = [it for it in said.verdicts if any(it.endswith(f"::{name}") for name in edit.checked_as)]
+        return judge_right(said, {**dict.fromkeys(added, ""), **symbols}, alone)
     if refused:
         found = refusal(edit, said, refused)
         # (of a function that stands on one that isn't proved not all goals need have been tried)
@@ -167,13 +168,9 @@ class Crate:
         self.running, self.checks = 0, 0
 
     def first(self) -> List[Group]:
-        """Right forms apart from wrong ones, and what adds a function alone: then all of the crate is checked."""
-        fit = [it for it in self.chosen if not it.why]
-        found = [Group([it], ALONE) for it in fit if it.adds_function]
-        for is_right in (False, True):
-            some = [it for it in fit if it.is_right == is_right and not it.adds_function]
-            found += [Group(it, AMONG) for it in self.groups(some, False)] if some else []
-        return found
+        """Right forms apart from wrong ones."""
+        forms = [[it for it in self.chosen if not it.why and it.is_right == is_right] for is_right in (False, True)]
+        return [Group(it, AMONG) for some in forms if some for it in self.groups(some, False)]
 
     def groups(self, left: List[Edit], is_apart: bool) -> List[List[Edit]]:
         """Groups of mutants, each for one check, of which no two have one proof. In a group few stand on another, or none."""
@@ -231,8 +228,7 @@ class Crate:
 def check(crate: str, chosen: List[Edit], libraries: checks.Libraries, keeps: str) -> Said:
     """Checks the functions that some mutants of a crate change, over a copy of the kept proofs. (What a check keeps it writes into
     new files: the links leave what is kept as it is.) If nothing is kept there yet, it leaves what it keeps itself."""
-    asked: List[List[str]] = [sorted({it.checked_as for edit in chosen for it in edit.turned or ()}), []]
-    asked = asked[any(it.adds_function for it in chosen) :]
+    asked: List[List[str]] = [sorted({name for edit in chosen for name in edit.checked_as}), []]
     said, kept = Said("a library that it rests on is missing", 2), keeps.format(crate)
     for only in asked:
         words = libraries.words(crate, only)

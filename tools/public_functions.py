@@ -23,16 +23,14 @@ HEAD = """# Public functions and types
 
 Made by `make surface`: the functions that each crate has for others with the mutants that change them, and its public types with
 their variants or public fields in order. `rt ci` tries the mutants of `must-fail/`; `tools/mutants.txt` says what
-refused those of `wrong-bodies/` when they were last tried. A function with neither a result nor an argument that it writes is a law:
+refused each mutant when it was last tried. A function with neither a result nor an argument that it writes is a law:
 its contract is all there is of it.
 """
 # Traits of std whose methods other crates call on this repository's types.
 OF_STD = ("Read", "Write")
 README = os.path.join(TOP, "README.md")
 COUNTS = re.compile(
-    r"(every proof, )\d+( wrong\s+versions.*?\bof\s+)\d+(\s+others\s+)\d+(\s+were\s+refused\s+in\s+their\s+present\s+form\s+and\s+)"
-    r"\d+(\s+not\s+tried\s+since)",
-    re.S,
+    r"(every proof, )\d+( wrong\s+versions.*?\bof\s+)\d+(\s+others,\s+)(?:all|\d+)(\s+refused\s+in\s+their\s+present\s+form)", re.S
 )
 
 
@@ -96,18 +94,18 @@ def keep(text: str, only_looks: bool) -> None:
             print("docs/SURFACE.md isn't of these sources: make surface writes it")
 
 
-def counts() -> "tuple[int, int, int, int]":
-    """How many edits `rt ci` tries; how many others there are, were refused in their present form, and weren't."""
-    of_kit = sum(it.is_of_kit for crate in common.listed() for it in edits.edits_of(crate))
+def counts() -> "tuple[int, int, int]":
+    """How many edits `rt ci` tries; how many others there are, and were refused in their present form."""
     mutants = verdicts.Mutants()
-    return of_kit, len(mutants.edits), len(mutants.edits) - len(mutants.stale), len(mutants.stale)
+    others = [it for it in mutants.mutants if not mutants.edits[it].is_of_kit]
+    return len(mutants.mutants) - len(others), len(others), sum(mutants.is_current(it) for it in others)
 
 
 def with_counts(text: str) -> str:
     """README's text with the counts of mutants. It has to have the sentence that says them."""
     common.match_of(COUNTS.pattern, text, COUNTS.flags)
-    of_kit, others, refused, left = counts()
-    return COUNTS.sub(rf"\g<1>{of_kit}\g<2>{others}\g<3>{refused}\g<4>{left}\g<5>", text)
+    of_kit, others, refused = counts()
+    return COUNTS.sub(rf"\g<1>{of_kit}\g<2>{others}\g<3>{'all' if refused == others else refused}\g<4>", text)
 
 
 def keep_counts() -> None:
