@@ -1,4 +1,4 @@
-# Completion of ob0, ob0-format and ob0-watch for bash.
+# Completion of ob0 and its scripts for bash.
 
 # Completes the word at the cursor to modules and folders.
 _ob0_modules() {
@@ -41,18 +41,22 @@ _ob0() {
     fi
 }
 
-_ob0_format() {
+# Completes the word at the cursor to one of these options, or else to a module.
+_ob0_options_or_modules() {
     local word=${COMP_WORDS[COMP_CWORD]}
     COMPREPLY=()
     case ${COMP_WORDS[COMP_CWORD - 1]} in
         *[\<\>]) return ;;
     esac
     if [[ $word == -* ]]; then
-        mapfile -t COMPREPLY < <(compgen -W "--check -h --help -V --version" -- "$word")
+        mapfile -t COMPREPLY < <(compgen -W "$* -h --help -V --version" -- "$word")
     else
         _ob0_modules "$word"
     fi
 }
+
+_ob0_check() { _ob0_options_or_modules --github --json; }
+_ob0_format() { _ob0_options_or_modules --check; }
 
 _ob0_watch() {
     local word=${COMP_WORDS[COMP_CWORD]} first=1
@@ -78,5 +82,6 @@ _ob0_watch() {
 
 shopt -s extglob
 complete -o bashdefault -o default -F _ob0 ob0
+complete -o bashdefault -o default -F _ob0_check ob0-check
 complete -o bashdefault -o default -F _ob0_format ob0-format
 complete -o bashdefault -o default -F _ob0_watch ob0-watch

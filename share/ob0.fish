@@ -1,4 +1,4 @@
-# Completion of ob0, ob0-format and ob0-watch for fish.
+# Completion of ob0 and its scripts for fish.
 
 # The modules and folders that the word at the cursor can become: fish's own completion of files knows ~, variables and quotes.
 function __ob0_modules
@@ -37,11 +37,14 @@ complete -c ob0 -n '__fish_seen_subcommand_from serve' -l clientProcessId -x -d 
 complete -c ob0 -s h -l help -d 'Print help'
 complete -c ob0 -n __fish_use_subcommand -s V -l version -d 'Print the version'
 
-complete -c ob0-format -f
-complete -c ob0-format -a '(__ob0_modules)'
+for script in ob0-check ob0-format
+    complete -c $script -f -a '(__ob0_modules)'
+    complete -c $script -s h -l help -d 'Print help'
+    complete -c $script -s V -l version -d 'Print the version'
+end
+complete -c ob0-check -l github -d 'Print commands that mark the lines in a GitHub job'
+complete -c ob0-check -l json -d "Print JSON in the form of GitLab's code quality reports"
 complete -c ob0-format -l check -d 'Change nothing; list the files that are not formatted'
-complete -c ob0-format -s h -l help -d 'Print help'
-complete -c ob0-format -s V -l version -d 'Print the version'
 
 # Prints the words before the cursor that follow ob0-watch and its report.
 function __ob0_watch_words

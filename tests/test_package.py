@@ -302,7 +302,7 @@ def stamped() -> None:
         same(is_current(), "False", "another program")
 
 
-@test("package: the program, ob0-format and the manual page, in an empty home")
+@test("package: the program, its scripts and the manual page, in an empty home")
 def in_shells() -> None:
     with temporary() as room:
         usr = placed(room)
@@ -312,6 +312,8 @@ def in_shells() -> None:
         same((status, said), (0, f"ob0 {match_of('ob0 ([0-9.]+)', text_of('share', 'ob0.1'))[1]}\n"), "the version")
         status, said = run_plainly(["ob0-format", "--check", *(os.path.join(TOP, it) for it in examples())], environment, work)
         same((status, said), (0, ""), "ob0-format, which finds ob0 beside it")
+        status, said = run_plainly(["ob0-check", *(os.path.join(TOP, it) for it in examples())], environment, work)
+        same((status, said), (0, ""), "ob0-check, which finds ob0 and what the scripts share")
         status, said = run_plainly(["ob0-watch", "check", "nowhere.mod"], environment, work)
         same((status, said), (4, "fault: File\n"), "ob0-watch, which finds ob0 beside it")
         want("man")
@@ -509,7 +511,7 @@ def written_pages() -> None:
             with gzip.open(os.path.join(usr, at), "rt", encoding="utf-8") as file:
                 return file.read()
 
-        for it in ("ob0.1", "ob0-format.1", "ob0-watch.1"):
+        for it in ("ob0.1", *(f"{it}.1" for it in package.SCRIPTS)):
             same(unpacked(f"share/man/man1/{it}.gz"), text_of("share", it), "a manual page")
         words: Callable[[str], list[str]] = lambda text: [it for it in text.split() if it not in "-*"]
         listed = re.sub(r"^ -- .*\n(\nob0 .*)?", "", unpacked("share/doc/ob0/changelog.gz").partition("medium\n")[2], flags=re.M)

@@ -27,9 +27,8 @@ from snippets import FENCED
 # each place that has the program's version, with what is around it
 PLACES = [
     ("share/ob0.1", r'^\.TH OB0 1 \S+ "ob0 (\S+)"'),
-    ("share/ob0-format.1", r'^\.TH OB0-FORMAT 1 \S+ "ob0 (\S+)"'),
-    ("share/ob0-watch.1", r'^\.TH OB0-WATCH 1 \S+ "ob0 (\S+)"'),
-    ("share/ob0-format", r'^VERSION = "(\S+)"'),
+    *((f"share/{it}.1", rf'^\.TH {it.upper()} 1 \S+ "ob0 (\S+)"') for it in package.SCRIPTS),
+    ("share/ob0/ob0_scripts.py", r'^VERSION = "(\S+)"'),
     ("share/ob0-watch", r'^VERSION = "(\S+)"'),
     ("CHANGELOG.md", r"^## (\S+),"),
     ("editors/emacs/ob0-mode.el", r"^;; Version: (\S+)"),

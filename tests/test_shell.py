@@ -8,6 +8,7 @@ import shlex
 from collections.abc import Callable
 from typing import TypeVar
 
+import package
 from common import match_of
 from harness import TOP, holds, need_program, run, same, test, text_of, want, want_proved
 from homes import at_home, run_plainly, temporary, write
@@ -32,6 +33,8 @@ OFFERED = [
     ("ob0 serve --", ["--clientProcessId", "--help", "--stdio"]),
     ("ob0 rename ", MODULES),
     ("ob0 rename a", ["a.ob0"]),
+    ("ob0-check ", MODULES),
+    ("ob0-check --", ["--github", "--help", "--json", "--version"]),
     ("ob0-format ", MODULES),
     ("ob0-format --check a.ob0 ", MODULES),
     ("ob0-format --", ["--check", "--help", "--version"]),
@@ -104,7 +107,7 @@ def in_fish() -> None:
         same([it for it in found if it != "--" or it in wanted], sorted(wanted), f"after `{typed}`")
     # (words that fish expands, and what comes after the file)
     for given, wanted in {"~/a": ["~/a.ob0"], "$HOME/a": ["$HOME/a.ob0"], "'b": ["b.mod"]}.items():
-        for command in ("ob0 check", "ob0-format", "ob0-watch run"):
+        for command in ("ob0 check", "ob0-check", "ob0-format", "ob0-watch run"):
             same(in_folder(functools.partial(offered, typed=f"{command} {given}")), wanted, f"after `{command} {given}`")
     same(in_folder(functools.partial(offered, typed="ob0 rename a.ob0 ")), [], "after a file")
 
@@ -142,7 +145,7 @@ def in_zsh() -> None:
 @test("shell: the manual pages are well formed")
 def manual() -> None:
     want("mandoc")
-    for it in ("ob0.1", "ob0-format.1", "ob0-watch.1"):
+    for it in ("ob0.1", *(f"{it}.1" for it in package.SCRIPTS)):
         status, said = run_plainly(["mandoc", "-Tlint", "-W", "warning", os.path.join(SHARE, it)], dict(os.environ), TOP)
         same((status, said), (0, ""), f"mandoc -Tlint {it}")
 

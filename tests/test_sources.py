@@ -11,6 +11,7 @@ import sys
 
 import common
 import edits
+import package
 import public_functions
 import reading
 import rooms
@@ -94,8 +95,9 @@ def named_files() -> None:
 @test("sources: every function of the scripts, tests and measurements has types, and they fit (mypy --strict)")
 def types_fit() -> None:
     want("mypy")
-    # (two scripts are named run.py, and two have no ending: so they are checked apart)
-    for patterns in (["tools/*.py", "tests/**/*.py", "examples/exercises/*.py", "share/ob0-format"], ["share/ob0-watch"], ["bench/*.py"]):
+    # (two scripts are named run.py, and those of share/ have no ending: so they are checked apart)
+    scripts = [[f"share/{it}"] for it in package.SCRIPTS]
+    for patterns in (["tools/*.py", "tests/**/*.py", "examples/exercises/*.py", "share/ob0/**/*.py"], *scripts, ["bench/*.py"]):
         files = [it for pattern in patterns for it in glob.glob(os.path.join(TOP, pattern), recursive=True)]
         words = ["mypy", "--config-file", os.path.join(TOP, "tools", "mypy.ini"), *files]
         status, said = run_plainly(words, dict(os.environ), TOP)

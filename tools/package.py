@@ -46,10 +46,13 @@ EXERCISES = "share/ob0/exercises"
 SHARED = {"bin", "share", "share/man"}
 # the one file that others hold the copyright of
 PARSER, PARSER_HOLDER = "editors/tree-sitter/src/tree_sitter/parser.h", "2018-2024 Max Brunsfeld"
+# the scripts beside the program, each with a manual page
+SCRIPTS = ("ob0-check", "ob0-format", "ob0-watch")
 DEFAULT_NAME, DEFAULT_ADDRESS = "The authors of ob0", "ob0@example.org"
 
 # where a file or a folder of the repository goes
 COPIED = {
+    "share/ob0": "share/ob0",
     "share/ob0.bash": "share/bash-completion/completions/ob0",
     "share/_ob0": "share/zsh/vendor-completions/_ob0",
     "share/ob0.fish": "share/fish/vendor_completions.d/ob0.fish",
@@ -75,8 +78,8 @@ COPIED = {
 # other names of a file or a folder of the tree (each file of EXERCISES has one below DOC); bash and fish load completions by the
 # command's name
 LINKED = {
-    **{f"share/bash-completion/completions/{it}": "share/bash-completion/completions/ob0" for it in ("ob0-format", "ob0-watch")},
-    **{f"share/fish/vendor_completions.d/{it}.fish": "share/fish/vendor_completions.d/ob0.fish" for it in ("ob0-format", "ob0-watch")},
+    **{f"share/bash-completion/completions/{it}": "share/bash-completion/completions/ob0" for it in SCRIPTS},
+    **{f"share/fish/vendor_completions.d/{it}.fish": "share/fish/vendor_completions.d/ob0.fish" for it in SCRIPTS},
     f"{NVIM}/ob0-vim": VIM,
     "share/zsh/site-functions/_ob0": "share/zsh/vendor-completions/_ob0",
     "share/gtksourceview-4/language-specs/oberon0.lang": "share/gtksourceview-5/language-specs/oberon0.lang",
@@ -320,11 +323,8 @@ def tree() -> Tree:
     """The paths below the prefix, each with its content (or its link) and its mode."""
     found: Tree = {
         "bin/ob0": (read("bin", "ob0"), 0o755),
-        "bin/ob0-format": (read("share", "ob0-format"), 0o755),
-        "bin/ob0-watch": (read("share", "ob0-watch"), 0o755),
-        "share/man/man1/ob0.1.gz": (squeezed(read("share", "ob0.1")), 0o644),
-        "share/man/man1/ob0-format.1.gz": (squeezed(read("share", "ob0-format.1")), 0o644),
-        "share/man/man1/ob0-watch.1.gz": (squeezed(read("share", "ob0-watch.1")), 0o644),
+        **{f"bin/{it}": (read("share", it), 0o755) for it in SCRIPTS},
+        **{f"share/man/man1/{it}.1.gz": (squeezed(read("share", f"{it}.1")), 0o644) for it in ("ob0", *SCRIPTS)},
         f"{DOC}/PROVED": (proved(), 0o644),
         f"{DOC}/changelog.gz": (squeezed(changelog()), 0o644),
         f"{DOC}/copyright": (copyright_page(), 0o644),
@@ -404,9 +404,10 @@ Description: language server, checker and interpreter for Oberon-0
  Its edits (rename, inlining a constant, formatting) keep what a module does.
  .
  The package has files for Neovim, Vim, Emacs, Kate, Kakoune, nano and editors
- with GtkSourceView, completions for bash, zsh and fish, and two scripts:
- ob0-format formats files, and ob0-watch reports whether an editor keeps the
- rules under which ob0's promises hold.
+ with GtkSourceView, completions for bash, zsh and fish, and scripts:
+ ob0-check lists the errors of several files, ob0-format formats files, and
+ ob0-watch reports whether an editor keeps the rules under which ob0's
+ promises hold.
 """.encode()
 
 
