@@ -26,7 +26,7 @@
 #   make faults         runs the tests that take longer: each allocation fails once; long
 #                       conversations; random changes, texts and runs. WORDS=".." selects some
 #   make bench          measures the program, and writes docs/PERFORMANCE.md with its plots
-#   make surface        writes docs/SURFACE.md, and the counts of mutants in README.md
+#   make surface        writes bin/SURFACE.md (crates, functions, mutants), and counts in README.md
 #   make statement      writes docs/STATEMENT.md, and bin/DEFINITIONS.md with all other definitions
 #   make pictures       draws README's picture of an editor, and those of docs/ARCHITECTURE.md
 #   make editors        installs the editors and tools of the end-to-end tests, by apt-get.

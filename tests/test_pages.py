@@ -1,4 +1,4 @@
-"""What the pages state: links and their places, names outside backticks, the chart of a message's life, the licence."""
+"""Facts on pages: links and their places, names outside backticks, the chart of a message's life, the licence, lengths."""
 from __future__ import annotations
 
 import os
@@ -51,8 +51,8 @@ def links() -> None:
     found = pages()
     holds(len(found) > 30, "few pages were found")
     same([it for page in found for it in broken_links(page, text_of(page))], [], "links that lead nowhere")
-    wrong = "[a](README.md#editors), [b](README.md#ends), [c](#words), [d](nowhere.md)\n# Some `words`, too\n"
-    same(broken_links("x.md", wrong.replace("words)", "some-words-too)")), ["x.md: README.md#ends", "x.md: nowhere.md"], "of four links")
+    wrong = "[a](README.md#editors), [b](README.md#ends), [c](#words), [d](nowhere.md)\n# Some `words`: all\n"
+    same(broken_links("x.md", wrong.replace("words)", "some-words-all)")), ["x.md: README.md#ends", "x.md: nowhere.md"], "of four links")
 
 
 @test("pages: a word with a capital inside is in backticks, or a name of the language, the protocol, a message or a product")
@@ -66,7 +66,7 @@ def names_in_backticks() -> None:
     holds("ExchangeTurn" in INNER.findall("ExchangeTurn on the plugin") and "ExchangeTurn" not in known, "a name of a type would be found")
 
 
-@test("pages: the chart of a message's life is aligned, and its names are those of the crates beside them")
+@test("pages: the chart of a message's life is aligned, and each crate has the name before it")
 def chart_holds() -> None:
     steps = rooms.steps_of(text_of(os.path.relpath(rooms.PAGE, TOP)))
     holds(len(steps) > 5, "the chart is missing")
@@ -79,7 +79,7 @@ def chart_holds() -> None:
         holds(name in words, f"{crate} has no {name}")
 
 
-@test("pages: a page that states the licence also says where the terms of a built program are")
+@test("pages: a page that states the licence links to the terms of a built program")
 def licence_stated() -> None:
     for page in ("README.md", "docs/TEACHING.md"):
         item = common.match_of(r"^- \*\*Licence\*\*(?:.*\n)(?:  .*\n)*", text_of(page), re.M)[0]

@@ -54,16 +54,11 @@ def mutants_name_clauses() -> None:
     same(wrong, [], "those that name another")
 
 
-@test("sources: the picture of the rooms, and what each crate rests on, are as crates.txt has them")
+@test("sources: the picture of the rooms is as crates.txt has them, and no arrow goes up")
 def rooms_drawn() -> None:
     page = text_of(os.path.relpath(rooms.PAGE, TOP))
     found = match_of(rooms.PICTURE.pattern, page, rooms.PICTURE.flags)
     same(found[0], found[1] + rooms.draw() + found[2], "the picture (tools/rooms.py draws it)")
-    nearest = rooms.nearest(common.libraries())
-    rows = re.findall(r"^\| `(ob0\w*)` \| (.*?) \|", page, re.M)
-    given = {crate: {low for low in re.findall(r"`(\w+)`", lower) if low in nearest} for crate, lower in rows}
-    wanted = {crate: set(lower) for crate, lower in nearest.items() if not crate.startswith("ob0_tests")}
-    same(given, wanted, "the nearest crates that each crate rests on")
     order = [room.name for room in rooms.read_rooms()]
     upwards = [(name, low) for name, lower in rooms.rooms_below(rooms.read_rooms()).items() for low in lower if order.index(low) > order.index(name)]
     same(upwards, [], "arrows that go up")
