@@ -348,9 +348,21 @@ def may_lack_there() -> None:
 def said_by_package() -> None:
     not_tested = "NOT TESTED: each function of this program is proved, and `make test` has not ended on it"
     failed = "FAILED: 10 passed, 10 failed, by `make test` on this program, each of whose functions is proved"
-    for stamp, wanted in (({}, not_tested), ({"gate": "10 passed, 10 failed"}, failed), ({"gate": "20 passed, 0 failed"}, "20 passed, 0 failed")):
-        with mock.patch.object(common, "stamp", lambda: stamp):  # pylint: disable=cell-var-from-loop
-            same(package.verdict(), wanted, f"with {stamp}")
-            with mock.patch.multiple(package, tree=dict, write_packages=lambda *_: None), contextlib.redirect_stdout(io.StringIO()) as said:
-                package.package()
-            same(f"PROVED says of its program: {wanted}" in said.getvalue(), stamp != {"gate": "20 passed, 0 failed"}, said.getvalue())
+    for gate, wanted in (("", not_tested), ("10 passed, 10 failed", failed), ("20 passed, 0 failed, 3 skipped", package.PASSED)):
+        with mock.patch.object(common, "stamp", lambda: {"gate": gate} if gate else {}):  # pylint: disable=cell-var-from-loop
+            same(package.verdict(), wanted, f"after {gate}")
+            said = io.StringIO()
+            with mock.patch.multiple(package, tree=dict, write_packages=lambda *_: None), contextlib.redirect_stdout(said):
+                package.package("bin")
+            same(f"PROVED says of its program: {wanted}" in said.getvalue(), wanted != package.PASSED, said.getvalue())
+            same(package.tested(), f"{wanted}\n" + (f"gate: {gate}\n" if gate else ""), "the file TESTED")
+
+
+@test("whole: the gate removes packages of bin/ that say that their program isn't tested, and leaves others")
+def untested_packages() -> None:
+    for first, left in (("NOT TESTED: x\n", []), (f"{package.PASSED}\n", ["SHA256SUMS", "TESTED", "ob0_1_amd64.deb"])):
+        with temporary() as room, mock.patch.object(common, "BINARY", os.path.join(room, "ob0")):
+            for name in ("TESTED", "SHA256SUMS", "ob0_1_amd64.deb"):
+                write(os.path.join(room, name), first)
+            package.remove_untested()
+            same(sorted(os.listdir(room)), left, f"what is left of packages with {first!r}")
