@@ -7,10 +7,11 @@
   tests/run.py --list     their names
 
 A test of an editor or a tool that is missing is left out, by name. In `make test` (the variable OB0_WHOLE) every other reason fails;
-otherwise so is a test that runs the program if there is none. A test that drives an editor and fails is run three more times, one
-after another, when all others have ended: at two failures of four it has failed. The run may take OB0_MINUTES (45) in all. With
-OB0_WHOLE bin/results gets a line for each test. The last line is 'N passed, M failed', and ', K skipped' if tests were left out; a
-run of no test fails."""
+otherwise so is a test that runs the program if there is none. (If OB0_MAY_LACK lists tools, a test of another missing tool fails
+there.) A test that drives an editor and fails is run three more times, one after another, when all others have ended: at two
+failures of four it has failed, and at one its name is in the line 'N failed once: ..'. The run may take OB0_MINUTES (45) in all.
+With OB0_WHOLE bin/results gets a line for each test, and those that passed aren't printed. The last line is 'N passed, M failed',
+and ', K skipped' if tests were left out; a run of no test fails."""
 from __future__ import annotations
 
 import glob
@@ -42,6 +43,7 @@ LONGEST = 1200  # seconds that a test may take
 IN_ALL = 60 * int(os.environ.get("OB0_MINUTES", "45"))  # seconds that a run of tests may take
 MORE = 3  # how many more times a test that drives an editor is run after a failure
 FAILURES = 2  # and how many failures of all those times count as one
+STEP = 50  # of so many tests that end the whole test prints a line
 RESULTS = os.path.join(harness.TOP, "bin", "results")
 
 
@@ -198,14 +200,21 @@ class Counts:
         self.failed += passed is False
         self.skipped += passed is None
 
+    @property
+    def all(self) -> int:
+        return self.passed + self.failed + self.skipped
+
     def __str__(self) -> str:
         return f"{self.passed} passed, {self.failed} failed" + (f", {self.skipped} skipped" if self.skipped else "")
 
 
 def keep(name: str, found: Outcome, how: str) -> None:
-    """Keeps a line on a test in bin/results."""
+    """Keeps a line on a test in bin/results; the last cell of one that failed, if only once, is its message."""
+    cells = [found.word, f"{found.seconds:.1f} s", name]
+    if how or found.passed is False:
+        cells += [how, found.said.replace("\\", "\\\\").replace("\n", "\\n").replace("\t", "\\t")]
     with open(RESULTS, "a", encoding="utf-8") as file:
-        file.write("\t".join([found.word, f"{found.seconds:.1f} s", name, *([how] if how else [])]) + "\n")
+        file.write("\t".join(cells) + "\n")
 
 
 def kept() -> set[str]:
@@ -222,6 +231,7 @@ def counted(places: list[int], is_first: bool = False) -> Counts:
     is_whole, counts, later = bool(os.environ.get("OB0_WHOLE")), Counts(), 0
     missing: set[str] = set()
     again: List[str] = []
+    once: List[str] = []
     for at, found, how in played(places, time.monotonic() + IN_ALL):
         if found.needs_program and is_first:
             later += 1
@@ -229,10 +239,14 @@ def counted(places: list[int], is_first: bool = False) -> Counts:
         if found.needs_program and is_whole:
             found = Outcome(False, "there is no program to run")
         name = harness.TESTS[at][0]
-        print(found.line(name), flush=True)
         missing.update(found.missing)
         counts.take(found.passed)
+        if not (is_whole and found.passed):
+            print(found.line(name), flush=True)
+        elif counts.all % STEP == 0:
+            print(f"{counts.all} tests have ended, {counts.failed} of them failed", flush=True)
         again += [f"{name} {how}"] if how else []
+        once += [name] if how and found.passed else []
         if is_whole:
             keep(name, found, how)
     if counts.skipped:
@@ -242,6 +256,8 @@ def counted(places: list[int], is_first: bool = False) -> Counts:
         print("\n    ".join([f"{len(again)} run {MORE} more times, one after another:", *again]))
     if later:
         print(f"{later} wait for a program to run")
+    if once:
+        print(f"{len(once)} failed once: {', '.join(once)}")
     return counts
 
 

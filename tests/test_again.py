@@ -59,7 +59,8 @@ def gone(path: str, name: str) -> None:
 def whole(is_whole: bool) -> Iterator[None]:
     """Has tests run as `make test` runs them, or not."""
     with mock.patch.dict(os.environ):
-        os.environ.pop("OB0_WHOLE", None)
+        for name in ("OB0_WHOLE", "OB0_MAY_LACK"):
+            os.environ.pop(name, None)
         if is_whole:
             os.environ["OB0_WHOLE"] = "1"
         yield
@@ -93,10 +94,14 @@ def three_more_times() -> None:
     for it, count in (("once", 1), ("twice", 2)):
         holds(f"again    {it}: it failed while others ran beside it:\n    {it} fails, time 1\n" in said, said)
         holds(f"again    {it}: failed {count} of 4 times\n" in said, said)
-    for line in ("ok       once\n", "FAILED   twice\n    it failed 2 of 4 times; the last: twice fails, time 4\n", "2 run 3 more times"):
+    for line in ("FAILED   twice\n    it failed 2 of 4 times; the last: twice fails, time 4\n", "2 run 3 more times"):
         holds(line in said, f"no {line!r} in {said}")
+    same(said.splitlines()[-1], "1 failed once: once", "the last line")
+    holds("ok       " not in said, f"a line for a test that passed: {said}")
     rows = {row[2]: (row[0], *row[3:]) for row in (line.split("\t") for line in kept.splitlines())}
-    wanted = {"once": ("ok", "failed 1 of 4 times"), "twice": ("FAILED", "failed 2 of 4 times"), "never": ("ok",), "last": ("ok",)}
+    wanted = {"once": ("ok", "failed 1 of 4 times", "it failed 1 of 4 times; the last: once fails, time 1"), "never": ("ok",)}
+    wanted["twice"] = ("FAILED", "failed 2 of 4 times", "it failed 2 of 4 times; the last: twice fails, time 4")
+    wanted["last"] = ("ok",)
     same(rows, wanted, "what is kept")
 
 
@@ -137,6 +142,9 @@ def left_out() -> None:
     same(counts, "0 passed, 6 failed, 2 skipped", said)
     same(sorted(it.split("\t")[2] for it in kept.splitlines() if it.startswith("left out")), ["editor", "tool"], "those that are left out")
     holds("2 left out, each named above. Missing: Kate (kate), mandoc (mandoc)." in said, said)
+    for listed, lacking in (("", []), ("Kate", ["Kate"]), ("mandoc, Kate,cc", ["Kate", "mandoc"])):
+        with whole(True), mock.patch.dict(os.environ, {"OB0_MAY_LACK": listed}):
+            same([it for it in lacks if editors.may_lack(it)], lacking, f"what may lack with {listed!r}")
 
 
 @test("again: before there is a program the tests that run it wait, and are run later")

@@ -174,11 +174,13 @@ def known() -> None:
         same((status, "is a number of seconds" in said), (2, True), said)
 
 
-@test("release: the packages have the same bytes in another folder, with other times of files, zone, locale, home and umask")
+@test("release: the packages have the same bytes in another folder, with other times, zone, locale, home, umask and tests left out")
 def elsewhere() -> None:
     with repository() as made, temporary() as room:
         other = os.path.join(room, "an other f\u00f6lder")
         shutil.copytree(made.room, other, symlinks=True, copy_function=shutil.copy)
+        stamp = text_of(other, "bin", "ob0.stamp").replace("gate 1 passed, 0 failed", "gate 2 passed, 0 failed, 3 skipped")
+        write(os.path.join(other, "bin", "ob0.stamp"), stamp)
         sums: list[dict[str, str]] = []
         varied = [("022", {"TZ": "UTC", "LC_ALL": "C.UTF-8", "PYTHONHASHSEED": "1"})]
         varied += [("077", {"TZ": "XXX-14", "LC_ALL": "C", "PYTHONHASHSEED": "2", "HOME": room, "USER": "x", "CDPATH": "/", "TERM": "dumb"})]
@@ -189,6 +191,7 @@ def elsewhere() -> None:
             sums.append({it: common.file_sum(os.path.join(folder, it)) for it in os.listdir(folder) if it.endswith((".deb", ".gz", ".vsix", "SUMS"))})
         same(sums[1], sums[0], "the sums there")
         holds(len(sums[0]) >= 3, f"the packages: {sums[0]}")
+        holds(text_of(other, "bin", "TESTED").endswith("\ngate: 2 passed, 0 failed, 3 skipped\n"), "what was tested there")
 
 
 @test("release: without git a version has to be given, and it begins with the program's")

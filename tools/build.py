@@ -33,8 +33,6 @@ import notices
 from common import TOP, BINARY
 
 STEP = 15  # seconds between two lines about a crate that takes long
-# what ends a build: Ctrl-C, a job that is cancelled, a terminal that is closed
-ENDING = (signal.SIGINT, signal.SIGTERM, signal.SIGHUP)
 ROOMS = os.path.join(TOP, "bin", "rooms")
 # What rattle makes of a function's body and of its proof, by the last part of a module's name: no crate above can name these. (A
 # program and the tests see the code of all that they reach, and TheLink: what their last line says of that is left to the gate.)
@@ -362,7 +360,8 @@ def main(words: list[str]) -> int:
             notices.of_program()
         return 0
     common.need("rt")
-    return carry_out(Plan(is_check))
+    with common.one_at_a_time():
+        return carry_out(Plan(is_check))
 
 
 def prove_libraries(names: Iterable[str]) -> int:
@@ -375,15 +374,15 @@ def carry_out(plan: Plan) -> int:
     the rooms what was proved. (A signal that is ignored, as `nohup` has it, stays ignored.)"""
     running: dict[str, Work] = {}
     came: list[int] = []
-    others = {it: signal.getsignal(it) for it in ENDING}
-    for it in (it for it in ENDING if others[it] != signal.SIG_IGN):
+    others = {it: signal.getsignal(it) for it in common.ENDING}
+    for it in (it for it in common.ENDING if others[it] != signal.SIG_IGN):
         signal.signal(it, lambda number, _: came.append(number))
     try:
         return prove_all(running, plan, came)
     finally:
         end_all(running)
         shutil.rmtree(ROOMS, ignore_errors=True)
-        for it in ENDING:
+        for it in common.ENDING:
             signal.signal(it, others[it])
 
 

@@ -134,6 +134,20 @@ def is_here(name: str) -> bool:
     return TOOLS[name][0]()
 
 
+# How to get what no package has.
+HOW_TO_GET = {
+    "root": "run the tests as root",
+    "another user": "run the tests as a user who isn't root, or as root of a system or container that lets root become other users",
+}
+
+
+def may_lack(name: str) -> bool:
+    """Whether `make test` may leave tests out for lack of a tool: for each that isn't required, or, if the variable OB0_MAY_LACK
+    lists tools, only for those."""
+    listed = os.environ.get("OB0_MAY_LACK")
+    return name not in REQUIRED and (listed is None or name in (it.strip() for it in listed.split(",")))
+
+
 def install(packages: list[str], end: float) -> str | None:
     """Installs Debian's packages by this time of the clock, and returns why that failed, or None."""
     words = [] if os.geteuid() == 0 else ["sudo", "-n"]

@@ -1,8 +1,9 @@
 #!/usr/bin/env python3
 """Packs and installs bin/ob0, the proved program, with its manual page, completions, editor files, pages and examples.
 
-  tools/package.py package                   a Debian package and a .tar.gz with the same tree, a .vsix with the extension for
-                                             VS Code if the modules that it needs are here, and their SHA256SUMS, in bin/
+  tools/package.py package [FOLDER]          a Debian package and a .tar.gz with the same tree, a .vsix with the extension for
+                                             VS Code if the modules that it needs are here, and their SHA256SUMS, in bin/ or
+                                             a folder; beside them TESTED, which says what was tested here and what wasn't
   tools/package.py vsix                      that .vsix alone
   tools/package.py install PREFIX DESTDIR    copies that tree to PREFIX
   tools/package.py uninstall PREFIX DESTDIR  removes what was installed there, or unpacked there from the .tar.gz
@@ -185,12 +186,22 @@ def files_of(source: str) -> list[tuple[str, str]]:
     return [(os.path.relpath(it, source), it) for it in names_below(source) if keeps_pages or not it.endswith(".md")]
 
 
+PASSED = "`make test` has passed on this program"
+
+
 def verdict() -> str:
-    """The result of `make test` on the program that is packed."""
+    """The result of `make test` on the program that is packed. (How many tests were left out, and how many proofs were kept, depends
+    on the machine, so that is in the file TESTED and not in the package: each machine that tests a commit packs the same bytes.)"""
     line = common.stamp().get("gate")
     if not line:
         return "NOT TESTED: each function of this program is proved, and `make test` has not ended on it"
-    return line if " 0 failed" in line else f"FAILED: {line}, by `make test` on this program, each of whose functions is proved"
+    return PASSED if " 0 failed" in line else f"FAILED: {line}, by `make test` on this program, each of whose functions is proved"
+
+
+def tested() -> str:
+    """What was tested on this machine, and how much of the proofs was kept."""
+    found = common.stamp()
+    return f"{verdict()}\n" + "".join(f"{name}: {found[name]}\n" for name in ("gate", "proofs") if found.get(name))
 
 
 def proved() -> bytes:
@@ -467,16 +478,31 @@ def write_packages(found: Tree, folder: str) -> None:
         **extension(),
     }
     sums = "".join(f"{hashlib.sha256(content).hexdigest()}  {name}\n" for name, content in made.items())
-    write_files({**made, "SHA256SUMS": sums.encode()}, folder)
-    for path in (it for pattern in EARLIER for it in glob.glob(os.path.join(folder, pattern))):
-        if os.path.basename(path) not in made:
-            remove(path)
+    write_files({**made, "SHA256SUMS": sums.encode(), "TESTED": tested().encode()}, folder)
+    remove_earlier(folder, made)
     print(sums, end="")
 
 
-def package() -> None:
-    write_packages(tree(), os.path.dirname(common.BINARY))
-    if not re.match(r"\d+ passed, 0 failed", verdict()):
+def remove_earlier(folder: str, made: Iterable[str] = ()) -> None:
+    """Removes the packages of earlier builds from a folder, except those that were just made."""
+    for path in (it for pattern in EARLIER for it in glob.glob(os.path.join(folder, pattern))):
+        if os.path.basename(path) not in made:
+            remove(path)
+
+
+def remove_untested() -> None:
+    """Removes packages from bin/ that say that their program isn't tested, with their sums."""
+    folder = os.path.dirname(common.BINARY)
+    path = os.path.join(folder, "TESTED")
+    if os.path.exists(path) and not read(path).startswith(PASSED.encode()):
+        remove_earlier(folder)
+        for it in ("SHA256SUMS", "TESTED"):
+            remove(os.path.join(folder, it))
+
+
+def package(folder: str) -> None:
+    write_packages(tree(), folder)
+    if verdict() != PASSED:
         print(f"this is not a package for others. PROVED says of its program: {verdict()}")
     if not os.environ.get("DEBEMAIL"):
         print(f"the maintainer's address is {DEFAULT_ADDRESS}, which is nobody's: DEBFULLNAME and DEBEMAIL name yours")
@@ -571,7 +597,7 @@ def main(words: list[str]) -> None:
             return write_files(extension(), os.path.dirname(common.BINARY))
         if command == "package":
             need_program()
-            return package()
+            return package(*places or [os.path.dirname(common.BINARY)])
         prefix, root, *_ = (*places, "", "")
         room = room_of(prefix, root)
         if command == "uninstall":

@@ -58,9 +58,9 @@ class NoProgram(Skipped):
     """A test that wants a program that isn't there yet."""
 
 
-def leave_out(why: str, may_lack: bool = False) -> NoReturn:
-    """Leaves this test out. In `make test` (the variable OB0_WHOLE) it fails instead, unless it's for a tool that may lack there."""
-    if os.environ.get("OB0_WHOLE") and not may_lack:
+def leave_out(why: str, is_allowed: bool = False) -> NoReturn:
+    """Leaves this test out. In `make test` (the variable OB0_WHOLE) it fails instead, unless that is allowed there."""
+    if os.environ.get("OB0_WHOLE") and not is_allowed:
         raise Failed(f"{why}, and the whole test leaves no test out for that")
     raise Skipped(why)
 
@@ -374,13 +374,13 @@ DRIVEN: List[str] = []  # the editors, and the programs in a terminal, that it d
 
 
 def want(*names: str) -> None:
-    """Leaves this test out if one of these tools (of tools/editors.py) is missing; in `make test` it fails for a tool that is required.
+    """Leaves this test out if one of these tools (of tools/editors.py) is missing; in `make test` it fails unless the tool may lack.
     A test that drives an editor and fails is run again (tests/run.py)."""
     WANTED.extend(names)
-    DRIVEN.extend(it for it in names if it in editors.EDITORS)
     missing = [it for it in names if not editors.is_here(it)]
     if missing:
-        leave_out(f"{' and '.join(missing)} missing", not any(it in editors.REQUIRED for it in missing))
+        leave_out(f"{' and '.join(missing)} missing", all(map(editors.may_lack, missing)))
+    DRIVEN.extend(it for it in names if it in editors.EDITORS)
 
 
 def want_proved() -> None:

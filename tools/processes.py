@@ -48,6 +48,22 @@ def end_descendants(top: int) -> None:
         time.sleep(0.01)
 
 
+def interrupt(top: int) -> None:
+    """Ends the processes below a process: its children by the signal of Ctrl-C, so that they put back what they moved, and everything
+    below these by force, so that no child waits for it."""
+    children = [it for it, parent in parents().items() if parent == top]
+    for it in children:
+        with suppress(OSError):
+            os.kill(it, signal.SIGINT)
+    end = time.monotonic() + SECONDS
+    while set(left := descendants(top)) & set(children) and time.monotonic() < end:
+        for it in (it for it in left if it not in children):
+            with suppress(OSError):
+                os.kill(it, signal.SIGKILL)
+        time.sleep(0.05)
+    end_descendants(top)
+
+
 def end_tree(top: int) -> None:
     """Ends a process that has adopted its orphans, and everything below it. (It is stopped first, so that it starts nothing more.)"""
     with suppress(OSError):
