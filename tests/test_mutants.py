@@ -397,7 +397,7 @@ class Unread(Dict[str, str]):
 def drawn() -> None:
     names = [f"{at:03}" for at in range(300)]
     found = mock.Mock(mutants=names, edits={it: it for it in [*names, "299:right"]})
-    with mock.patch.object(os, "environ", Unread()), mock.patch.object(common, "commit", Unread().get):
+    with mock.patch.object(os, "environ", Unread()), mock.patch.object(common, "commit", lambda: Unread()["the commit"]):
         runs = []
         for _ in range(2):
             random.seed(0)

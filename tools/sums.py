@@ -35,7 +35,7 @@ class Definitions(definitions.Sources):
         if "declared" in parts or not name or not parts[1].startswith("ob0_"):
             return None
         file, head = self.file_of(parts[1], parts[3:]), name.partition(".")[0]
-        if file and head not in {**file.named, **file.passed_on}:
+        if file and head not in file.named and head not in file.passed_on:
             # (a definition inside a module of definitions)
             inside = re.compile(rf"\s+(?:\w+ )*{re.escape(head)}(?:\s|$)")
             block = next((it for it in file.blocks if any(map(inside.match, it.code))), None)
