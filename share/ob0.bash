@@ -55,7 +55,7 @@ _ob0_options_or_modules() {
     fi
 }
 
-_ob0_check() { _ob0_options_or_modules --github --json; }
+_ob0_check() { _ob0_options_or_modules --hints --github --json; }
 _ob0_format() { _ob0_options_or_modules --check; }
 
 _ob0_watch() {

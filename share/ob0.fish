@@ -42,6 +42,7 @@ for script in ob0-check ob0-format
     complete -c $script -s h -l help -d 'Print help'
     complete -c $script -s V -l version -d 'Print the version'
 end
+complete -c ob0-check -l hints -d 'Print under an error what was probably meant'
 complete -c ob0-check -l github -d 'Print commands that mark the lines in a GitHub job'
 complete -c ob0-check -l json -d "Print JSON in the form of GitLab's code quality reports"
 complete -c ob0-format -l check -d 'Change nothing, and print the names of the files that are not formatted'

@@ -399,6 +399,21 @@ def check_json() -> None:
     in_folder(MODULES, trial)
 
 
+@test("scripts: ob0-check --hints prints a hint under a message, and beside it in the other forms")
+def check_hints() -> None:
+    text, hint = "MODULE M;\nVAR x: INTEGER;\nBEGIN\n  x = 1\nEND M.\n", "an assignment is written `:=`, as in `x := 1`; `=` compares"
+
+    def trial(work: str, own: dict[str, str]) -> None:
+        words = ["ob0-check", "--hints"]
+        same(ran([*words, "m.mod", "good.mod"], work, own), (1, f"m.mod:4:5: Syntax: expected END\n    hint: {hint}\n", ""), "a hint")
+        same(ran([*words, "two words.Mod"], work, own)[1], "\n".join(LISTED) + "\n", "messages without a hint")
+        marked = f"::error file=m.mod,line=4,col=5::Syntax: expected END%0Ahint: {hint}\n"
+        same(ran([*words, "--github", "m.mod"], work, own)[1], marked, "for GitHub")
+        same(json.loads(ran([*words, "--json", "m.mod"], work, own)[1])[0]["content"], {"body": hint}, "in JSON")
+
+    in_folder({**MODULES, "m.mod": text}, trial)
+
+
 @test("scripts: ob0-check and ob0-format take files of any name")
 def check_names() -> None:
     def trial(work: str, own: dict[str, str]) -> None:

@@ -32,6 +32,7 @@ from typing import Any, Dict, NamedTuple, Tuple, Union
 
 import common
 import glibc
+import manual_page
 import notices
 import vsix
 from common import TOP, match_of
@@ -299,6 +300,12 @@ def indented(text: str) -> str:
     return "".join(f" {it.strip() and it or '.'}\n" for it in text.strip("\n").split("\n"))
 
 
+def messages_page() -> bytes:
+    """The manual page ob0-messages, of the day of all packed files."""
+    day = datetime.datetime.fromtimestamp(moment(), datetime.timezone.utc)
+    return manual_page.of_messages(read("docs", "MESSAGES.md").decode(), version(), f"{day:%Y-%m-%d}")
+
+
 def emacs_package() -> bytes:
     """The file by which Emacs knows the installed package."""
     line = f"""(define-package "ob0-mode" "{version()}" "Major mode for Oberon-0" '((emacs "26.1")))"""
@@ -325,6 +332,7 @@ def tree() -> Tree:
         "bin/ob0": (read("bin", "ob0"), 0o755),
         **{f"bin/{it}": (read("share", it), 0o755) for it in SCRIPTS},
         **{f"share/man/man1/{it}.1.gz": (squeezed(read("share", f"{it}.1")), 0o644) for it in ("ob0", *SCRIPTS)},
+        "share/man/man7/ob0-messages.7.gz": (squeezed(messages_page()), 0o644),
         f"{DOC}/PROVED": (proved(), 0o644),
         f"{DOC}/changelog.gz": (squeezed(changelog()), 0o644),
         f"{DOC}/copyright": (copyright_page(), 0o644),
