@@ -361,6 +361,11 @@ class Work:
             raise
         return self.end()
 
+    def only(self, path: str, function: Callable[[], int]) -> int:
+        """Does one thing with a path, and returns the status."""
+        self.try_one(path, function)
+        return self.end()
+
     def end(self) -> int:
         """Returns the highest status, after a complaint if standard output has failed."""
         if self.out.why:
