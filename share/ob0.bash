@@ -55,8 +55,9 @@ _ob0_options_or_modules() {
     fi
 }
 
-_ob0_check() { _ob0_options_or_modules --github --json; }
-_ob0_format() { _ob0_options_or_modules --check; }
+_ob0_check() { _ob0_options_or_modules --hints --github --json; }
+_ob0_format() { _ob0_options_or_modules --check --diff; }
+_ob0_rename() { _ob0_options_or_modules -i --in-place; }
 
 _ob0_watch() {
     local word=${COMP_WORDS[COMP_CWORD]} first=1
@@ -84,4 +85,5 @@ shopt -s extglob
 complete -o bashdefault -o default -F _ob0 ob0
 complete -o bashdefault -o default -F _ob0_check ob0-check
 complete -o bashdefault -o default -F _ob0_format ob0-format
+complete -o bashdefault -o default -F _ob0_rename ob0-rename
 complete -o bashdefault -o default -F _ob0_watch ob0-watch

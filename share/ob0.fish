@@ -37,14 +37,17 @@ complete -c ob0 -n '__fish_seen_subcommand_from serve' -l clientProcessId -x -d 
 complete -c ob0 -s h -l help -d 'Print help'
 complete -c ob0 -n __fish_use_subcommand -s V -l version -d 'Print the version'
 
-for script in ob0-check ob0-format
+for script in ob0-check ob0-format ob0-rename
     complete -c $script -f -a '(__ob0_modules)'
     complete -c $script -s h -l help -d 'Print help'
     complete -c $script -s V -l version -d 'Print the version'
 end
+complete -c ob0-check -l hints -d 'Print under an error what was probably meant'
 complete -c ob0-check -l github -d 'Print commands that mark the lines in a GitHub job'
 complete -c ob0-check -l json -d "Print JSON in the form of GitLab's code quality reports"
 complete -c ob0-format -l check -d 'Change nothing; list the files that are not formatted'
+complete -c ob0-format -l diff -d 'Change nothing, and print what would change'
+complete -c ob0-rename -s i -l in-place -d 'Replace the file'
 
 # Prints the words before the cursor that follow ob0-watch and its report.
 function __ob0_watch_words

@@ -9,6 +9,9 @@ from collections.abc import Iterator
 from typing import Any, IO
 
 import harness
+import manual_page
+import ob0_hints
+import package
 from common import match_of
 from harness import (
     Content,
@@ -20,6 +23,7 @@ from harness import (
     ends,
     holds,
     initialize,
+    need_program,
     notice,
     on_file,
     place,
@@ -30,6 +34,7 @@ from harness import (
     test,
     text_of,
 )
+from hinted import first_error
 from snippets import FENCED
 
 PAGE = text_of("docs", "MESSAGES.md")
@@ -167,6 +172,26 @@ def run_ends() -> None:
         holds(flags in page, f"{name} has no {flags}")
 
 
+@test("messages: each rule of the hints has a row on the page to which it gives its hint, and each row with `expected END` has a hint")
+def rules_and_rows() -> None:
+    need_program()
+    modules = {"Statements": STATEMENTS, "Declarations": DECLARATIONS, "Whole texts": None}
+    given: list[ob0_hints.Rule] = []
+    with Server() as server:
+        for title, module in modules.items():
+            for written, _, explained in rows(title):
+                snippet = code_in(written)
+                found = first_error(server, filled(module, snippet) if module else snippet)
+                if found and found.message == "expected END":
+                    holds(found.hint, f"no hint for {snippet}")
+                if found and found.rule and found.rule["see"] == snippet:
+                    given.append(found.rule)
+                    holds(explained, f"no explanation of {snippet}")
+    listed = {(it["see"], it["hint"]): it for rules in ob0_hints.rules().values() for it in rules}
+    same(sorted(it for it in listed if listed[it] not in given), [], "rules whose rows are missing or have another hint")
+    same(len({it["see"] for it in listed.values()}), len(listed), "how many rows the rules have")
+
+
 TITLES = ["Inline here", "Inline everywhere"]
 
 
@@ -271,6 +296,17 @@ def protocol() -> None:
         found = [it for it in serve([*said, EXIT]).contents() if '"error"' in it]
         same(len(found), 1, f"errors of {message}")
         holds(f'"error":{{"code":{listed[message]},"message":"{message}"}}' in found[0], f"{message}: {found[0]}")
+
+
+@test("messages: the manual page that is made from the page has each row of its tables, under its first cell")
+def made_manual() -> None:
+    made = package.messages_page().decode()
+    # (each table has a line of heads and one of dashes)
+    lines = [it for it in PAGE.splitlines() if it.startswith("|")]
+    same(made.count("\n.TP\n"), len(lines) - 2 * sum(it.startswith("|---") for it in lines), "how many rows")
+    for title in ("Index by message", "Statements", "Declarations", "Whole texts", "Ends of a run"):
+        for row in rows(title):
+            holds(f"\n.TP\n{manual_page.inline(row[0])}\n" in made, f"no row {row[0]}")
 
 
 @test("messages: the manual page has each code, end, refusal and fault")

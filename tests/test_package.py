@@ -333,6 +333,8 @@ def in_shells() -> None:
         want("man")
         status, said = run_plainly(["man", "-M", os.path.join(usr, "share", "man"), "ob0"], environment, work)
         holds(status == 0 and "CallBound" in said, f"man ob0: {said[:300]}")
+        status, said = run_plainly(["man", "-M", os.path.join(usr, "share", "man"), "ob0-messages"], environment, work)
+        holds(status == 0 and "expected END" in said, f"man ob0-messages: {said[:300]}")
 
 
 SHELLS = {

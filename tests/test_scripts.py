@@ -84,6 +84,72 @@ def in_bytes() -> None:
     in_folder({"m.mod": text}, trial)
 
 
+@test("scripts: ob0-format formats standard input to standard output, folders, and prints differences")
+def format_forms() -> None:
+    def trial(work: str, own: dict[str, str]) -> None:
+        same(ran(["ob0-format", "-"], work, own, LOOSE), (0, LAID_OUT, ""), "standard input")
+        same(ran(["ob0-format", "-"], work, own, LAID_OUT.replace("\n", "\r\n")), (0, LAID_OUT.replace("\n", "\r\n"), ""), "with CR LF")
+        said = "- has errors, so it isn't formatted: `ob0-check` lists them\n"
+        same(ran(["ob0-format", "-"], work, own, FAULTY), (1, "", said), "standard input with errors")
+        same(ran(["ob0-format", "--check", "-"], work, own, LOOSE), (1, "-\n", ""), "standard input with --check")
+        for name in ("good.mod", "loose.ob0"):
+            status, out, err = ran(["ob0-format", "--diff", name], work, own)
+            if out:
+                same(ran(["patch", "-s", "-o", "patched", name], work, own, out), (0, "", ""), "patch")
+            made = text_of(work, "patched") if out else text_of(work, name)
+            same((status, made, err), (int(bool(out)), LAID_OUT, ""), f"the differences of {name}")
+        ended = ran(["ob0-format", "--diff", "-"], work, own, LOOSE[:-1])[1]
+        holds("\n\\ No newline at end of file\n+MODULE M;\n" in ended and ended.startswith("--- -\n+++ -\n@@ "), ended)
+        os.unlink(os.path.join(work, "two words.Mod"))
+        same(ran(["ob0-format", "."], work, own), (0, "loose.ob0\n", ""), "a folder")
+        same(ran(["ob0-format", "--check", "."], work, own), (0, "", ""), "the folder after that")
+        same(ran(["ob0-format", "--check", "--diff", "."], work, own)[0], 2, "two modes")
+
+    in_folder(MODULES, trial)
+
+
+RENAMED = "MODULE M;\nVAR x, y: INTEGER;\n  PROCEDURE P(z: INTEGER);\n  BEGIN (* \U0001f600 *) x := z + y\n  END P;\nBEGIN P(1)\nEND M.\n"
+
+
+@test("scripts: ob0-rename renames by a place counted from 1 in characters, prints or replaces, and says a refusal in words")
+def rename_script() -> None:
+    refusals = {
+        "m.mod:2:5 y": (1, "m.mod:2:5: `y` is declared in line 2 already, in the same block or record"),
+        "m.mod:2:5 z": (1, "m.mod:2:5: with the new name, `x` in line 4 would refer to another declaration"),
+        "m.mod:2:5 END": (1, "m.mod:2:5: the new name isn't one: letters and digits, a letter first, and no reserved word"),
+        "m.mod:2:5 \u00e4": (1, "m.mod:2:5: the new name isn't one: letters and digits, a letter first, and no reserved word"),
+        "m.mod:2:11 N": (1, "m.mod:2:11: a predeclared name can't be renamed"),
+        "m.mod:1:8 N": (1, "m.mod:1:8: there is no name here that can be renamed"),
+        "m.mod:99:8 N": (1, "m.mod:99:8: there is no name here that can be renamed"),
+        "m.mod:4:200 N": (1, "m.mod:4:200: there is no name here that can be renamed"),
+        "bad.mod:2:5 N": (1, "bad.mod: it has errors, so nothing is renamed: `ob0-check` lists them"),
+        "nowhere:1:1 N": (4, "nowhere: No such file or directory"),
+    }
+    defined = re.findall(r"^\| `(\w+)", text_of("docs", "PROTOCOL.md").partition("## Refusals of edits")[2].partition("\n## ")[0], re.M)
+    holds({*re.findall(r'^    "(\w+)": "', text_of("share", "ob0-rename"), re.M)} < {*defined}, "the script has other refusals")
+
+    def trial(work: str, own: dict[str, str]) -> None:
+        new = RENAMED.replace("x", "new")
+        for place in ("2:5", "4:17"):
+            same(ran(["ob0-rename", f"m.mod:{place}", "new"], work, own), (0, new, ""), place)
+        same(ran(["ob0-rename", "/dev/stdin:2:5", "new"], work, own, RENAMED), (0, new, ""), "standard input")
+        for words, (status, said) in refusals.items():
+            same(ran(["ob0-rename", "-i", *words.split()], work, own), (status, "", said + "\n"), words)
+        same(text_of(work, "m.mod"), RENAMED, "what refusals leave")
+        for place in ("m.mod", "m.mod:2", "m.mod:0:5", "m.mod:2:x", ":2:5"):
+            same(ran(["ob0-rename", place, "new"], work, own)[:2], (2, ""), place)
+        os.chmod(os.path.join(work, "m.mod"), 0o640)
+        same(ran(["ob0-rename", "-i", "m.mod:2:5", "new"], work, own), (0, "", ""), "in place")
+        same((text_of(work, "m.mod"), os.stat(os.path.join(work, "m.mod")).st_mode & 0o777), (new, 0o640), "the file")
+        same(ran(["ob0-rename", "-i", "a:b\udcff.mod:2:5", "new"], work, own), (0, "", ""), "an odd name")
+        os.chmod(os.path.join(work, "m.mod"), 0o440)
+        same(ran(["ob0-rename", "-i", "m.mod:2:5", "n"], work, own), (4, "", "m.mod: it is read-only\n"), "a read-only file")
+        full = ran(["sh", "-c", "exec ob0-rename m.mod:2:5 n > /dev/full"], work, own)
+        same(full, (4, "", "ob0-rename: standard output can't be written: No space left on device\n"), "a full disk")
+
+    in_folder({"m.mod": RENAMED, "bad.mod": FAULTY, "a:b\udcff.mod": RENAMED}, trial)
+
+
 @test("scripts: ob0-format ends with 2 for its command line and with 4 for files, and goes on with the others")
 def format_statuses() -> None:
     def trial(work: str, own: dict[str, str]) -> None:
@@ -397,6 +463,21 @@ def check_json() -> None:
         same(len({it["fingerprint"] for it in found}), 3, "the fingerprints")
 
     in_folder(MODULES, trial)
+
+
+@test("scripts: ob0-check --hints prints a hint under a message, and beside it in the other forms")
+def check_hints() -> None:
+    text, hint = "MODULE M;\nVAR x: INTEGER;\nBEGIN\n  x = 1\nEND M.\n", "an assignment is written `:=`, as in `x := 1`; `=` compares"
+
+    def trial(work: str, own: dict[str, str]) -> None:
+        words = ["ob0-check", "--hints"]
+        same(ran([*words, "m.mod", "good.mod"], work, own), (1, f"m.mod:4:5: Syntax: expected END\n    hint: {hint}\n", ""), "a hint")
+        same(ran([*words, "two words.Mod"], work, own)[1], "\n".join(LISTED) + "\n", "messages without a hint")
+        marked = f"::error file=m.mod,line=4,col=5::Syntax: expected END%0Ahint: {hint}\n"
+        same(ran([*words, "--github", "m.mod"], work, own)[1], marked, "for GitHub")
+        same(json.loads(ran([*words, "--json", "m.mod"], work, own)[1])[0]["content"], {"body": hint}, "in JSON")
+
+    in_folder({**MODULES, "m.mod": text}, trial)
 
 
 @test("scripts: ob0-check and ob0-format take files of any name")

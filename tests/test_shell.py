@@ -34,10 +34,12 @@ OFFERED = [
     ("ob0 rename ", MODULES),
     ("ob0 rename a", ["a.ob0"]),
     ("ob0-check ", MODULES),
-    ("ob0-check --", ["--github", "--help", "--json", "--version"]),
+    ("ob0-check --", ["--github", "--help", "--hints", "--json", "--version"]),
     ("ob0-format ", MODULES),
     ("ob0-format --check a.ob0 ", MODULES),
-    ("ob0-format --", ["--check", "--help", "--version"]),
+    ("ob0-format --", ["--check", "--diff", "--help", "--version"]),
+    ("ob0-rename --", ["--help", "--in-place", "--version"]),
+    ("ob0-rename ", MODULES),
     ("ob0-watch ", [*COMMANDS, "help"]),
     ("ob0-watch --", ["--", "--help", "--report", "--version"]),
     ("ob0-watch --report ", FILES),
@@ -148,6 +150,9 @@ def manual() -> None:
     for it in ("ob0.1", *(f"{it}.1" for it in package.SCRIPTS)):
         status, said = run_plainly(["mandoc", "-Tlint", "-W", "warning", os.path.join(SHARE, it)], dict(os.environ), TOP)
         same((status, said), (0, ""), f"mandoc -Tlint {it}")
+    with temporary() as room:
+        write(os.path.join(room, "ob0-messages.7"), package.messages_page().decode())
+        same(run_plainly(["mandoc", "-Tlint", "-W", "warning", "ob0-messages.7"], dict(os.environ), room), (0, ""), "mandoc -Tlint ob0-messages.7")
 
 
 PAGES = ["README.md", "examples/README.md"]

@@ -33,6 +33,7 @@ from typing import Any, Dict, NamedTuple, Tuple, Union
 
 import common
 import glibc
+import manual_page
 import notices
 import vsix
 from common import TOP, match_of
@@ -48,7 +49,7 @@ SHARED = {"bin", "share", "share/man"}
 # the one file that others hold the copyright of
 PARSER, PARSER_HOLDER = "editors/tree-sitter/src/tree_sitter/parser.h", "2018-2024 Max Brunsfeld"
 # the scripts beside the program, each with a manual page
-SCRIPTS = ("ob0-check", "ob0-format", "ob0-watch")
+SCRIPTS = ("ob0-check", "ob0-format", "ob0-rename", "ob0-watch")
 DEFAULT_NAME, DEFAULT_ADDRESS = "The authors of ob0", "ob0@example.org"
 
 # where a file or a folder of the repository goes
@@ -310,6 +311,12 @@ def indented(text: str) -> str:
     return "".join(f" {it.strip() and it or '.'}\n" for it in text.strip("\n").split("\n"))
 
 
+def messages_page() -> bytes:
+    """The manual page ob0-messages, of the day of all packed files."""
+    day = datetime.datetime.fromtimestamp(moment(), datetime.timezone.utc)
+    return manual_page.of_messages(read("docs", "MESSAGES.md").decode(), version(), f"{day:%Y-%m-%d}")
+
+
 def emacs_package() -> bytes:
     """The file by which Emacs knows the installed package."""
     line = f"""(define-package "ob0-mode" "{version()}" "Major mode for Oberon-0" '((emacs "26.1")))"""
@@ -336,6 +343,7 @@ def tree() -> Tree:
         "bin/ob0": (read("bin", "ob0"), 0o755),
         **{f"bin/{it}": (read("share", it), 0o755) for it in SCRIPTS},
         **{f"share/man/man1/{it}.1.gz": (squeezed(read("share", f"{it}.1")), 0o644) for it in ("ob0", *SCRIPTS)},
+        "share/man/man7/ob0-messages.7.gz": (squeezed(messages_page()), 0o644),
         f"{DOC}/PROVED": (proved(), 0o644),
         f"{DOC}/changelog.gz": (squeezed(changelog()), 0o644),
         f"{DOC}/copyright": (copyright_page(), 0o644),
@@ -416,9 +424,9 @@ Description: language server, checker and interpreter for Oberon-0
  .
  The package has files for Neovim, Vim, Emacs, Kate, Kakoune, nano and editors
  with GtkSourceView, completions for bash, zsh and fish, and scripts:
- ob0-check lists the errors of several files, ob0-format formats files, and
- ob0-watch reports whether an editor keeps the rules under which ob0's
- promises hold.
+ ob0-check lists the errors of several files, ob0-format formats files,
+ ob0-rename renames in a file, and ob0-watch reports whether an editor keeps
+ the rules under which ob0's promises hold.
 """.encode()
 
 

@@ -155,10 +155,15 @@ class Place(NamedTuple):
     column: int
 
 
+def offset_of(starts: List[int], position: Dict[str, int]) -> int:
+    """Returns the offset of a position of the server's, whose characters are bytes."""
+    return starts[position["line"]] + position["character"]
+
+
 def place_of(text: bytes, starts: List[int], position: Dict[str, int]) -> Place:
-    """Returns the place of a position of the server's, whose characters are bytes."""
-    start = starts[position["line"]]
-    return Place(position["line"] + 1, len(text[start : start + position["character"]].decode(errors="replace")) + 1)
+    """Returns the place of a position of the server's."""
+    before = text[starts[position["line"]] : offset_of(starts, position)]
+    return Place(position["line"] + 1, len(before.decode(errors="replace")) + 1)
 
 
 def bytes_of(path: str) -> bytes:
@@ -354,6 +359,11 @@ class Work:
             if self.server:
                 self.server.end_at_once()
             raise
+        return self.end()
+
+    def only(self, path: str, function: Callable[[], int]) -> int:
+        """Does one thing with a path, and returns the status."""
+        self.try_one(path, function)
         return self.end()
 
     def end(self) -> int:

@@ -21,7 +21,8 @@ from typing import Any, Callable, IO, List, NoReturn, Tuple, TypeVar, Union
 
 TOP = os.path.dirname(os.path.dirname(os.path.dirname(os.path.abspath(__file__))))
 # (in front: packages of Python that are installed here have such names as `package` and `editors`)
-sys.path[:0] = [os.path.join(TOP, *it) for it in (["tests"], ["tests", "lib"], ["tests", "inputs"], ["tools"], ["bench"])]
+PARTS = (["tests"], ["tests", "lib"], ["tests", "inputs"], ["share", "ob0"], ["tools"], ["bench"])
+sys.path[:0] = [os.path.join(TOP, *it) for it in PARTS]
 
 import common  # noqa: E402
 import editors  # noqa: E402
