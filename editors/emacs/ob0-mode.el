@@ -27,7 +27,8 @@
   :type 'string)
 
 (defcustom ob0-mod t
-  "Whether files that end in .mod or .Mod are Oberon-0 if they begin with MODULE."
+  "Whether files that end in .mod or .Mod are Oberon-0 if they begin with MODULE.
+The case of this word doesn't matter."
   :type 'boolean)
 
 (defcustom ob0-indent-offset 2
@@ -319,14 +320,20 @@ From a start go to the one before; with a negative ARG to the next."
   (add-hook 'electric-indent-functions #'ob0--ends-word nil t))
 
 (defun ob0-begins-with-module ()
-  "Whether the first word of this buffer, comments left out, is MODULE.
-What follows doesn't matter: a slip there is for the server to tell."
+  "Whether the first word of this buffer, after comments, is MODULE in any case.
+The rest doesn't matter, since the server reports a slip there.  In Go's files a
+path follows `module', or the file is go.mod."
   (save-excursion
     (goto-char (point-min))
     (with-syntax-table ob0-mode-syntax-table
       (forward-comment (buffer-size)))
-    (let ((case-fold-search nil))
-      (looking-at "MODULE\\(?:[^A-Za-z0-9_]\\|\\'\\)"))))
+    (let ((word "MODULE\\(?:[^A-Za-z0-9_]\\|\\'\\)") (case-fold-search nil))
+      (or (looking-at word)
+          (progn
+            (setq case-fold-search t)
+            (and (looking-at word)
+                 (not (looking-at "MODULE[ \t]+[^ \t\n]*[./][a-z0-9]"))
+                 (not (equal (file-name-nondirectory (or buffer-file-name "")) "go.mod"))))))))
 
 ;;;###autoload
 (defun ob0-maybe-mode ()
