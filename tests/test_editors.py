@@ -604,11 +604,18 @@ def in_vscode_by(*kind: str, folder: str = vsix.FOLDER) -> None:
     same(found["tasks"], {**tasks, "resolved": ["mine", file]}, "the tasks")
     unsaved = "The file wasn't saved, so there is nothing to run."
     same(found["unsaved"], {"ran": [os.path.join(os.path.dirname(file), "named.mod")], "said": [unsaved, unsaved]}, "files that aren't saved")
-    told = ["Request textDocument/formatting failed."] if "real" in kind else []
-    ill_typed = "the module has an error: fix the first one that is marked (ill-typed)"
-    same((found["faulty"], found["told"]), (ill_typed, told), "a layout of a module with a fault, and what is shown of it")
-    refused = ["line 3: `Write` would mean another declaration (Captures)", "line 2: `j` is declared there already (Duplicate)"]
+    ill_typed = f"ob0: {ILL_TYPED}"
+    faulty: dict[str, Any] = {it: [False, [ill_typed]] for it in ("layout", "hover", "definition")}
+    no_name = f"ob0: {REFUSED_RENAMES[-1][2]}"
+    faulty = {**faulty, "prepare": [ill_typed, []], "unnamed": no_name}
+    same((found["faulty"], found["told"]), (faulty, []), "what is said in a module with an error, and shown over it")
+    refused = [
+        "with the new name, `Write` in line 3 would refer to another declaration (Captures)",
+        "`j` is declared in line 2 already (Duplicate)",
+    ]
     same(found["refused"], refused, "renames that are refused, with the lines as the editor counts them")
+    formatted = MADE_AT_ONCE["layout"].replace("\n", "\r\n")
+    same(found["carriageReturns"], [True, 0, formatted], "a text with CR LF that is formatted")
     same(found["edits"]["made"], MADE_AT_ONCE, "what answers leave that come at once")
     same(found["edits"]["late"], MADE_LATE, "what answers leave that come after a change")
     same(found["edits"]["said"], ["The text was changed since the action was offered: ask for it again."], "what is said of an old action")
