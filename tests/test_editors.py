@@ -330,12 +330,66 @@ def neovim_emptied() -> None:
     same(in_neovim("emptied", CALLS), [("opened", []), *[("left to do", [])] * 3, ("ended", ENDED)])
 
 
-@test("Neovim: a refused rename is told with the line that Neovim shows, and a format of a module with an error says so")
+REFUSING = """MODULE M;
+VAR x, y: INTEGER;
+  PROCEDURE P(z: INTEGER);
+  BEGIN (* \u00e4\U0001f600 *) x := z + y
+  END P;
+BEGIN Write(1)
+END M.
+"""
+ILL_TYPED = "the module has an error: fix the first one that is marked (ill-typed)"
+# renames of REFUSING that are refused: a place, the new name, and what an editor shows
+REFUSED_RENAMES = [
+    ([1, 4], "y", "`y` is declared in line 2 already (Duplicate)"),
+    ([1, 4], "z", "with the new name, `x` in line 4 would refer to another declaration (Captures)"),
+    ([1, 4], "END", "the new name isn't one: letters and digits, a letter first, and no reserved word (BadName)"),
+    (
+        [0, 7],
+        "other",
+        "there is no name here that can be renamed: predeclared names and the module's own can't (NoName)",
+    ),
+]
+
+
+@test("Neovim: a refused rename is told in words, and so is what finds nothing while the module has an error")
 def neovim_refused() -> None:
-    text = "MODULE M;\nVAR x, y: INTEGER;\n  PROCEDURE P(z: INTEGER);\n  BEGIN (* \u00e4\U0001f600 *) x := z + y\n  END P;\nBEGIN P(1)\nEND M.\n"
-    steps = [("y", "line 2: `y` is declared there already (Duplicate)"), ("z", "line 4: `x` would mean another declaration (Captures)"), ("END", "BadName")]
-    told = ("format", "ob0: the module has an error: fix the first one that is marked (ill-typed)")
-    same(in_neovim("refused", text, place=[1, 4], names=["y", "z", "END"]), [("opened", []), *steps, told, ("ended", ENDED)])
+    steps = [(name, f"ob0: {words}") for _, name, words in REFUSED_RENAMES]
+    told = [(it, f"ob0: {ILL_TYPED}") for it in ("rename", "hover", "definition", "format")]
+    found = in_neovim("refused", REFUSING, renames=[it[:2] for it in REFUSED_RENAMES])
+    same(found, [("opened", []), *steps, *told, ("ended", ENDED)])
+
+
+def refused_in_emacs(editor: Client, end: Steps) -> None:
+    steps = [(name, f"ob0: {words}") for _, name, words in REFUSED_RENAMES]
+    told = [(it, f"ob0: {ILL_TYPED}") for it in ("rename", "definition", "format")]
+    found = editor("refused", REFUSING, renames=[it[:2] for it in REFUSED_RENAMES])
+    same(found, [("opened", []), *steps, *told, *end])
+
+
+@test("Emacs: a refused rename is told in words, and so is what finds nothing while the module has an error")
+def emacs_refused() -> None:
+    refused_in_emacs(in_emacs, [("ended", 0)])
+
+
+@test("lsp-mode: a refused rename is told in words, and so is what finds nothing while the module has an error")
+def lsp_mode_refused() -> None:
+    refused_in_emacs(in_lsp_mode, [])
+
+
+@test("Vim: by ALE a refused rename is told in words, and so is what finds nothing while the module has an error")
+def vim_refused() -> None:
+    steps = [(name, f"ob0: {words}") for _, name, words in REFUSED_RENAMES]
+    told = [(it, f"ob0: {ILL_TYPED}") for it in ("rename", "hover", "definition")]
+    found = in_vim("refused", REFUSING, renames=[it[:2] for it in REFUSED_RENAMES], title="")
+    same(found, [("opened", []), *steps, *told])
+
+
+@test("Neovim: the prompt of a rename begins with the name, after letters that aren't ASCII too")
+def neovim_prompted() -> None:
+    column = len("  BEGIN (* \u00e4\U0001f600 *) ".encode())
+    found = in_neovim("prompted", REFUSING.replace("x", "total"), place=[3, column])
+    same(found, [("opened", []), ("prompted", "total"), ("ended", ENDED)])
 
 
 @test("Neovim: where it shows no messages with diagnostics, ob0's files do, unless the user has them not")
@@ -550,11 +604,18 @@ def in_vscode_by(*kind: str, folder: str = vsix.FOLDER) -> None:
     same(found["tasks"], {**tasks, "resolved": ["mine", file]}, "the tasks")
     unsaved = "The file wasn't saved, so there is nothing to run."
     same(found["unsaved"], {"ran": [os.path.join(os.path.dirname(file), "named.mod")], "said": [unsaved, unsaved]}, "files that aren't saved")
-    told = ["Request textDocument/formatting failed."] if "real" in kind else []
-    ill_typed = "the module has an error: fix the first one that is marked (ill-typed)"
-    same((found["faulty"], found["told"]), (ill_typed, told), "a layout of a module with a fault, and what is shown of it")
-    refused = ["line 3: `Write` would mean another declaration (Captures)", "line 2: `j` is declared there already (Duplicate)"]
+    ill_typed = f"ob0: {ILL_TYPED}"
+    faulty: dict[str, Any] = {it: [False, [ill_typed]] for it in ("layout", "hover", "definition")}
+    no_name = f"ob0: {REFUSED_RENAMES[-1][2]}"
+    faulty = {**faulty, "prepare": [ill_typed, []], "unnamed": no_name}
+    same((found["faulty"], found["told"]), (faulty, []), "what is said in a module with an error, and shown over it")
+    refused = [
+        "with the new name, `Write` in line 3 would refer to another declaration (Captures)",
+        "`j` is declared in line 2 already (Duplicate)",
+    ]
     same(found["refused"], refused, "renames that are refused, with the lines as the editor counts them")
+    formatted = MADE_AT_ONCE["layout"].replace("\n", "\r\n")
+    same(found["carriageReturns"], [True, 0, formatted], "a text with CR LF that is formatted")
     same(found["edits"]["made"], MADE_AT_ONCE, "what answers leave that come at once")
     same(found["edits"]["late"], MADE_LATE, "what answers leave that come after a change")
     same(found["edits"]["said"], ["The text was changed since the action was offered: ask for it again."], "what is said of an old action")

@@ -309,6 +309,22 @@ def made_manual() -> None:
             holds(f"\n.TP\n{manual_page.inline(row[0])}\n" in made, f"no row {row[0]}")
 
 
+# the files that put the answers of an editor's server into words
+IN_WORDS = ["neovim/lua/ob0.lua", "vscode/extension.js", "emacs/ob0-mode.el", "vim/ale_linters/ob0/ob0.vim"]
+
+
+@test("messages: each refusal has words, and each editor's files that show it have the same")
+def in_words() -> None:
+    told = {code_in(answer): words for answer, words in rows("What editors show")}
+    listed = [code_in(it[0]).split()[0] for it in rows("Refusals of a rename or an inlining")]
+    same(list(told), [*listed, "ill-typed"], "the answers")
+    for path in IN_WORDS:
+        text = text_of("editors", path)
+        for answer, words in told.items():
+            holds(f'"{words}"' in text, f"editors/{path} doesn't say {words!r}")
+            holds(words.endswith(f"({answer})"), f"the words of {answer} don't end with it")
+
+
 @test("messages: the manual page has each code, end, refusal and fault")
 def manual() -> None:
     page = re.sub(r"\\f.", "", text_of("share", "ob0.1").replace("\\-", "-"))

@@ -234,7 +234,8 @@ FILES = [
     ("a.ob0", "x", True),
     ("a.mod", "MODULE M;", True),
     ("a.Mod", "(* two\n (* lines *) *)\n\n  MODULE M;", True),
-    ("go.mod", "module example.com/x", False),
+    ("go.mod", "module x", False),
+    ("tools.mod", "module example.com/x", False),
     ("b.mod", "IMPLEMENTATION MODULE M;", False),
     ("c.mod", "DEFINITION MODULE M;", False),
     ("d.mod", "(* MODULE M; *) x", False),
@@ -248,7 +249,10 @@ FILES = [
     ("k.mod", "MODULE 1st;\nEND 1st.", True),
     ("l.Mod", "MODULE", True),
     ("m.mod", "MODULES M;", False),
-    ("n.mod", "Module M;", False),
+    ("n.mod", "Module M;", True),
+    ("q.mod", "module m;\nbegin end m.", True),
+    ("r.mod", "(* a *) mODULE", True),
+    ("s.mod", "modules m;", False),
     ("o.mod", "MODULE_M;", False),
     ("p.mod", "(* MODULE M;", False),
 ]
@@ -537,7 +541,7 @@ def settings() -> None:
     first = re.compile(package["contributes"]["languages"][0]["firstLine"])
     for file, text, taken in FILES:
         line = text.split("\n")[0]
-        if "MODULE" in line and "(* two" not in line:
+        if "module" in line.lower() and "(* two" not in line and file != "go.mod":
             same(bool(first.search(line)), taken, f"whether VS Code takes {line} as Oberon-0")
     for it in package["main"], package["contributes"]["languages"][0]["configuration"], package["contributes"]["grammars"][0]["path"]:
         holds(os.path.isfile(os.path.join(TOP, "editors", "vscode", it)), f"package.json names {it}")

@@ -2,11 +2,19 @@
 declare-option -docstring 'the program ob0: its name, or the path of its file' str ob0_program ob0
 
 hook global BufCreate .*\.ob0 %{ set-option buffer filetype ob0 }
-# (the endings .mod and .Mod belong to others too: such a file is taken only if its first word is MODULE, after comments,
-# whatever follows; a new file has no first word yet, so it is looked at when it is saved too)
+# (the endings .mod and .Mod belong to others too: such a file is taken only if its first word is MODULE in any case, after
+# comments, whatever follows, except a path as in Go's files; a new file has no first word yet, so it is examined when it is
+# saved too)
 define-command -hidden ob0-detect %{ try %{
     evaluate-commands -draft %{
-        execute-keys '%s\A(?:\s|\(\*(?:.|\n)*?\*\)|\*\))*MODULE\b<ret>'
+        execute-keys '%s\A(?:\s|\(\*(?:.|\n)*?\*\)|\*\))*\K(?i)MODULE\b[^\n]*<ret>'
+        evaluate-commands %sh{
+            case "${kak_bufname##*/} $kak_selection" in
+            *' MODULE'*) ;;
+            'go.mod '*) echo fail ;;
+            *) if printf %s "$kak_selection" | grep -Eq '^.{6}[[:blank:]]+[^[:blank:]]*[./][[:alnum:]]'; then echo fail; fi ;;
+            esac
+        }
         set-option buffer filetype ob0
     }
 } }

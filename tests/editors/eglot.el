@@ -157,6 +157,21 @@
     (ob0-report "changes" (- (buffer-chars-modified-tick) tick)))
   (ob0-report "text again" (ob0-text)))
 
+(defun ob0-said-by (command)
+  "What the user reads after a COMMAND that is refused."
+  (condition-case why (progn (funcall command) "nothing") (error (error-message-string why))))
+
+(defun ob0-refused ()
+  "Renames that are refused, and what is asked while the module has an error."
+  (dolist (it (alist-get 'renames ob0-given))
+    (apply #'ob0-goto (car it))
+    (ob0-report (cadr it) (ob0-said-by (lambda () (eglot-rename (cadr it))))))
+  (ob0-after (lambda () (ob0-goto 0 0) (end-of-line) (insert "$")))
+  (ob0-goto 1 4)
+  (ob0-report "rename" (ob0-said-by (lambda () (eglot-rename "q"))))
+  (ob0-report "definition" (ob0-said-by (lambda () (xref-find-definitions "LSP identifier at point."))))
+  (ob0-report "format" (ob0-said-by #'eglot-format-buffer)))
+
 (defun ob0-end (server)
   "Shuts the SERVER down as eglot does, and waits for its end."
   (let ((process (jsonrpc--process server)))

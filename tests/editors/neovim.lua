@@ -257,30 +257,62 @@ function steps.emptied(client)
   end
 end
 
--- What is said of edits that are refused.
-function steps.refused()
-  say("opened", diagnosed(0))
-  local said = nil
+-- What is said after each of some steps: everything that Neovim and ob0's files say.
+local function said_by(does)
+  local said = {}
   vim.notify = function(text)
-    said = text
+    table.insert(said, text)
   end
   vim.api.nvim_echo = function(chunks)
-    said = chunks[1][1]
+    table.insert(said, chunks[1][1])
   end
   vim.api.nvim_err_writeln = vim.notify
-  for _, name in ipairs(given.names) do
-    said = nil
-    go(given.place)
-    vim.lsp.buf.rename(name)
-    await("what is said", function()
-      return said ~= nil
-    end)
-    say(name, (said:gsub("^.-: %-?%d+: ", "")))
+  does()
+  await("what is said", function()
+    return #said > 0
+  end)
+  vim.wait(100)
+  return table.concat(said, " | ")
+end
+
+local asked_in_error = {
+  rename = function()
+    vim.lsp.buf.rename("q")
+  end,
+  hover = vim.lsp.buf.hover,
+  definition = vim.lsp.buf.definition,
+  format = lay_out,
+}
+
+-- What is said of edits that are refused, and of what is asked while the module has an error.
+function steps.refused()
+  say("opened", diagnosed(0))
+  for _, it in ipairs(given.renames) do
+    say(it[2], said_by(function()
+      go(it[1])
+      vim.lsp.buf.rename(it[2])
+    end))
   end
   after(keys("ggO$<Esc>"))
-  said = nil
-  lay_out()
-  say("format", said)
+  for _, name in ipairs({ "rename", "hover", "definition", "format" }) do
+    go(given.renames[1][1])
+    say(name, said_by(asked_in_error[name]))
+  end
+end
+
+-- What the prompt of a rename begins with.
+function steps.prompted()
+  say("opened", diagnosed(0))
+  local prompt = nil
+  vim.ui.input = function(settings)
+    prompt = settings.default
+  end
+  go(given.place)
+  vim.lsp.buf.rename()
+  await("the prompt", function()
+    return prompt
+  end)
+  say("prompted", prompt)
 end
 
 -- The messages that are shown with diagnostics where Neovim shows none.

@@ -80,10 +80,19 @@ class LanguageClient {
     const provideCodeActions = through("provideCodeActions", async (document, range, context) =>
       (await this.ask("textDocument/codeAction", { textDocument: of(document), range, context }))
         .map((it) => Object.assign(new vscode.CodeAction(it.title), { edit: this.asEdit(it.edit) })));
-    vscode.languages.registerRenameProvider(null, { provideRenameEdits });
+    const found = (name, method) => through(name, (document, position) => this.ask(method, { textDocument: of(document), position }));
+    const prepareRename = through("prepareRename", async (document, position) => {
+      const range = await this.ask("textDocument/prepareRename", { textDocument: of(document), position });
+      if (!range) throw new Error("The element can't be renamed.");
+      return range;
+    });
+    vscode.languages.registerHoverProvider(null, { provideHover: found("provideHover", "textDocument/hover") });
+    vscode.languages.registerDefinitionProvider(null, { provideDefinition: found("provideDefinition", "textDocument/definition") });
+    vscode.languages.registerRenameProvider(null, { provideRenameEdits, prepareRename });
     vscode.languages.registerDocumentFormattingEditProvider(null, { provideDocumentFormattingEdits });
     vscode.languages.registerCodeActionsProvider(null, { provideCodeActions });
   }
+  get diagnostics() { return this.shown; }
   needsStop() { return Boolean(this.running); }
   async stop() {
     if (!this.running) throw new Error("the client isn't running");
@@ -107,6 +116,7 @@ async function until(holds, what) {
 }
 
 const TEXT = "MODULE M;\nCONST k = 7;\nBEGIN Write(k) END M.\n";
+const LAID_OUT = "MODULE M;\nCONST\n  k = 7;\nBEGIN\n  Write(k)\nEND M.\n";
 const TWO = "MODULE M;\nCONST k = 7; j = 8;\nBEGIN Write(k) END M.\n";
 let count = 0;
 
@@ -168,6 +178,32 @@ async function refused() {
     found.push(await user.rename(document, 1, 6, name).then(String, (why) => why.message));
   }
   return found;
+}
+
+// What is said of what is asked in a module with an error.
+async function inFaulty(document) {
+  const found = {};
+  const asked = {
+    layout: () => user.layOut(document),
+    hover: () => user.find("Hover", document, 1, 6),
+    definition: () => user.find("Definition", document, 1, 6),
+    prepare: () => user.prepare(document, 1, 6),
+  };
+  for (const [name, ask] of Object.entries(asked)) {
+    done.status = [];
+    found[name] = [await ask().then(Boolean, (why) => why.message), done.status];
+  }
+  const sound = await fresh(true);
+  found.unnamed = await user.prepare(sound, 0, 0).then(Boolean, (why) => why.message);
+  return found;
+}
+
+// How often formatting changes a text that is formatted but for its line ends, and the text after it.
+async function carriageReturns() {
+  const document = await fresh(true, LAID_OUT.replace(/\n/g, "\r\n"));
+  const { version } = document;
+  const isAnswered = await user.layOut(document);
+  return [isAnswered, document.version - version, document.text];
 }
 
 async function edits() {
@@ -261,9 +297,10 @@ async function main() {
   found.tasks = await tasksThatRun(manifest);
   found.unsaved = await unsaved(faulty);
   done.messages = [];
-  found.faulty = await user.layOut(faulty).then(String, (why) => why.message);
+  found.faulty = await inFaulty(faulty);
   found.told = done.messages;
   found.refused = await refused();
+  found.carriageReturns = await carriageReturns();
   found.edits = await edits();
   found.restarted = await restarted();
   found.stopped = await extension.deactivate().then(() => "deactivated", String);

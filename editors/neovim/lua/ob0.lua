@@ -9,6 +9,12 @@ local answered_by_edits = {
   ["textDocument/codeAction"] = true,
   ["textDocument/formatting"] = true,
 }
+-- (and which answer nothing in a module with an error)
+local answered_by_nothing = {
+  ["textDocument/hover"] = true,
+  ["textDocument/definition"] = true,
+  ["textDocument/prepareRename"] = true,
+}
 local changed = "the text has changed since the request"
 
 -- A loaded buffer has another number after each change, undo and load; one that isn't loaded has none.
@@ -25,37 +31,65 @@ local function is_current(made_for)
   return made_for.tick ~= nil and made_for.tick == tick_of(made_for.buffer)
 end
 
-local refusals = {
-  Captures = "line %d: `%s` would mean another declaration (Captures)",
-  Duplicate = "line %d: `%s` is declared there already (Duplicate)",
+-- The words of docs/MESSAGES.md for what the server answers. NAME and LINE are those of the place in the answer.
+local words = {
+  NoName = "there is no name here that can be renamed: predeclared names and the module's own can't (NoName)",
+  Predeclared = "a predeclared name can't be renamed (Predeclared)",
+  BadName = "the new name isn't one: letters and digits, a letter first, and no reserved word (BadName)",
+  Duplicate = "`NAME` is declared in line LINE already (Duplicate)",
+  Captures = "with the new name, `NAME` in line LINE would refer to another declaration (Captures)",
+  TooLong = "the text would have more than 1,048,576 bytes (TooLong)",
+  TooDeep = "the text would be nested more than 100 deep (TooDeep)",
+  Shadowed = "the edit would write TRUE or FALSE, which the module declares as something else (Shadowed)",
+  CommentInside = "there is a comment in the declaration that would be deleted (CommentInside)",
+  ["ill-typed"] = "the module has an error: fix the first one that is marked (ill-typed)",
 }
 
--- The text of a refusal, with the line as the editor counts it and the name that stands there.
+-- The offset in a line of a column in the server's units.
+local function offset_in(line, column, encoding)
+  return encoding == "utf-8" and math.min(column, #line) or vim.str_byteindex(line, column, true)
+end
+
+-- The words for a refusal, with the line as the editor counts it and the name at that place.
 local function in_words(refusal, buffer, encoding)
-  if refusal == "ill-typed" then
-    return "the module has an error: fix the first one that is marked (ill-typed)"
-  end
   local kind, line, column = refusal:match("^(%a+) (%d+):(%d+)%-%d+:%d+$")
+  if not kind then
+    return words[refusal] or refusal
+  end
   line, column = tonumber(line), tonumber(column)
-  local text = refusals[kind] and vim.api.nvim_buf_get_lines(buffer, line, line + 1, false)[1]
-  if not text then
+  local text = vim.api.nvim_buf_get_lines(buffer, line, line + 1, false)[1]
+  if not text or not words[kind] then
     return refusal
   end
-  local start = encoding == "utf-8" and column or vim.str_byteindex(text, column, true)
-  return refusals[kind]:format(line + 1, text:match("^%w*", start + 1))
+  local name = text:match("^%w*", offset_in(text, column, encoding) + 1)
+  return (words[kind]:gsub("NAME", name):gsub("LINE", line + 1))
+end
+
+local function tell(message)
+  vim.notify("ob0: " .. message, vim.log.levels.WARN)
+end
+
+-- Tells why an answer has no edits, and returns a fault that Neovim itself doesn't show: it would add a number.
+local unshown = vim.lsp.protocol.ErrorCodes.ContentModified
+local function refused(message)
+  tell(message)
+  return { code = unshown, message = message }
 end
 
 -- An answer as its handler gets it: an error instead of edits of another text, and a refusal in words. The edits of code actions
 -- keep what they were made for, since they are applied when one is chosen.
 local function checked(made_for, fault, result, encoding)
-  if fault and fault.message and is_current(made_for) then
-    fault = vim.tbl_extend("force", fault, { message = in_words(fault.message, made_for.buffer, encoding) })
+  if fault and fault.code == unshown then -- (told by a request inside this one)
+    return fault, nil
+  end
+  if fault and fault.message then
+    return refused(is_current(made_for) and in_words(fault.message, made_for.buffer, encoding) or fault.message), nil
   end
   if type(result) ~= "table" then
     return fault, result
   end
   if not is_current(made_for) then
-    return { code = -32803, message = changed }, nil
+    return refused(changed), nil
   end
   for _, it in ipairs(result) do
     if type(it.edit) == "table" then
@@ -89,18 +123,40 @@ local function guard_actions()
   local apply = vim.lsp.util.apply_workspace_edit
   vim.lsp.util.apply_workspace_edit = function(edit, ...)
     if edit.ob0_made_for and not is_current(edit.ob0_made_for) then
-      vim.notify("ob0: " .. changed, vim.log.levels.WARN)
+      tell(changed)
       return
     end
     return apply(edit, ...)
   end
 end
 
--- Says why a module isn't formatted, as Neovim doesn't.
-local function tell(method, fault)
-  if fault and method == "textDocument/formatting" then
-    vim.notify("ob0: " .. fault.message, vim.log.levels.WARN)
+local function has_error(client, buffer)
+  return #vim.diagnostic.get(buffer, { namespace = vim.lsp.diagnostic.get_namespace(client.id) }) > 0
+end
+
+-- Tells that nothing was found because the module has an error, after what Neovim itself says.
+local function tell_of_error(client, buffer)
+  if has_error(client, buffer) then
+    vim.schedule(function()
+      vim.cmd("redraw")
+      tell(words["ill-typed"])
+    end)
   end
+end
+
+-- The answer to prepareRename, with the name for Neovim 0.7's prompt, which would cut it out of the line by bytes. Nothing if
+-- nothing can be renamed, which is told here: Neovim would only say that.
+local function prepared(client, buffer, fault, result)
+  if fault or type(result) ~= "table" or not result.start then
+    if not fault and not result then
+      tell(words[has_error(client, buffer) and "ill-typed" or "NoName"])
+    end
+    return result
+  end
+  local line = vim.api.nvim_buf_get_lines(buffer, result.start.line, result.start.line + 1, false)[1] or ""
+  local first, last = (offset_in(line, result.start.character, client.offset_encoding)), result["end"].character
+  last = offset_in(line, last, client.offset_encoding)
+  return { range = result, placeholder = line:sub(first + 1, last) }
 end
 
 -- Sends the whole text instead of changes at its start, if Neovim is 0.7: that loses the end of the last line where the buffer
@@ -146,14 +202,22 @@ function found.guard(client)
     send_starts_whole(client)
   end
   wrap(client, "request", function(request, method, params, handler, buffer)
-    if not answered_by_edits[method] then
+    if not answered_by_edits[method] and not answered_by_nothing[method] then
       return request(method, params, handler, buffer)
     end
     local made_for = snapshot(buffer)
     handler = handler or client.handlers[method] or vim.lsp.handlers[method]
     return request(method, params, function(fault, result, ...)
-      fault, result = checked(made_for, fault, result, client.offset_encoding)
-      tell(method, fault)
+      if answered_by_edits[method] then
+        fault, result = checked(made_for, fault, result, client.offset_encoding)
+      elseif method == "textDocument/prepareRename" then
+        result = prepared(client, made_for.buffer, fault, result)
+        if not fault and not result then
+          return
+        end
+      elseif not fault and not result then
+        tell_of_error(client, made_for.buffer)
+      end
       return handler(fault, result, ...)
     end, buffer)
   end)
@@ -162,7 +226,6 @@ function found.guard(client)
     local answer, why = request(method, params, timeout, buffer)
     if answer and answered_by_edits[method] then
       answer.err, answer.result = checked(made_for, answer.err, answer.result, client.offset_encoding)
-      tell(method, answer.err)
     end
     return answer, why
   end)
