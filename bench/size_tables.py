@@ -8,8 +8,8 @@ from __future__ import annotations
 # Things that are defined more than once, each with the names of its definitions or functions. A name that doesn't exist isn't
 # counted: the definitions that were replaced stay in the list.
 CONCEPTS = {
-    "definitions of which names are fields": "rename_fields_in_module rename_selected_fields records_in_module "
-    "identifier_owners_in_module fields_in_module fields_declared_in_block",
+    "definitions of which names are fields": "mark_declared_fields rename_fields_in_type records_in_type "
+    "identifier_owners_in_type recorded fields_in_type fields_declared_in_block",
     "definitions that descend to a body": "path_to_body_in_block block_without_body body_at_path_in_block "
     "closing_name_at_path_in_block is_range_in_body_of_block body_bounds_in_block names_visible_at_path_in_block "
     "body_with_token_in_block",

@@ -275,7 +275,7 @@ def is_predicate_of_each(name: str, path: str) -> bool:
 def print_concepts(by_name: dict[str, str], crates: int) -> None:
     """Prints how often the sources define one thing, and what a new production touches."""
     declared = re.compile(r"^ *(?:\w+ )*(?:(?:record|data) ([\w'-]+)\b|([\w'-]+) : )", re.M)
-    words = {it[1] or it[2] for path in antt_files("specs") for it in declared.finditer(joined_text(path))}
+    words = {it[1] or it[2] for path in antt_files("specs", "proofs") for it in declared.finditer(joined_text(path))}
     words |= {it.name for crate in os.listdir(path_of()) for it in source(crate).functions}
     for concept, names in by_name.items():
         found = [it for it in names.split() if it in words]
