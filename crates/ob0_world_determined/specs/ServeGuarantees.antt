@@ -1,12 +1,14 @@
 -- States what `serve` guarantees about the bytes that it writes, for every editor that keeps ob0's
 -- rules.
 -- Rule: docs/PROMISES.md, Client and server.
-use Rattle.std.specs.Prelude.{◌≡◌, ◌≤◌, ◌++◌, ℕ, List, [], ◌∷◌, length, All, Result, Ok}
+use Rattle.std.specs.Prelude.{◌≡◌, ◌≤◌, ◌++◌, ℕ, List, [], ◌∷◌, length, All, true, Result, Ok}
 use Rattle.std.specs.List.{flat_map}
 use Rattle.ob0_text.specs.declared.position_types.Unit.{Unit}
 use Rattle.ob0_frame.specs.Frames.{frame}
 use Rattle.ob0_frame.specs.Head.{max_content_length}
+use Rattle.ob0_session.specs.OwedAnswers.{NeverReadsOwing}
 use Rattle.ob0_session.specs.ServeResults.{AnswersPrefixOfContents}
+use Rattle.ob0_session.specs.StreamSteps.{StreamStep, read_begins, bytes_given, bytes_written, is_all_flushed}
 use Rattle.ob0_session.specs.declared.serve_loop.ServeFault.{ServeFault}
 use Rattle.ob0_world_rules.specs.EveryEditor.{ExchangeTurn}
 use Rattle.serde_json.specs.Data.{Data}
@@ -39,6 +41,15 @@ pub record ServeGuaranteesHoldForExchange (begin now : Exchange) : Type 0 where
       → (more put : List ℕ) (result : Result ℕ ServeFault) → AllOutputIsWritten result
       → ServeMayReturn result (flat_map frame (now.wire.taken ++ shutdown ∷ exit ∷ []) ++ more) put
       → (put ≡ flat_map frame ((now.wire.got ++ now.wire.to_editor) ++ sent)) × (result ≡ Ok 0)
+  -- Before each read of its device, `serve` has written and flushed the frames of the contents that
+  -- the session sent. This holds if the bytes that it was given so far begin with the frames of the
+  -- contents that the session took.
+  pub answered_at_reads : All (λ content. length content ≤ max_content_length) now.wire.taken
+      → (steps before after : List StreamStep) → NeverReadsOwing steps
+      → steps ≡ before ++ read_begins ∷ after
+      → (more : List ℕ) → bytes_given before ≡ flat_map frame now.wire.taken ++ more
+      → ((later : List ℕ) × (bytes_written before ≡ flat_map frame (now.wire.got ++ now.wire.to_editor) ++ later))
+      × (is_all_flushed before ≡ true)
   -- If `serve` returns `Memory`, it has answered the first contents of its input
   -- (`AnswersPrefixOfContents`). If these are exactly the contents that the session took, `serve`
   -- has written the frames of the contents that the session sent.
