@@ -1,5 +1,5 @@
 use Rattle.std.proofs.Common.{inl, inr, refl, arith, rules}
-use Rattle.ob0_commands.proofs.check_command.check_text.Goals as goal
+use Rattle.ob0_commands.proofs.check_command.check_keeping_analysis.Goals as goal
 
 pub returns-in-Ok-Some : goal.returns-in-Ok-Some
 returns-in-Ok-Some g c = inl (record {

@@ -1,7 +1,7 @@
 use Rattle.std.proofs.Common.{Some, inl, inr, subst}
 use Rattle.ob0_commands.specs.PrintedTexts.{fault_line}
 use Rattle.ob0_commands.specs.StderrLines.{PrintsOptionalLine}
-use Rattle.ob0_commands.proofs.rename_command.rename_text.Goals as goal
+use Rattle.ob0_commands.proofs.rename_command.rename_keeping_analysis.Goals as goal
 
 pub returns-in-Ok : goal.returns-in-Ok
 returns-in-Ok g c = inl c.in-Ok.ensures.ends

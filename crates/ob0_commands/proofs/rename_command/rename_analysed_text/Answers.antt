@@ -1,10 +1,10 @@
-use Rattle.std.proofs.Common.{◌∙◌, ℕ, List, ap, inl, inr, map, refl, subst, arith}
+use Rattle.std.proofs.Common.{ℕ, List, ap, inl, inr, map, refl, subst, arith}
 use Rattle.std.proofs.lemmas.Result.{IfOk-weaker}
 use Rattle.ob0_analysis.specs.ReportedErrors.{ReportsErrorsOf, reported_diagnosis_of}
 use Rattle.ob0_commands.specs.StderrLines.{PrintsOptionalLine}
 use Rattle.ob0_commands.proofs.RenameEndsWithoutFault.{edited_in_text, found_in_text, prints_renamed, refuses_name}
 use Rattle.ob0_commands.proofs.Wrong.{ill_typed}
-use Rattle.ob0_commands.proofs.rename_command.rename_utf8_text.Goals as goal
+use Rattle.ob0_commands.proofs.rename_command.rename_analysed_text.Goals as goal
 
 pub returns-in-Some-clause-ends : goal.returns-in-Some-clause-ends
 returns-in-Some-clause-ends g c =
@@ -31,7 +31,7 @@ returns-clause-ends g c = record {
   other = λ one. (
     inl (
       ill_typed _ c.args.text.now c.in_ok-reported-in-None.reported.items c.as_slice.result.now (g.O.Write.contents c.args.out.now) (g.O.Write.contents c.print_diagnoses.new.out)
-          c.in_ok-store.ensures.content c.utf8.text c.as_slice.ensures.value (rw c.in-None.is at c.in_ok-outcome.ensures) (subst (λ (t : List ℕ). ReportsErrorsOf t (map reported_diagnosis_of c.in_ok-reported-in-None.reported.items)) (c.deref-in-None.ensures ∙ c.in_ok-analysis.ensures) c.in_ok-reported-in-None.ensures.reported) c.in_ok-print_diagnoses-in-None.ensures.printed,
+          c.in_ok-store.ensures.content c.utf8.text c.as_slice.ensures.value (rw c.in-None.is at c.in_ok-outcome.ensures) (subst (λ (t : List ℕ). ReportsErrorsOf t (map reported_diagnosis_of c.in_ok-reported-in-None.reported.items)) c.requires c.in_ok-reported-in-None.ensures.reported) c.in_ok-print_diagnoses-in-None.ensures.printed,
       refl,
     ),
     inl c.in_ok-print_diagnoses-in-None.ensures.flushed,
