@@ -338,6 +338,25 @@ def verdict() -> None:
             same(called.splitlines(), wanted_calls, "what is run")
 
 
+@test("whole: a signal to .ci/run ends the test that it runs, and the last line says that it failed")
+def ci_ended() -> None:
+    with temporary() as room:
+        # (a signal in its first moment ends `timeout` without its child)
+        make = "#!/bin/sh\n[ $2 = test ] || exit 0\nsleep 1\necho $$ > '{}/test'\nexec sleep 1000\n"
+        write(os.path.join(room, "path", "make"), make.format(room))
+        os.chmod(os.path.join(room, "path", "make"), 0o755)
+        os.mkdir(os.path.join(room, ".ci"))
+        copy(os.path.join(TOP, ".ci", "run"), os.path.join(room, ".ci"))
+        own = {**os.environ, "PATH": os.path.join(room, "path") + os.pathsep + os.environ["PATH"]}
+        with open(os.path.join(room, "said"), "wb") as out:
+            with subprocess.Popen([os.path.join(room, ".ci", "run")], stdout=out, stderr=subprocess.STDOUT, env=own) as ran:
+                number = int(awaited(os.path.join(room, "test")))
+                ran.terminate()
+                same(ran.wait(60), 143, "the status")
+        same(text_of(room, "said").splitlines()[-1], "0 passed, 1 failed", text_of(room, "said"))
+        holds(not harness.is_running(number), "the test goes on")
+
+
 @test("whole: what .ci/run lets lack are tools that the tests want and no package of Debian 12 has")
 def may_lack_there() -> None:
     for name in LACKING.split(","):
