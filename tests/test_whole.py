@@ -47,6 +47,12 @@ with open({room!r} + "/bin/results", "a") as file:
 print(said)
 """
 VARIABLES = ["OB0", "OB0_RANDOM", "OB0_SEED", "OB0_MIXES", "OB0_SURROUNDINGS", "OB0_WHOLE", "RT_ALLOW_C", "RT_BACKEND"]
+EDITORS = """import os
+TOOLS = {}
+HOW_TO_GET = {"another user": "be another"}
+def is_here(name: str) -> bool:
+    return "LACKS" not in os.environ
+"""
 MUTANTS = """from typing import Any
 class Libraries:
     def __init__(self, folder: str) -> None:
@@ -82,7 +88,7 @@ class Whole(NamedTuple):
 def furnish(room: str, ci: str, first: str, rest: str, others: int = 0, tried: Tuple[int, int] = (20, 0)) -> None:
     """Puts tools/test.py into a room, with stand-ins beside it that say these lines."""
     copy(os.path.join(TOP, "tools"), os.path.join(room, "tools"))
-    files = {"tools/mutants.py": MUTANTS.format(others=others, tried=tried), "tools/editors.py": "TOOLS = REQUIRED = {}\n"}
+    files = {"tools/mutants.py": MUTANTS.format(others=others, tried=tried), "tools/editors.py": EDITORS}
     files.update({"tools/notices.py": "def keep() -> None:\n    pass\n", "ci": f"rt: ob0_low proved\n{ci}\n"})
     files.update({"--first": first, "--rest": rest, "called": "", "HANDLES": "none\n", "crates.txt": "ob0:\n"})
     files.update({"tests/run.py": TESTS.format(room=room, variables=VARIABLES), "crates/ob0/src/main.rt": "\n"})
@@ -269,6 +275,13 @@ def ended() -> None:
             said = text_of(room, "said")
             holds(f"\nended by {number.name} at ob0 of the gate, with 0 of 1 crates left, after 0:" in said, said)
             same(os.listdir(os.path.join(room, "tmp")), [], "what is left in the folder for temporary files")
+
+
+@test("whole: if root can't become another user, as the gate needs, the run ends at once and says why")
+def no_other_user() -> None:
+    found = whole(LACKS="1")
+    same((found.status, "root can't become another user here" in found.said, "be another" in found.last), (2, True, True), found.said)
+    same([it for it in found.called if it.startswith(("rt ci", "tests"))], [], "what is run")
 
 
 @test("whole: tests that are left out count as run; if OB0_MAY_LACK lists the tools, only a few of them")

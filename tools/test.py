@@ -36,7 +36,7 @@ LINE = re.compile(r"^(\d+) passed, (\d+) failed(?:, (\d+) skipped)?$")
 RESULTS = os.path.join(TOP, "bin", "results")
 GATE_LOG = os.path.join(TOP, "bin", "gate.log")
 # How many tests there are (a test compares); and how many may be left out if OB0_MAY_LACK says for lack of which tools.
-LEAST = {"the gate": 86, "end to end": 592}
+LEAST = {"the gate": 86, "end to end": 593}
 MOST_LEFT_OUT = 15
 # The variables that a developer sets to try a part of the tests, or the kit on other terms: here they have no effect.
 KEPT_VARIABLES = {"OB0_MAY_LACK", "OB0_MINUTES", "RT_JOBS"}
@@ -330,6 +330,9 @@ def main(flags: list[str]) -> int:
             # (what a build that was killed left: the gate takes no source outside crates/)
             shutil.rmtree(build.ROOMS, ignore_errors=True)
             common.need("rt")
+            if not editors.is_here("another user"):
+                # (it would fail at its end: as root `rt` runs programs and tests only as another user)
+                common.stop(f"root can't become another user here, as `rt ci` needs: {editors.HOW_TO_GET['another user']}")
             say_missing()
             return end(whole(flags))
 
