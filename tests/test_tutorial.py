@@ -104,13 +104,3 @@ def translated() -> None:
     head = f"MODULE M; VAR {'; '.join(variables)}; PROCEDURE {largest}; END Max; PROCEDURE {go}; END Go; BEGIN "
     for (statement,) in found:
         ends(on_file("check", f"{head}{statement} END M."), "", 0)
-
-
-@test("tutorial: README and the page of examples lead to it")
-def led_to() -> None:
-    holds("(docs/TUTORIAL.md)" in text_of("README.md"), "README has no link to it")
-    holds("Install it first: [README](../README.md#how-to-get-it)" in text_of(PAGE), "it doesn't say how to get the program")
-    holds("\n## How to get it\n" in text_of("README.md"), "README doesn't say how to get the program")
-    holds("(../docs/TUTORIAL.md)" in text_of("examples", "README.md"), "examples/README.md has no link to it")
-    for target in re.findall(r"\]\(([^)#:]+)(?:#[^)]*)?\)", text_of(PAGE)):
-        holds(os.path.exists(os.path.join(TOP, "docs", target)), f"it has a link to {target}")

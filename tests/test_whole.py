@@ -47,6 +47,12 @@ with open({room!r} + "/bin/results", "a") as file:
 print(said)
 """
 VARIABLES = ["OB0", "OB0_RANDOM", "OB0_SEED", "OB0_MIXES", "OB0_SURROUNDINGS", "OB0_WHOLE", "RT_ALLOW_C", "RT_BACKEND"]
+EDITORS = """import os
+TOOLS = {}
+HOW_TO_GET = {"another user": "be another"}
+def is_here(name: str) -> bool:
+    return "LACKS" not in os.environ
+"""
 MUTANTS = """from typing import Any
 class Libraries:
     def __init__(self, folder: str) -> None:
@@ -82,7 +88,7 @@ class Whole(NamedTuple):
 def furnish(room: str, ci: str, first: str, rest: str, others: int = 0, tried: Tuple[int, int] = (20, 0)) -> None:
     """Puts tools/test.py into a room, with stand-ins beside it that say these lines."""
     copy(os.path.join(TOP, "tools"), os.path.join(room, "tools"))
-    files = {"tools/mutants.py": MUTANTS.format(others=others, tried=tried), "tools/editors.py": "TOOLS = REQUIRED = {}\n"}
+    files = {"tools/mutants.py": MUTANTS.format(others=others, tried=tried), "tools/editors.py": EDITORS}
     files.update({"tools/notices.py": "def keep() -> None:\n    pass\n", "ci": f"rt: ob0_low proved\n{ci}\n"})
     files.update({"--first": first, "--rest": rest, "called": "", "HANDLES": "none\n", "crates.txt": "ob0:\n"})
     files.update({"tests/run.py": TESTS.format(room=room, variables=VARIABLES), "crates/ob0/src/main.rt": "\n"})
@@ -271,6 +277,13 @@ def ended() -> None:
             same(os.listdir(os.path.join(room, "tmp")), [], "what is left in the folder for temporary files")
 
 
+@test("whole: if root can't become another user, as the gate needs, the run ends at once and says why")
+def no_other_user() -> None:
+    found = whole(LACKS="1")
+    same((found.status, "root can't become another user here" in found.said, "be another" in found.last), (2, True, True), found.said)
+    same([it for it in found.called if it.startswith(("rt ci", "tests"))], [], "what is run")
+
+
 @test("whole: tests that are left out count as run; if OB0_MAY_LACK lists the tools, only a few of them")
 def floor() -> None:
     many, few = "450 passed, 0 failed, 100 skipped", "5000 passed, 0 failed, 4 skipped"
@@ -336,6 +349,25 @@ def verdict() -> None:
             wanted_calls = ["timeout --kill-after=60 1200 make --silent editors LACKING", "make --silent editors"]
             wanted_calls += [f"timeout --kill-after=60 {limit} make --silent test LACKING", "make --silent test"]
             same(called.splitlines(), wanted_calls, "what is run")
+
+
+@test("whole: a signal to .ci/run ends the test that it runs, and the last line says that it failed")
+def ci_ended() -> None:
+    with temporary() as room:
+        # (a signal in its first moment ends `timeout` without its child)
+        make = "#!/bin/sh\n[ $2 = test ] || exit 0\nsleep 1\necho $$ > '{}/test'\nexec sleep 1000\n"
+        write(os.path.join(room, "path", "make"), make.format(room))
+        os.chmod(os.path.join(room, "path", "make"), 0o755)
+        os.mkdir(os.path.join(room, ".ci"))
+        copy(os.path.join(TOP, ".ci", "run"), os.path.join(room, ".ci"))
+        own = {**os.environ, "PATH": os.path.join(room, "path") + os.pathsep + os.environ["PATH"]}
+        with open(os.path.join(room, "said"), "wb") as out:
+            with subprocess.Popen([os.path.join(room, ".ci", "run")], stdout=out, stderr=subprocess.STDOUT, env=own) as ran:
+                number = int(awaited(os.path.join(room, "test")))
+                ran.terminate()
+                same(ran.wait(60), 143, "the status")
+        same(text_of(room, "said").splitlines()[-1], "0 passed, 1 failed", text_of(room, "said"))
+        holds(not harness.is_running(number), "the test goes on")
 
 
 @test("whole: what .ci/run lets lack are tools that the tests want and no package of Debian 12 has")

@@ -137,7 +137,7 @@ def is_here(name: str) -> bool:
 # How to get what no package has.
 HOW_TO_GET = {
     "root": "run the tests as root",
-    "another user": "run the tests as a user who isn't root, or as root of a system or container that lets root become other users",
+    "another user": "run the tests as a user who isn't root, or in a container that has the capability CAP_SETUID",
 }
 
 

@@ -330,6 +330,9 @@ def main(flags: list[str]) -> int:
             # (what a build that was killed left: the gate takes no source outside crates/)
             shutil.rmtree(build.ROOMS, ignore_errors=True)
             common.need("rt")
+            if not editors.is_here("another user"):
+                # (it would fail at its end: as root `rt` runs programs and tests only as another user)
+                common.stop(f"root can't become another user here, as `rt ci` needs: {editors.HOW_TO_GET['another user']}")
             say_missing()
             return end(whole(flags))
 
