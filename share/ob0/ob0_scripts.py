@@ -45,9 +45,9 @@ class Stopped(BaseException):
     """A signal has come, which is its argument."""
 
 
-def program() -> str:
-    """Returns the path of `ob0`: beside the script that runs, or else on PATH."""
-    found = shutil.which("ob0", path=HERE + os.pathsep + os.environ.get("PATH", ""))
+def program(named: str = "") -> str:
+    """Returns the path of `ob0`: the one that is named, or else beside the script that runs or on PATH."""
+    found = named or shutil.which("ob0", path=HERE + os.pathsep + os.environ.get("PATH", ""))
     if not found:
         raise Failure("ob0 is neither beside this program nor on PATH")
     return found
