@@ -140,9 +140,6 @@ class Server:
         self.process.wait()
 
 
-# Texts and places
-
-
 def line_starts(text: bytes) -> List[int]:
     """Returns the offset at which each line begins."""
     return [0, *(it.end() for it in re.finditer(rb"\r\n|\r|\n", text))]
@@ -217,9 +214,6 @@ def modules_at(path: str) -> Iterator[str]:
                 yield below
 
 
-# Files that are replaced
-
-
 def keep_attributes(old: str, new: str) -> None:
     """Gives a new file the old one's owner, group, mode and access list. If one of them can't be given, an OSError is raised."""
     found, made = os.stat(old), os.stat(new)
@@ -271,9 +265,6 @@ def replace(path: str, old: bytes, text: bytes) -> None:
                 raise
     finally:
         signal.pthread_sigmask(signal.SIG_SETMASK, before)
-
-
-# Lines that are printed
 
 
 def why_unprinted(stream: Optional[TextIO], text: Union[str, bytes]) -> str:
