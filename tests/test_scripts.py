@@ -108,20 +108,21 @@ def format_forms() -> None:
     in_folder(MODULES, trial)
 
 
+NO_NAME = "there is no name here that can be renamed: predeclared names and the module's own can't (NoName)"
 RENAMED = "MODULE M;\nVAR x, y: INTEGER;\n  PROCEDURE P(z: INTEGER);\n  BEGIN (* \U0001f600 *) x := z + y\n  END P;\nBEGIN P(1)\nEND M.\n"
 
 
 @test("scripts: ob0-rename renames by a place counted from 1 in characters, prints or replaces, and says a refusal in words")
 def rename_script() -> None:
     refusals = {
-        "m.mod:2:5 y": (1, "m.mod:2:5: `y` is declared in line 2 already, in the same block or record"),
-        "m.mod:2:5 z": (1, "m.mod:2:5: with the new name, `x` in line 4 would refer to another declaration"),
-        "m.mod:2:5 END": (1, "m.mod:2:5: the new name isn't one: letters and digits, a letter first, and no reserved word"),
-        "m.mod:2:5 \u00e4": (1, "m.mod:2:5: the new name isn't one: letters and digits, a letter first, and no reserved word"),
-        "m.mod:2:11 N": (1, "m.mod:2:11: a predeclared name can't be renamed"),
-        "m.mod:1:8 N": (1, "m.mod:1:8: there is no name here that can be renamed"),
-        "m.mod:99:8 N": (1, "m.mod:99:8: there is no name here that can be renamed"),
-        "m.mod:4:200 N": (1, "m.mod:4:200: there is no name here that can be renamed"),
+        "m.mod:2:5 y": (1, "m.mod:2:5: `y` is declared in line 2 already (Duplicate)"),
+        "m.mod:2:5 z": (1, "m.mod:2:5: with the new name, `x` in line 4 would refer to another declaration (Captures)"),
+        "m.mod:2:5 END": (1, "m.mod:2:5: the new name isn't one: letters and digits, a letter first, and no reserved word (BadName)"),
+        "m.mod:2:5 \u00e4": (1, "m.mod:2:5: the new name isn't one: letters and digits, a letter first, and no reserved word (BadName)"),
+        "m.mod:2:11 N": (1, "m.mod:2:11: a predeclared name can't be renamed (Predeclared)"),
+        "m.mod:1:8 N": (1, f"m.mod:1:8: {NO_NAME}"),
+        "m.mod:99:8 N": (1, f"m.mod:99:8: {NO_NAME}"),
+        "m.mod:4:200 N": (1, f"m.mod:4:200: {NO_NAME}"),
         "bad.mod:2:5 N": (1, "bad.mod: it has errors, so nothing is renamed: `ob0-check` lists them"),
         "nowhere:1:1 N": (4, "nowhere: No such file or directory"),
     }
@@ -583,7 +584,10 @@ def check_unprinted() -> None:
 
 # files that end as modules do, and whether they are some
 TAKEN = [
-    ("go.mod", "module example.com/x\n", False),
+    ("go.mod", "module example\n", False),
+    ("go/tools.mod", "module example.com/x\n", False),
+    ("go/small.mod", "module small;\n", True),
+    ("go/m.mod", "MODULE a.b\n", True),
     ("a.mod", "DEFINITION MODULE M;\n", False),
     ("b.Mod", "(* MODULE M; *) x\n", False),
     ("c.mod", "(* MODULE M;\n", False),

@@ -182,18 +182,18 @@ def text_of(path: str) -> bytes:
 
 
 def begins_with_module(path: str) -> bool:
-    """Whether the first word of a file is MODULE, also in small letters, after comments and a byte order mark. (Go's go.mod also begins
-    with that word.)"""
+    """Whether the first word of a file is MODULE, also in small letters, after comments and a byte order mark. (Go's files also begin
+    with that word; a path follows it there.)"""
     depth, text = 0, re.sub(rb"^\xef\xbb\xbf", b"", bytes_of(path))
-    if os.path.basename(path) == "go.mod":
-        return False
     for it in re.finditer(rb"\(\*|\*\)|[^ \t\r\n(*]+|[(*]", text):
         if it[0] == b"(*":
             depth += 1
         elif it[0] == b"*)" and depth:
             depth -= 1
         elif not depth:
-            return bool(re.match(rb"(?i)MODULE(?![a-z0-9_])", it[0]))
+            is_go = os.path.basename(path) == "go.mod" or re.match(rb"(?i)module[ \t]+[^ \t\r\n]*[./][a-z0-9]", text[it.start() :])
+            words = rb"MODULE(?![A-Za-z0-9_])" if is_go else rb"(?i)MODULE(?![a-z0-9_])"
+            return bool(re.match(words, text[it.start() :]))
     return False
 
 
