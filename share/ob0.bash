@@ -57,6 +57,7 @@ _ob0_options_or_modules() {
 
 _ob0_check() { _ob0_options_or_modules --hints --github --json; }
 _ob0_format() { _ob0_options_or_modules --check --diff; }
+_ob0_trace() { _ob0_options_or_modules --calls --program --turns; }
 _ob0_rename() { _ob0_options_or_modules -i --in-place; }
 
 _ob0_watch() {
@@ -86,4 +87,5 @@ complete -o bashdefault -o default -F _ob0 ob0
 complete -o bashdefault -o default -F _ob0_check ob0-check
 complete -o bashdefault -o default -F _ob0_format ob0-format
 complete -o bashdefault -o default -F _ob0_rename ob0-rename
+complete -o bashdefault -o default -F _ob0_trace ob0-trace
 complete -o bashdefault -o default -F _ob0_watch ob0-watch

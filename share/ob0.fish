@@ -37,7 +37,7 @@ complete -c ob0 -n '__fish_seen_subcommand_from serve' -l clientProcessId -x -d 
 complete -c ob0 -s h -l help -d 'Print help'
 complete -c ob0 -n __fish_use_subcommand -s V -l version -d 'Print the version'
 
-for script in ob0-check ob0-format ob0-rename
+for script in ob0-check ob0-format ob0-rename ob0-trace
     complete -c $script -f -a '(__ob0_modules)'
     complete -c $script -s h -l help -d 'Print help'
     complete -c $script -s V -l version -d 'Print the version'
@@ -48,6 +48,9 @@ complete -c ob0-check -l json -d "Print JSON in the form of GitLab's code qualit
 complete -c ob0-format -l check -d 'Change nothing; list the files that are not formatted'
 complete -c ob0-format -l diff -d 'Change nothing, and print what would change'
 complete -c ob0-rename -s i -l in-place -d 'Replace the file'
+complete -c ob0-trace -l calls -x -d 'How many calls may be open at a time, 0 to 64'
+complete -c ob0-trace -l turns -x -d 'How many iterations a loop may make, 0 to 100000'
+complete -c ob0-trace -l program -r -F -d 'The program ob0'
 
 # Prints the words before the cursor that follow ob0-watch and its report.
 function __ob0_watch_words

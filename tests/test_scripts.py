@@ -108,20 +108,21 @@ def format_forms() -> None:
     in_folder(MODULES, trial)
 
 
+NO_NAME = "there is no name here that can be renamed: predeclared names and the module's own can't (NoName)"
 RENAMED = "MODULE M;\nVAR x, y: INTEGER;\n  PROCEDURE P(z: INTEGER);\n  BEGIN (* \U0001f600 *) x := z + y\n  END P;\nBEGIN P(1)\nEND M.\n"
 
 
 @test("scripts: ob0-rename renames by a place counted from 1 in characters, prints or replaces, and says a refusal in words")
 def rename_script() -> None:
     refusals = {
-        "m.mod:2:5 y": (1, "m.mod:2:5: `y` is declared in line 2 already, in the same block or record"),
-        "m.mod:2:5 z": (1, "m.mod:2:5: with the new name, `x` in line 4 would refer to another declaration"),
-        "m.mod:2:5 END": (1, "m.mod:2:5: the new name isn't one: letters and digits, a letter first, and no reserved word"),
-        "m.mod:2:5 \u00e4": (1, "m.mod:2:5: the new name isn't one: letters and digits, a letter first, and no reserved word"),
-        "m.mod:2:11 N": (1, "m.mod:2:11: a predeclared name can't be renamed"),
-        "m.mod:1:8 N": (1, "m.mod:1:8: there is no name here that can be renamed"),
-        "m.mod:99:8 N": (1, "m.mod:99:8: there is no name here that can be renamed"),
-        "m.mod:4:200 N": (1, "m.mod:4:200: there is no name here that can be renamed"),
+        "m.mod:2:5 y": (1, "m.mod:2:5: `y` is declared in line 2 already (Duplicate)"),
+        "m.mod:2:5 z": (1, "m.mod:2:5: with the new name, `x` in line 4 would refer to another declaration (Captures)"),
+        "m.mod:2:5 END": (1, "m.mod:2:5: the new name isn't one: letters and digits, a letter first, and no reserved word (BadName)"),
+        "m.mod:2:5 \u00e4": (1, "m.mod:2:5: the new name isn't one: letters and digits, a letter first, and no reserved word (BadName)"),
+        "m.mod:2:11 N": (1, "m.mod:2:11: a predeclared name can't be renamed (Predeclared)"),
+        "m.mod:1:8 N": (1, f"m.mod:1:8: {NO_NAME}"),
+        "m.mod:99:8 N": (1, f"m.mod:99:8: {NO_NAME}"),
+        "m.mod:4:200 N": (1, f"m.mod:4:200: {NO_NAME}"),
         "bad.mod:2:5 N": (1, "bad.mod: it has errors, so nothing is renamed: `ob0-check` lists them"),
         "nowhere:1:1 N": (4, "nowhere: No such file or directory"),
     }
@@ -148,6 +149,81 @@ def rename_script() -> None:
         same(full, (4, "", "ob0-rename: standard output can't be written: No space left on device\n"), "a full disk")
 
     in_folder({"m.mod": RENAMED, "bad.mod": FAULTY, "a:b\udcff.mod": RENAMED}, trial)
+
+
+FAULTS = """MODULE M;
+TYPE P = RECORD x: INTEGER; b: BOOLEAN END;
+VAR a: ARRAY 30 OF INTEGER; i: INTEGER; p: P; q: ARRAY 2 OF P;
+  PROCEDURE Down(n: INTEGER; VAR m: INTEGER);
+  VAR k: INTEGER;
+  BEGIN
+    k := n * 2;
+    IF n > 0 THEN Down(n - 1, m)
+    ELSIF (* \u00e4\U0001f600 *) 1 DIV n > 0 THEN
+    END
+  END Down;
+  PROCEDURE Again;
+  BEGIN Again
+  END Again;
+BEGIN
+  Read(i); p.x := 3; p.b := TRUE; q[1] := p;
+  IF i = 0 THEN WHILE TRUE DO a[0] := a[0] + 1 END
+  ELSIF i = 1 THEN REPEAT UNTIL a[30 * i] = 0
+  ELSIF i = 2 THEN Read(a[1])
+  ELSIF i = 3 THEN Again
+  ELSIF i = 4 THEN a[0] := 2147483647;
+    a[1] := a[0] +
+      a[0]
+  ELSE Down(i, a[2])
+  END;
+  Write(i)
+END M.
+"""
+# the first numbers of the input, and lines that are printed of the fault
+TRACED: dict[str, list[str]] = {
+    "0": ["m.mod:17:17: TurnBound: WHILE TRUE DO a[0] := a[0] + 1 END", "  in module M", "    i = 0", "    p = (x = 3, b = TRUE)"],
+    "1": ["m.mod:18:33: Index: a[30 * i]", "  in the statement of line 18: REPEAT UNTIL a[30 * i] = 0", "    q = [(x = 0, b = FALSE), (x = 3, b = TRUE)]"],
+    "2": ["m.mod:19:20: InputEnd: Read(a[1])", "    i = 2"],
+    "3": ["m.mod:13:9: CallBound: Again", "  in procedure Again, called in line 13", "  .. 59 more calls"],
+    "4": ["m.mod:22:13: Overflow: a[0] +", "  in the statement of line 22: a[1] := a[0] +"],
+    "7": ["m.mod:9:20: Divisor: 1 DIV n", "  in procedure Down, called in line 8", "    n = 0", "    m = 0", "    k = 0", "    k = 2", "  .. 3 more calls"],
+}
+
+
+@test("scripts: ob0-trace says at which line and statement a run ends, in which calls and with which variables")
+def traced() -> None:
+    def trial(work: str, own: dict[str, str]) -> None:
+        for given, wanted in TRACED.items():
+            run = ran(["ob0", "run", "m.mod"], work, own, given)
+            status, out, err = ran(["ob0-trace", "m.mod"], work, own, given)
+            same((status, out), run[:2], f"the status and the output of {given}")
+            lines = err.splitlines()
+            same(lines[0], wanted[0], f"the place of {given}")
+            same([it for it in wanted if it not in lines], [], f"lines that {lines} lacks")
+            holds("isn't proved" in lines[-1] and f": {run[2].split()[1]}: " in lines[0], err)
+        same(ran(["ob0-trace", "gcd.mod"], work, own, text_of("examples", "Gcd.in")), (0, text_of("examples", "Gcd.out"), ""), "a run without a fault")
+        holds(": CallBound: Down(n - 1, m)" in ran(["ob0-trace", "--calls", "3", "m.mod"], work, own, "7")[2], "another bound")
+        same(ran(["ob0-trace", "two words.Mod"], work, own), (1, "", "two words.Mod has errors, so it isn't run: `ob0-check` lists them\n"), "errors")
+        same(ran(["ob0-trace", "m.mod"], work, own, "x"), (4, "", "m.mod: fault: Input\n"), "another input")
+        same(ran(["ob0-trace", "nowhere"], work, own), (4, "", "nowhere: No such file or directory\n"), "no file")
+        same(ran(["ob0-trace", "--calls", "65", "m.mod"], work, own)[:2], (2, ""), "a bound that is too large")
+
+    in_folder({**MODULES, "m.mod": FAULTS, "gcd.mod": text_of("examples", "Gcd.mod")}, trial)
+
+
+@test("scripts: ob0-trace says so if the second run prints or ends otherwise than `ob0 run`, with a status of its own")
+def traced_otherwise() -> None:
+    said = "m.mod: the second run ends with Done, or prints something else, unlike `ob0 run`: please report this\n"
+    for line in ("printf ' 1 2'", "printf ' 1\\n'; echo 'fault: Index' >&2; exit 1"):
+
+        def trial(work: str, own: dict[str, str], line: str = line) -> None:
+            other = os.path.join(work, "..", "other", "ob0")
+            write(other, f"#!/bin/sh\n{line}\n")
+            os.chmod(other, 0o755)
+            found = ran(["ob0-trace", "--program", other, "m.mod"], work, own)
+            same((found[0], found[2]), (6, said), line)
+
+        in_folder({"m.mod": "MODULE M; BEGIN Write(1); WriteLn END M."}, trial)
 
 
 @test("scripts: ob0-format ends with 2 for its command line and with 4 for files, and goes on with the others")
@@ -508,7 +584,10 @@ def check_unprinted() -> None:
 
 # files that end as modules do, and whether they are some
 TAKEN = [
-    ("go.mod", "module example.com/x\n", False),
+    ("go.mod", "module example\n", False),
+    ("go/tools.mod", "module example.com/x\n", False),
+    ("go/small.mod", "module small;\n", True),
+    ("go/m.mod", "MODULE a.b\n", True),
     ("a.mod", "DEFINITION MODULE M;\n", False),
     ("b.Mod", "(* MODULE M; *) x\n", False),
     ("c.mod", "(* MODULE M;\n", False),

@@ -40,6 +40,8 @@ OFFERED = [
     ("ob0-format --", ["--check", "--diff", "--help", "--version"]),
     ("ob0-rename --", ["--help", "--in-place", "--version"]),
     ("ob0-rename ", MODULES),
+    ("ob0-trace ", MODULES),
+    ("ob0-trace --", ["--calls", "--help", "--program", "--turns", "--version"]),
     ("ob0-watch ", [*COMMANDS, "help"]),
     ("ob0-watch --", ["--", "--help", "--report", "--version"]),
     ("ob0-watch --report ", FILES),

@@ -49,12 +49,12 @@ def commands() -> None:
         os.symlink(os.path.abspath(harness.BINARY), os.path.join(room, "bin", "ob0"))
         own = {**os.environ, "PATH": os.path.join(room, "bin") + os.pathsep + os.environ["PATH"]}
         for name, text in modules().items():
-            write(os.path.join(room, f"{name}.mod"), text)
+            write(os.path.join(room, f"{name}.ob0"), text)
         how: dict[str, Any] = {"cwd": room, "env": own, "stdin": subprocess.DEVNULL, "stdout": subprocess.PIPE, "stderr": subprocess.STDOUT}
         for words, wanted in (it for block in blocks for it in typed(block)):
             ran = subprocess.run(["sh", "-c", words], timeout=harness.SECONDS, check=False, **how)
             same(ran.stdout.decode(), wanted, f"what `{words}` prints")
-    used = {name for block in blocks for words, _ in typed(block) for name in re.findall(r"(\w+)\.mod", words)}
+    used = {name for block in blocks for words, _ in typed(block) for name in re.findall(r"(\w+)\.ob0", words)}
     same(sorted(used), sorted(modules()), "the modules that a command on the page names")
 
 

@@ -49,7 +49,7 @@ SHARED = {"bin", "share", "share/man"}
 # the one file that others hold the copyright of
 PARSER, PARSER_HOLDER = "editors/tree-sitter/src/tree_sitter/parser.h", "2018-2024 Max Brunsfeld"
 # the scripts beside the program, each with a manual page
-SCRIPTS = ("ob0-check", "ob0-format", "ob0-rename", "ob0-watch")
+SCRIPTS = ("ob0-check", "ob0-format", "ob0-rename", "ob0-trace", "ob0-watch")
 DEFAULT_NAME, DEFAULT_ADDRESS = "The authors of ob0", "ob0@example.org"
 
 # where a file or a folder of the repository goes
@@ -425,8 +425,9 @@ Description: language server, checker and interpreter for Oberon-0
  The package has files for Neovim, Vim, Emacs, Kate, Kakoune, nano and editors
  with GtkSourceView, completions for bash, zsh and fish, and scripts:
  ob0-check lists the errors of several files, ob0-format formats files,
- ob0-rename renames in a file, and ob0-watch reports whether an editor keeps
- the rules under which ob0's promises hold.
+ ob0-rename renames in a file, ob0-trace says where a run ended with a fault,
+ and ob0-watch reports whether an editor keeps the rules under which ob0's
+ promises hold.
 """.encode()
 
 

@@ -170,8 +170,8 @@ def inputs_in(folder: str) -> Dict[str, List[Case]]:
     return found
 
 
-def call(marking: Marking, words: List[str], given: str = "") -> Ended:
-    """Runs the program with these words on this input, under the limits."""
+def call(marking: Marking, words: List[str], given: str = "", program: str = "") -> Ended:
+    """Runs the program, or another one, with these words on this input, under the limits."""
 
     def limit() -> None:
         """Bounds what a run may write and take. (Its processor time is bounded too, in case this script is killed before it ends.)"""
@@ -188,7 +188,7 @@ def call(marking: Marking, words: List[str], given: str = "") -> Ended:
         # (a signal waits until the process that it has to end is known)
         signal.pthread_sigmask(signal.SIG_BLOCK, STOPPING)
         try:
-            with subprocess.Popen([marking.program, *words], **how) as process:
+            with subprocess.Popen([program or marking.program, *words], **how) as process:
                 try:
                     signal.pthread_sigmask(signal.SIG_UNBLOCK, STOPPING)
                     process.communicate(given.encode(), marking.seconds)
@@ -254,9 +254,21 @@ def why_wrong(marking: Marking, file: str, case: Case) -> Optional[str]:
         return f"ob0 was stopped by signal {-found.status}"
     if found.status:
         name = found.err.strip().partition("fault: ")[2]
-        return f"the run ends with {name}: {CAUSES[name]}" if name in CAUSES else found.err.strip()
+        where = line_of_fault(marking, file, case)
+        return f"the run ends with {name}{where}: {CAUSES[name]}" if name in CAUSES else found.err.strip()
     printed = numbers_of(found.out.split("\n"))
     return None if printed == case.wanted else difference(case.wanted, printed)
+
+
+def line_of_fault(marking: Marking, file: str, case: Case) -> str:
+    """Returns the line in which a run ends with a fault, in words, if the script ob0-trace is installed and finds it."""
+    folders = [os.path.dirname(marking.program), os.path.join(HERE, "..", "..", "share"), os.environ.get("PATH", "")]
+    tracer = shutil.which("ob0-trace", path=os.pathsep.join(folders))
+    if tracer is None:
+        return ""
+    found = call(marking, ["--program", marking.program, "--", file], case.given, tracer)
+    place = re.search(r":(\d+):\d+: [A-Z]\w+: ", found.err) if found.status == 1 else None
+    return f" in line {place[1]}" if place else ""
 
 
 def why_not_right(marking: Marking, exercise: str, file: str) -> Optional[str]:

@@ -45,9 +45,9 @@ class Stopped(BaseException):
     """A signal has come, which is its argument."""
 
 
-def program() -> str:
-    """Returns the path of `ob0`: beside the script that runs, or else on PATH."""
-    found = shutil.which("ob0", path=HERE + os.pathsep + os.environ.get("PATH", ""))
+def program(named: str = "") -> str:
+    """Returns the path of `ob0`: the one that is named, or else beside the script that runs or on PATH."""
+    found = named or shutil.which("ob0", path=HERE + os.pathsep + os.environ.get("PATH", ""))
     if not found:
         raise Failure("ob0 is neither beside this program nor on PATH")
     return found
@@ -140,9 +140,6 @@ class Server:
         self.process.wait()
 
 
-# Texts and places
-
-
 def line_starts(text: bytes) -> List[int]:
     """Returns the offset at which each line begins."""
     return [0, *(it.end() for it in re.finditer(rb"\r\n|\r|\n", text))]
@@ -185,18 +182,18 @@ def text_of(path: str) -> bytes:
 
 
 def begins_with_module(path: str) -> bool:
-    """Whether the first word of a file is MODULE, also in small letters, after comments and a byte order mark. (Go's go.mod also begins
-    with that word.)"""
+    """Whether the first word of a file is MODULE, also in small letters, after comments and a byte order mark. (Go's files also begin
+    with that word; a path follows it there.)"""
     depth, text = 0, re.sub(rb"^\xef\xbb\xbf", b"", bytes_of(path))
-    if os.path.basename(path) == "go.mod":
-        return False
     for it in re.finditer(rb"\(\*|\*\)|[^ \t\r\n(*]+|[(*]", text):
         if it[0] == b"(*":
             depth += 1
         elif it[0] == b"*)" and depth:
             depth -= 1
         elif not depth:
-            return bool(re.match(rb"(?i)MODULE(?![a-z0-9_])", it[0]))
+            is_go = os.path.basename(path) == "go.mod" or re.match(rb"(?i)module[ \t]+[^ \t\r\n]*[./][a-z0-9]", text[it.start() :])
+            words = rb"MODULE(?![A-Za-z0-9_])" if is_go else rb"(?i)MODULE(?![a-z0-9_])"
+            return bool(re.match(words, text[it.start() :]))
     return False
 
 
@@ -215,9 +212,6 @@ def modules_at(path: str) -> Iterator[str]:
         elif it.is_file(follow_symlinks=False) and it.name.endswith(ENDINGS):
             if it.name.endswith(".ob0") or begins_with_module(below):
                 yield below
-
-
-# Files that are replaced
 
 
 def keep_attributes(old: str, new: str) -> None:
@@ -271,9 +265,6 @@ def replace(path: str, old: bytes, text: bytes) -> None:
                 raise
     finally:
         signal.pthread_sigmask(signal.SIG_SETMASK, before)
-
-
-# Lines that are printed
 
 
 def why_unprinted(stream: Optional[TextIO], text: Union[str, bytes]) -> str:
