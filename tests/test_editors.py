@@ -70,10 +70,14 @@ def play(
     return [(it["step"], it["found"]) for it in found]
 
 
-def in_neovim(steps: str, text: str, **given: Any) -> Steps:
+def in_neovim(steps: str, text: str, breaks: str = "", **given: Any) -> Steps:
     want("Neovim")
     words = ["nvim", "--headless", "-n", "-i", "NONE", "-S", os.path.join(EDITORS, "neovim.lua")]
-    set_up = lambda room: write(os.path.join(room, ".config", "nvim", "init.lua"), "\n".join(snippets("neovim", "lua")))
+
+    def set_up(room: str) -> None:
+        write(os.path.join(room, ".config", "nvim", "init.lua"), "\n".join(snippets("neovim", "lua")))
+        write(os.path.join(room, "breaks"), breaks)
+
     return play("neovim", words, steps, text, given, set_up)
 
 
@@ -358,6 +362,37 @@ def neovim_refused() -> None:
     told = [(it, f"ob0: {ILL_TYPED}") for it in ("rename", "hover", "definition", "format")]
     found = in_neovim("refused", REFUSING, renames=[it[:2] for it in REFUSED_RENAMES])
     same(found, [("opened", []), *steps, *told, ("ended", ENDED)])
+
+
+@test("Neovim: a text that the server can't read is closed and opened again once, and after that at the next change")
+def neovim_unread() -> None:
+    text = "MODULE M;\n\nBEGIN Write(1) END M.\n"
+    again = "ob0: the server can't read m.mod: it is opened again (not JSON)"
+    closed = "ob0: the server can't read m.mod: it stays closed until it is changed (not JSON)"
+    steps = [
+        (" a  ", ["didChange didClose didOpen didClose", f"{again} | {closed}"]),
+        (" b  ", ["didOpen didClose", ""]),
+        ("", ["didOpen", ""]),
+        ("read", [[1, 0, 1, 1, "BadChar", "bad character"]]),
+    ]
+    same(in_neovim("unread", text, breaks="readable"), [("opened", []), *steps, ("ended", ENDED)])
+
+
+# texts, whether formatting changes each, and the file that is saved then
+LINES_ENDED = [
+    ("MODULE M;\nBEGIN Write(1) END M.", True, "MODULE M;\nBEGIN\n  Write(1)\nEND M.\n"),
+    ("MODULE M;\nBEGIN\n  Write(1)\nEND M.", False, "MODULE M;\nBEGIN\n  Write(1)\nEND M.\n"),
+    ("MODULE M;\r\nBEGIN Write(1) END M.\r\n", True, "MODULE M;\r\nBEGIN\r\n  Write(1)\r\nEND M.\r\n"),
+    ("MODULE M;\r\nBEGIN\r\n  Write(1)\r\nEND M.\r\n", False, "MODULE M;\r\nBEGIN\r\n  Write(1)\r\nEND M.\r\n"),
+    ("MODULE M;\r\n(* é\U0001f600 *) BEGIN Write(1) END M.", True, "MODULE M;\r\n(* é\U0001f600 *)\r\nBEGIN\r\n  Write(1)\r\nEND M.\r\n"),
+]
+
+
+@test("Neovim: a text with CR LF, or without the end of its last line, is formatted once, and the file has its own line ends")
+def neovim_line_ends() -> None:
+    for text, changes, written in LINES_ENDED:
+        steps = [("opened", []), ("changes", changes), ("changes", False), ("file", written), ("ended", ENDED)]
+        same(in_neovim("formatted", text), steps, f"the steps on {text!r}")
 
 
 def refused_in_emacs(editor: Client, end: Steps) -> None:
