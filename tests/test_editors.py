@@ -87,7 +87,12 @@ def in_emacs_by(client: str, steps: str, text: str, given: dict[str, Any]) -> St
     lines = snippets("emacs", "elisp")["eglot lsp-mode".split().index(client)]
     init = os.path.join(".emacs.d", "init.el")
     words = ["emacs", "--batch", "--eval", f'(progn (package-initialize) (load "~/{init}"))', "-l", os.path.join(EDITORS, f"{client}.el")]
-    return play("emacs", words, steps, text, given, lambda room: write(os.path.join(room, init), lines))
+
+    def set_up(room: str) -> None:
+        write(os.path.join(room, init), lines)
+        write(os.path.join(room, "breaks"), given.get("breaks", ""))
+
+    return play("emacs", words, steps, text, given, set_up)
 
 
 def in_emacs(steps: str, text: str, **given: Any) -> Steps:
@@ -393,6 +398,37 @@ def neovim_line_ends() -> None:
     for text, changes, written in LINES_ENDED:
         steps = [("opened", []), ("changes", changes), ("changes", False), ("file", written), ("ended", ENDED)]
         same(in_neovim("formatted", text), steps, f"the steps on {text!r}")
+
+
+def line_ends_in_emacs(editor: Client, end: Steps) -> None:
+    for text, changes, written in LINES_ENDED[2:4]:
+        steps = [("opened", []), ("changes", changes), ("changes", False), ("file", written), *end]
+        same(editor("formatted", text), steps, f"the steps on {text!r}")
+
+
+@test("Emacs: a text with CR LF is formatted once, and the file has its own line ends")
+def emacs_line_ends() -> None:
+    line_ends_in_emacs(in_emacs, [("ended", 0)])
+
+
+@test("lsp-mode: a text with CR LF is formatted once, and the file has its own line ends")
+def lsp_mode_line_ends() -> None:
+    line_ends_in_emacs(in_lsp_mode, [])
+
+
+@test("Emacs: a text that can't be told is closed and opened again at the next change, and so is one that isn't read")
+def emacs_unread() -> None:
+    found = in_emacs("unread", "MODULE M;\n\nEND M.\n", breaks="readable")
+    told = {step: it for step, it in found if step not in ("opened", "ended")}
+    same(list(told), ["half a pair", "still", "mended", "no message"], "the steps")
+    # (eglot itself fails to tell the first change and the first two openings)
+    wanted_told = ["didChange didClose didOpen didClose", "didOpen", "didOpen", "didClose didOpen"]
+    same([told[it][0] for it in told], wanted_told, "what is told")
+    again, closed = (told["half a pair"][1] + " | ").split(" | ")[:2]
+    holds(again.startswith("ob0: the server can't read m.mod: it is opened again"), again)
+    holds(closed.startswith("ob0: the server can't read m.mod: it stays closed until it is changed"), closed)
+    same([told["still"][1], told["mended"][1]], ["", ""], "what is said while it stays closed, and then")
+    same(told["no message"][1], "ob0: the server can't read m.mod: it is opened again (not JSON)", "what is said at last")
 
 
 def refused_in_emacs(editor: Client, end: Steps) -> None:
