@@ -653,6 +653,7 @@ def in_vscode(folder: str, *kind: str) -> tuple[str, Any, list[Message], list[Me
     with temporary() as room:
         own = at_home(room, "vscode")
         put_between(room)
+        write(os.path.join(room, "breaks"), "" if "real" in kind else "readable")
         # (one that is packed has its modules with it)
         nodes = vsix.modules() if folder == vsix.FOLDER else None
         own["NODE_PATH"] = os.pathsep.join(nodes.folders) if nodes else ""
@@ -685,6 +686,10 @@ def in_vscode_by(*kind: str, folder: str = vsix.FOLDER) -> None:
         "`j` is declared in line 2 already (Duplicate)",
     ]
     same(found["refused"], refused, "renames that are refused, with the lines as the editor counts them")
+    hows = ("it is opened again", "it stays closed until it is changed")
+    unread = [f"The server can't read FILE: {how} (not JSON)." for how in hows]
+    said = None if "real" in kind else [unread, [], []]
+    same(found.get("half"), said, "what is said of a text with half a surrogate pair, and of it without that")
     formatted = MADE_AT_ONCE["layout"].replace("\n", "\r\n")
     same(found["carriageReturns"], [True, 0, formatted], "a text with CR LF that is formatted")
     same(found["edits"]["made"], MADE_AT_ONCE, "what answers leave that come at once")
