@@ -70,10 +70,14 @@ def play(
     return [(it["step"], it["found"]) for it in found]
 
 
-def in_neovim(steps: str, text: str, **given: Any) -> Steps:
+def in_neovim(steps: str, text: str, breaks: str = "", **given: Any) -> Steps:
     want("Neovim")
     words = ["nvim", "--headless", "-n", "-i", "NONE", "-S", os.path.join(EDITORS, "neovim.lua")]
-    set_up = lambda room: write(os.path.join(room, ".config", "nvim", "init.lua"), "\n".join(snippets("neovim", "lua")))
+
+    def set_up(room: str) -> None:
+        write(os.path.join(room, ".config", "nvim", "init.lua"), "\n".join(snippets("neovim", "lua")))
+        write(os.path.join(room, "breaks"), breaks)
+
     return play("neovim", words, steps, text, given, set_up)
 
 
@@ -83,7 +87,12 @@ def in_emacs_by(client: str, steps: str, text: str, given: dict[str, Any]) -> St
     lines = snippets("emacs", "elisp")["eglot lsp-mode".split().index(client)]
     init = os.path.join(".emacs.d", "init.el")
     words = ["emacs", "--batch", "--eval", f'(progn (package-initialize) (load "~/{init}"))', "-l", os.path.join(EDITORS, f"{client}.el")]
-    return play("emacs", words, steps, text, given, lambda room: write(os.path.join(room, init), lines))
+
+    def set_up(room: str) -> None:
+        write(os.path.join(room, init), lines)
+        write(os.path.join(room, "breaks"), given.get("breaks", ""))
+
+    return play("emacs", words, steps, text, given, set_up)
 
 
 def in_emacs(steps: str, text: str, **given: Any) -> Steps:
@@ -360,6 +369,68 @@ def neovim_refused() -> None:
     same(found, [("opened", []), *steps, *told, ("ended", ENDED)])
 
 
+@test("Neovim: a text that the server can't read is closed and opened again once, and after that at the next change")
+def neovim_unread() -> None:
+    text = "MODULE M;\n\nBEGIN Write(1) END M.\n"
+    again = "ob0: the server can't read m.mod: it is opened again (not JSON)"
+    closed = "ob0: the server can't read m.mod: it stays closed until it is changed (not JSON)"
+    steps = [
+        (" a  ", ["didChange didClose didOpen didClose", f"{again} | {closed}"]),
+        (" b  ", ["didOpen didClose", ""]),
+        ("", ["didOpen", ""]),
+        ("read", [[1, 0, 1, 1, "BadChar", "bad character"]]),
+    ]
+    same(in_neovim("unread", text, breaks="readable"), [("opened", []), *steps, ("ended", ENDED)])
+
+
+# texts, whether formatting changes each, and the file that is saved then
+LINES_ENDED = [
+    ("MODULE M;\nBEGIN Write(1) END M.", True, "MODULE M;\nBEGIN\n  Write(1)\nEND M.\n"),
+    ("MODULE M;\nBEGIN\n  Write(1)\nEND M.", False, "MODULE M;\nBEGIN\n  Write(1)\nEND M.\n"),
+    ("MODULE M;\r\nBEGIN Write(1) END M.\r\n", True, "MODULE M;\r\nBEGIN\r\n  Write(1)\r\nEND M.\r\n"),
+    ("MODULE M;\r\nBEGIN\r\n  Write(1)\r\nEND M.\r\n", False, "MODULE M;\r\nBEGIN\r\n  Write(1)\r\nEND M.\r\n"),
+    ("MODULE M;\r\n(* é\U0001f600 *) BEGIN Write(1) END M.", True, "MODULE M;\r\n(* é\U0001f600 *)\r\nBEGIN\r\n  Write(1)\r\nEND M.\r\n"),
+]
+
+
+@test("Neovim: a text with CR LF, or without the end of its last line, is formatted once, and the file has its own line ends")
+def neovim_line_ends() -> None:
+    for text, changes, written in LINES_ENDED:
+        steps = [("opened", []), ("changes", changes), ("changes", False), ("file", written), ("ended", ENDED)]
+        same(in_neovim("formatted", text), steps, f"the steps on {text!r}")
+
+
+def line_ends_in_emacs(editor: Client, end: Steps) -> None:
+    for text, changes, written in LINES_ENDED[2:4]:
+        steps = [("opened", []), ("changes", changes), ("changes", False), ("file", written), *end]
+        same(editor("formatted", text), steps, f"the steps on {text!r}")
+
+
+@test("Emacs: a text with CR LF is formatted once, and the file has its own line ends")
+def emacs_line_ends() -> None:
+    line_ends_in_emacs(in_emacs, [("ended", 0)])
+
+
+@test("lsp-mode: a text with CR LF is formatted once, and the file has its own line ends")
+def lsp_mode_line_ends() -> None:
+    line_ends_in_emacs(in_lsp_mode, [])
+
+
+@test("Emacs: a text that can't be told is closed and opened again at the next change, and so is one that isn't read")
+def emacs_unread() -> None:
+    found = in_emacs("unread", "MODULE M;\n\nEND M.\n", breaks="readable")
+    told = {step: it for step, it in found if step not in ("opened", "ended")}
+    same(list(told), ["half a pair", "still", "mended", "no message"], "the steps")
+    # (eglot itself fails to tell the first change and the first two openings)
+    wanted_told = ["didChange didClose didOpen didClose", "didOpen", "didOpen", "didClose didOpen"]
+    same([told[it][0] for it in told], wanted_told, "what is told")
+    again, closed = (told["half a pair"][1] + " | ").split(" | ")[:2]
+    holds(again.startswith("ob0: the server can't read m.mod: it is opened again"), again)
+    holds(closed.startswith("ob0: the server can't read m.mod: it stays closed until it is changed"), closed)
+    same([told["still"][1], told["mended"][1]], ["", ""], "what is said while it stays closed, and then")
+    same(told["no message"][1], "ob0: the server can't read m.mod: it is opened again (not JSON)", "what is said at last")
+
+
 def refused_in_emacs(editor: Client, end: Steps) -> None:
     steps = [(name, f"ob0: {words}") for _, name, words in REFUSED_RENAMES]
     told = [(it, f"ob0: {ILL_TYPED}") for it in ("rename", "definition", "format")]
@@ -582,6 +653,7 @@ def in_vscode(folder: str, *kind: str) -> tuple[str, Any, list[Message], list[Me
     with temporary() as room:
         own = at_home(room, "vscode")
         put_between(room)
+        write(os.path.join(room, "breaks"), "" if "real" in kind else "readable")
         # (one that is packed has its modules with it)
         nodes = vsix.modules() if folder == vsix.FOLDER else None
         own["NODE_PATH"] = os.pathsep.join(nodes.folders) if nodes else ""
@@ -614,6 +686,10 @@ def in_vscode_by(*kind: str, folder: str = vsix.FOLDER) -> None:
         "`j` is declared in line 2 already (Duplicate)",
     ]
     same(found["refused"], refused, "renames that are refused, with the lines as the editor counts them")
+    hows = ("it is opened again", "it stays closed until it is changed")
+    unread = [f"The server can't read FILE: {how} (not JSON)." for how in hows]
+    said = None if "real" in kind else [unread, [], []]
+    same(found.get("half"), said, "what is said of a text with half a surrogate pair, and of it without that")
     formatted = MADE_AT_ONCE["layout"].replace("\n", "\r\n")
     same(found["carriageReturns"], [True, 0, formatted], "a text with CR LF that is formatted")
     same(found["edits"]["made"], MADE_AT_ONCE, "what answers leave that come at once")

@@ -438,6 +438,21 @@ def files() -> None:
                 same(talk.watcher.watched["lost-change"], 1, "how many were compared")
 
 
+@test("watch: an edit of many replacements, some with line ends, is told one at a time")
+def many_line_ends() -> None:
+    for end in ("\n", "\r\n"):
+        lines = ["MODULE M;", *["VAR a:INTEGER;"] * 11, "END M."]
+        text = end.join(lines)
+        talk = Talk(text)
+        places = [f"{line}:6-{line}:6" if line % 6 else f"{line}:3-{line}:4" for line in range(1, 12)]
+        edits = [{"range": extent(it), "text": " " if it[-1] == "6" else "\n  "} for it in places]
+        talk.is_answered(edits, FORMAT)
+        for it in reversed(edits):
+            talk.changes([{**it, "text": it["text"].replace("\n", end)}])
+        same((talk.found(True), talk.found(False)), (set(), set()), f"the layout of a text with {end!r}")
+        same(talk.watcher.watched["half-edit"], 1, "how often it is counted")
+
+
 def put(path: str, text: str) -> None:
     """Replaces a file's text at once."""
     write(path + ".new", text)

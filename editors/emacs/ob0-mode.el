@@ -471,6 +471,62 @@ If nothing is found because the module has an error, tell that."
 (with-eval-after-load 'xref
   (advice-add 'xref-find-definitions :around #'ob0--tell-refusal))
 
+;; A text with half a surrogate pair, or with a byte that isn't UTF-8, can't be told: eglot then fails at each change, and the
+;; server keeps an older text. So such a buffer is closed there and opened again once, and after that at the next change.
+
+(defvar ob0--told nil
+  "The buffer whose text a server was told last.")
+(defvar-local ob0--tried nil
+  "Whether this buffer was opened again, and the server hasn't read it since.")
+(defvar-local ob0--closed nil
+  "Whether this buffer is closed at the server, since its text can't be told.")
+
+(defvar eglot--recent-changes)
+(declare-function eglot--signal-textDocument/didOpen "ext:eglot")
+(declare-function eglot--signal-textDocument/didClose "ext:eglot")
+(defun ob0--open-again (why)
+  "Close this buffer at the server, and open it again unless that was tried.
+WHY says what is wrong with it."
+  (eglot--signal-textDocument/didClose)
+  (let ((is-again ob0--tried))
+    (setq ob0--tried t ob0--closed is-again)
+    (message "ob0: the server can't read %s: %s (%s)" (buffer-name)
+             (if is-again "it stays closed until it is changed" "it is opened again") why)
+    (unless is-again
+      (condition-case problem (eglot--signal-textDocument/didOpen)
+        (error (ob0--open-again (error-message-string problem)))))))
+
+(defun ob0--tell-change (tell &rest arguments)
+  "Call TELL with ARGUMENTS, which tells the server what was changed here."
+  (if (not (derived-mode-p 'ob0-mode))
+      (apply tell arguments)
+    (setq ob0--told (current-buffer))
+    (let ((is-changed eglot--recent-changes))
+      (condition-case problem
+          (cond ((not ob0--closed) (apply tell arguments))
+                (is-changed (eglot--signal-textDocument/didOpen) (setq ob0--closed nil)))
+        (error (if ob0--closed
+                   (setq eglot--recent-changes nil)
+                 (ob0--open-again (error-message-string problem))))))))
+
+(defun ob0--take-answer (_ message &rest _)
+  "Take a MESSAGE of a server: whether it has read a text, or couldn't."
+  (let ((id (plist-get message :id))
+        (refusal (plist-get (plist-get message :error) :message))
+        (published (plist-get message :params)))
+    (cond ((and (plist-get message :method) (plist-get published :version))
+           (dolist (it (buffer-list))
+             (with-current-buffer it
+               (when (and ob0--tried (not ob0--closed) (derived-mode-p 'ob0-mode))
+                 (setq ob0--tried nil)))))
+          ((and (null id) (member refusal '("not JSON" "not a message")) (buffer-live-p ob0--told))
+           (with-current-buffer ob0--told
+             (unless ob0--closed (ob0--open-again refusal)))))))
+
+(with-eval-after-load 'eglot
+  (advice-add 'eglot--signal-textDocument/didChange :around #'ob0--tell-change)
+  (advice-add 'jsonrpc-connection-receive :before #'ob0--take-answer))
+
 (defvar lsp-language-id-configuration)
 (defvar lsp--formatting-indent-alist)
 (declare-function lsp-register-client "ext:lsp-mode")

@@ -178,7 +178,57 @@ async function apply(edit, isCurrent) {
   else vscode.window.showWarningMessage("The text was changed since the action was offered: ask for it again.");
 }
 
+// The server answers what it can't read (half a surrogate pair, say) without an id, and then has an older text. So the document that
+// it was told of last is closed and opened again, once; if that isn't read either, it is opened at the next change.
+const unread = { told: undefined, tried: new Map(), closed: new Set() };
+
+function openAgain(why) {
+  const { told, tried, closed } = unread;
+  const uri = told && String(told.uri);
+  if (!told || told.isClosed || closed.has(uri)) return;
+  client.sendNotification("textDocument/didClose", { textDocument: { uri } });
+  const count = tried.get(uri) || 0;
+  tried.set(uri, count + 1);
+  if (count) closed.add(uri);
+  else openNow(told);
+  const how = count ? "it stays closed until it is changed" : "it is opened again";
+  if (count < 2) vscode.window.showWarningMessage(`The server can't read ${told.fileName}: ${how} (${why}).`);
+}
+
+function openNow(document) {
+  const { uri, languageId, version } = document;
+  const textDocument = { uri: String(uri), languageId, version, text: document.getText() };
+  return client.sendNotification("textDocument/didOpen", { textDocument });
+}
+
+const messageStrategy = {
+  handleMessage(message, next) {
+    const { method, params, id, error } = message;
+    if (method === "textDocument/publishDiagnostics" && params.version !== undefined) unread.tried.delete(params.uri);
+    if (id === null && error && /^not (JSON|a message)$/.test(error.message)) openAgain(error.message);
+    else next(message);
+  },
+};
+
+function opened(document, next) {
+  unread.told = document;
+  return next(document);
+}
+
+function changed(change, next) {
+  unread.told = change.document;
+  return unread.closed.delete(String(change.document.uri)) ? openNow(change.document) : next(change);
+}
+
+function closed(document, next) {
+  for (const it of [unread.tried, unread.closed]) it.delete(String(document.uri));
+  return next(document);
+}
+
 const middleware = {
+  didOpen: opened,
+  didChange: changed,
+  didClose: closed,
   provideHover: findOrTell,
   provideDefinition: findOrTell,
   prepareRename: prepareOrTell,
@@ -199,7 +249,7 @@ async function start() {
     return;
   }
   const documentSelector = ["file", "untitled"].map((scheme) => ({ language: "oberon0", scheme }));
-  const options = { documentSelector, middleware, revealOutputChannelOn: NEVER };
+  const options = { documentSelector, middleware, revealOutputChannelOn: NEVER, connectionOptions: { messageStrategy } };
   client = new LanguageClient("ob0", "Oberon-0", { command: name, args: ["serve"] }, options);
   await client.start();
 }

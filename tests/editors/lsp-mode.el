@@ -116,6 +116,17 @@
   (ob0-report "definition" (ob0-said-by (lambda () (xref-find-definitions (xref-backend-identifier-at-point 'xref-lsp)))))
   (ob0-report "format" (ob0-said-by #'lsp-format-buffer)))
 
+(defun ob0-formatted ()
+  "A layout and whether it changes something, the same once more, and the file that is written then."
+  (dotimes (_ 2)
+    (let ((tick (buffer-chars-modified-tick)))
+      (lsp-format-buffer)
+      (ob0-report "changes" (if (> (buffer-chars-modified-tick) tick) t :false))))
+  (save-buffer)
+  (ob0-report "file" (with-temp-buffer
+                     (let ((coding-system-for-read 'utf-8-unix)) (insert-file-contents (getenv "OB0_FILE")))
+                     (buffer-string))))
+
 (defun ob0-run-steps ()
   "Opens the file, which starts the server on it, takes the steps and ends."
   (find-file (getenv "OB0_FILE"))

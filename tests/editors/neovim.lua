@@ -300,6 +300,46 @@ function steps.refused()
   end
 end
 
+-- What is told to the server of a text that it can't read, until it can; and what is shown then.
+function steps.unread(client)
+  say("opened", diagnosed(0))
+  local told, said = {}, {}
+  local notify = client.rpc.notify
+  client.rpc.notify = function(method, params)
+    table.insert(told, method:match("did%a+"))
+    return notify(method, params)
+  end
+  vim.notify = function(text)
+    table.insert(said, text)
+  end
+  local function after_telling(line, count)
+    vim.api.nvim_buf_set_lines(0, 1, 2, true, { line })
+    await("what is told", function()
+      return #told >= count
+    end)
+    vim.wait(500)
+    say(line:gsub("[^%w ]", ""), { table.concat(told, " "), table.concat(said, " | ") })
+    told, said = {}, {}
+  end
+  after_telling("(* a \237\160\189 *)", 4)
+  after_telling("(* b \237\160\189 *)", 2)
+  after_telling("$", 1)
+  say("read", diagnosed(published - 1))
+end
+
+-- A layout, how many changes it makes, the same once more, and the file that is written then.
+function steps.formatted()
+  say("opened", diagnosed(0))
+  for _ = 1, 2 do
+    local tick = vim.api.nvim_buf_get_changedtick(0)
+    lay_out()
+    say("changes", vim.api.nvim_buf_get_changedtick(0) > tick)
+  end
+  vim.cmd("write")
+  local written = assert(io.open(file, "rb"))
+  say("file", written:read("*a"))
+end
+
 -- What the prompt of a rename begins with.
 function steps.prompted()
   say("opened", diagnosed(0))

@@ -22,6 +22,12 @@ class LanguageClient {
     return new Promise((settle, fail) => (this.waiting[id] = [settle, fail]));
   }
   take(message) {
+    this.options.connectionOptions.messageStrategy.handleMessage(message, (it) => this.handle(it));
+  }
+  sendNotification(method, params) {
+    this.send({ method, params });
+  }
+  handle(message) {
     if (message.error) return this.waiting[message.id][1](new Error(message.error.message));
     if (message.id) return this.waiting[message.id][0](message.result);
     const diagnostics = message.params.diagnostics.map((it) => ({ code: it.code }));
@@ -47,10 +53,12 @@ class LanguageClient {
     const textDocument = { codeAction: { codeActionLiteralSupport: { codeActionKind: { valueSet: ["refactor"] } } } };
     await this.ask("initialize", { capabilities: { workspace: { workspaceEdit: { documentChanges: true } }, textDocument } });
     this.send({ method: "initialized", params: {} });
-    for (const document of vscode.workspace.textDocuments) this.opened(document);
-    vscode.workspace.onDidOpenTextDocument(this.opened, this);
-    vscode.workspace.onDidChangeTextDocument(this.changed, this);
-    vscode.workspace.onDidCloseTextDocument(this.closed, this);
+    const { middleware } = this.options;
+    const tells = (name, tell) => (what) => middleware[name](what, (it) => tell.call(this, it));
+    for (const document of vscode.workspace.textDocuments) tells("didOpen", this.opened)(document);
+    vscode.workspace.onDidOpenTextDocument(tells("didOpen", this.opened));
+    vscode.workspace.onDidChangeTextDocument(tells("didChange", this.changed));
+    vscode.workspace.onDidCloseTextDocument(tells("didClose", this.closed));
     this.provide();
     this.running = true;
   }
@@ -206,6 +214,26 @@ async function carriageReturns() {
   return [isAnswered, document.version - version, document.text];
 }
 
+// What is told of a document with half a surrogate pair, and then without it; and what is said.
+async function half() {
+  const document = await fresh(true);
+  const told = () => fs.readFileSync(path.join(wire, "wire"), "utf8").split(path.basename(document.fileName)).length;
+  const found = [];
+  for (const [text, count] of [["\ud83d", 4], [" ", 2]]) {
+    const before = told();
+    done.messages = [];
+    user.type(document, 0, 0, text);
+    await until(() => told() >= before + count, "what is told");
+    await new Promise((settle) => setTimeout(settle, 300));
+    found.push(done.messages.map((it) => it.replace(document.fileName, "FILE")));
+  }
+  document.text = TEXT;
+  delete done.diagnostics[document.fileName];
+  user.type(document, 0, 0, " ");
+  await until(() => done.diagnostics[document.fileName], "the diagnostics");
+  return [...found, done.diagnostics[document.fileName]];
+}
+
 async function edits() {
   const found = { made: {}, late: {} };
   for (const [name, [method, ask]] of Object.entries(ASKED)) {
@@ -301,6 +329,8 @@ async function main() {
   found.told = done.messages;
   found.refused = await refused();
   found.carriageReturns = await carriageReturns();
+  // (that depends on an option of the client which was never tried with the real one)
+  if (kind !== "real") found.half = await half();
   found.edits = await edits();
   found.restarted = await restarted();
   found.stopped = await extension.deactivate().then(() => "deactivated", String);

@@ -76,9 +76,31 @@ local function refused(message)
   return { code = unshown, message = message }
 end
 
+-- The text of a range, with LF at the end of each line.
+local function text_in(buffer, range, encoding)
+  local first, last = range.start, range["end"]
+  local lines = vim.api.nvim_buf_get_lines(buffer, first.line, last.line + 1, false)
+  if last.line >= first.line + #lines then -- (after the end of the last line)
+    table.insert(lines, "")
+  end
+  lines[#lines] = lines[#lines]:sub(1, offset_in(lines[#lines], last.character, encoding))
+  lines[1] = lines[1]:sub(offset_in(lines[1], first.character, encoding) + 1)
+  return table.concat(lines, "\n")
+end
+
+-- The edits of a layout that change something in a buffer with CR LF: in the server's text each line end differs from the layout's.
+local function without_line_ends(edits, buffer, encoding)
+  if not vim.api.nvim_buf_is_loaded(buffer) or vim.bo[buffer].fileformat ~= "dos" then
+    return edits
+  end
+  return vim.tbl_filter(function(it)
+    return text_in(buffer, it.range, encoding) ~= it.newText
+  end, edits)
+end
+
 -- An answer as its handler gets it: an error instead of edits of another text, and a refusal in words. The edits of code actions
 -- keep what they were made for, since they are applied when one is chosen.
-local function checked(made_for, fault, result, encoding)
+local function checked(made_for, method, fault, result, encoding)
   if fault and fault.code == unshown then -- (told by a request inside this one)
     return fault, nil
   end
@@ -90,6 +112,9 @@ local function checked(made_for, fault, result, encoding)
   end
   if not is_current(made_for) then
     return refused(changed), nil
+  end
+  if method == "textDocument/formatting" then
+    return fault, without_line_ends(result, made_for.buffer, encoding)
   end
   for _, it in ipairs(result) do
     if type(it.edit) == "table" then
@@ -159,23 +184,78 @@ local function prepared(client, buffer, fault, result)
   return { range = result, placeholder = line:sub(first + 1, last) }
 end
 
+-- The whole text of a buffer, as it is told.
+local function text_of(buffer)
+  local line_end = ({ unix = "\n", dos = "\r\n", mac = "\r" })[vim.bo[buffer].fileformat]
+  local text = table.concat(vim.api.nvim_buf_get_lines(buffer, 0, -1, true), line_end)
+  return vim.bo[buffer].eol and text .. line_end or text
+end
+
 -- Sends the whole text instead of changes at its start, if Neovim is 0.7: that loses the end of the last line where the buffer
 -- was empty.
 local function send_starts_whole(client)
-  local ends = { unix = "\n", dos = "\r\n", mac = "\r" }
   wrap(client, "notify", function(notify, method, params)
     local is_at_start = false
     for _, it in ipairs(method == "textDocument/didChange" and params.contentChanges or {}) do
       is_at_start = is_at_start or it.range and it.range.start.line == 0 and it.range.start.character == 0
     end
     if is_at_start then
-      local buffer = vim.uri_to_bufnr(params.textDocument.uri)
-      local line_end = ends[vim.bo[buffer].fileformat]
-      local text = table.concat(vim.api.nvim_buf_get_lines(buffer, 0, -1, true), line_end)
-      params.contentChanges = { { text = vim.bo[buffer].eol and text .. line_end or text } }
+      params.contentChanges = { { text = text_of(vim.uri_to_bufnr(params.textDocument.uri)) } }
     end
     return notify(method, params)
   end)
+end
+
+local unread = { ["not JSON"] = true, ["not a message"] = true }
+
+-- Has a client close a document that the server couldn't read, and open it again once. If that isn't read either (the text has
+-- bytes that aren't UTF-8), it stays closed until it is changed. The server names no document, so it is the one told last.
+local function open_unread_again(client)
+  local told, send, tried, closed = nil, nil, {}, {}
+  local function opening(uri)
+    local buffer = vim.uri_to_bufnr(uri)
+    local version = vim.api.nvim_buf_get_changedtick(buffer)
+    return { textDocument = { uri = uri, languageId = "ob0", version = version, text = text_of(buffer) } }
+  end
+  wrap(client, "notify", function(notify, method, params)
+    send = notify
+    local uri = params and params.textDocument and params.textDocument.uri
+    if method == "textDocument/didOpen" or method == "textDocument/didChange" then
+      told = uri
+    elseif method == "textDocument/didClose" then
+      tried[uri], closed[uri] = nil, nil
+    end
+    if method == "textDocument/didChange" and closed[uri] then
+      closed[uri] = nil
+      return notify("textDocument/didOpen", opening(uri))
+    end
+    return notify(method, params)
+  end)
+  local publish = client.handlers["textDocument/publishDiagnostics"]
+  client.handlers["textDocument/publishDiagnostics"] = function(fault, result, ...)
+    if result and result.version then
+      tried[result.uri] = nil
+    end
+    return (publish or vim.lsp.handlers["textDocument/publishDiagnostics"])(fault, result, ...)
+  end
+  return function(why)
+    local uri = told
+    if not uri or closed[uri] or not vim.api.nvim_buf_is_loaded(vim.uri_to_bufnr(uri)) then
+      return
+    end
+    local is_again, is_told = tried[uri] ~= nil, tried[uri] == "again"
+    send("textDocument/didClose", { textDocument = { uri = uri } })
+    if is_again then
+      closed[uri], tried[uri] = true, "again"
+    else
+      tried[uri] = "once"
+      send("textDocument/didOpen", opening(uri))
+    end
+    if not is_told then
+      local how = is_again and "it stays closed until it is changed" or "it is opened again"
+      tell(("the server can't read %s: %s (%s)"):format(vim.fn.fnamemodify(vim.uri_to_fname(uri), ":t"), how, why))
+    end
+  end
 end
 
 -- Shows the message of each diagnostic at the end of its line, if nothing shows messages: as in Neovim 0.11 and later, unless the
@@ -189,12 +269,19 @@ end
 
 local guarded = setmetatable({}, { __mode = "k" })
 
+-- Has the last line of a buffer end as it will in its file, so that the server has the text that is saved.
+function found.end_last_line(buffer)
+  if vim.bo[buffer].fixeol and not vim.bo[buffer].binary then
+    vim.bo[buffer].eol = true
+  end
+end
+
 -- Has a client refuse answers that are late, say why, and count places as the server does.
 function found.guard(client)
   if guarded[client] then
     return
   end
-  guarded[client] = true
+  guarded[client] = open_unread_again(client)
   guard_actions()
   client.offset_encoding = client.server_capabilities.positionEncoding or client.offset_encoding
   found.show_messages(client)
@@ -209,7 +296,7 @@ function found.guard(client)
     handler = handler or client.handlers[method] or vim.lsp.handlers[method]
     return request(method, params, function(fault, result, ...)
       if answered_by_edits[method] then
-        fault, result = checked(made_for, fault, result, client.offset_encoding)
+        fault, result = checked(made_for, method, fault, result, client.offset_encoding)
       elseif method == "textDocument/prepareRename" then
         result = prepared(client, made_for.buffer, fault, result)
         if not fault and not result then
@@ -225,10 +312,18 @@ function found.guard(client)
     local made_for = snapshot(buffer)
     local answer, why = request(method, params, timeout, buffer)
     if answer and answered_by_edits[method] then
-      answer.err, answer.result = checked(made_for, answer.err, answer.result, client.offset_encoding)
+      answer.err, answer.result = checked(made_for, method, answer.err, answer.result, client.offset_encoding)
     end
     return answer, why
   end)
+end
+
+-- Takes an answer without an id, which is how the server answers what it can't read.
+local function take_unread(client, answer)
+  local fault = type(answer) == "table" and answer.id == nil and answer.error
+  if client and type(fault) == "table" and unread[fault.message] then
+    guarded[client](fault.message)
+  end
 end
 
 local function capabilities()
@@ -243,12 +338,19 @@ local function capabilities()
 end
 
 function found.settings()
+  local started = nil
   return {
     name = "ob0",
     cmd = { vim.g.ob0_program or "ob0", "serve" },
     filetypes = { "ob0" },
     capabilities = capabilities(),
-    on_init = found.guard,
+    on_init = function(client)
+      started = client
+      found.guard(client)
+    end,
+    on_error = vim.schedule_wrap(function(_, answer)
+      take_unread(started, answer)
+    end),
   }
 end
 

@@ -34,7 +34,8 @@ end
 if vim.lsp.enable then -- Neovim 0.11 and later: by lsp/ob0.lua
   vim.api.nvim_create_autocmd("FileType", {
     pattern = "ob0",
-    callback = function()
+    callback = function(opened)
+      ob0.end_last_line(opened.buf)
       is_there(ob0.settings().cmd[1])
     end,
   })
@@ -66,6 +67,7 @@ end
 vim.api.nvim_create_autocmd("FileType", {
   pattern = "ob0",
   callback = function(opened)
+    ob0.end_last_line(opened.buf)
     attach(opened.buf)
   end,
 })
