@@ -20,7 +20,7 @@ def tool(name: str) -> Any:
 
 
 def printed(function: Callable[[], object]) -> Tuple[object, List[str]]:
-    """What a function returns, or the status that it ends the script with, and the lines that it prints."""
+    """Returns what a function returns, or the status that it ends the script with, and the lines that it prints."""
     with contextlib.redirect_stdout(io.StringIO()) as said, contextlib.redirect_stderr(said):
         try:
             found = function()

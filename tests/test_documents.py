@@ -13,13 +13,13 @@ LIMIT = 1048576
 
 
 def of(text: str, **named: Any) -> list[Message]:
-    """What is published where a text is opened."""
+    """Returns what is published where a text is opened."""
     with Server() as server:
         return server.notify(did_open(text, **named))
 
 
 def talk(*contents: Content) -> list[str]:
-    """What is sent after the first answer."""
+    """Returns what is sent after the first answer."""
     found = serve([initialize(), *contents])
     same((found.err, found.status), (b"", 1), "the end")
     same(found.contents()[0], FIRST, "the first answer")

@@ -573,7 +573,7 @@ def short_statements(longer: int) -> str:
 
 
 def length_after(text: str, edits: list[Message]) -> int:
-    """How many bytes a text on one line, of one byte each character, has with these edits."""
+    """Returns how many bytes a text on one line, of one byte each character, has with these edits."""
     ranges: list[tuple[str, int, int]] = [
         (it["newText"], it["range"]["start"]["character"], it["range"]["end"]["character"]) for it in edits
     ]

@@ -15,7 +15,7 @@ STACK = 4096  # kilobytes, half of what systems give
 
 
 def diagnosed(texts: list[str]) -> list[list[Message]]:
-    """What is reported of each text by one server under this stack."""
+    """Returns what is reported of each text by one server under this stack."""
     talk = frames([initialize(), *(did_open(it, version=at) for at, it in enumerate(texts)), SHUTDOWN, EXIT])
     found = serve(talk, stack=STACK)
     same((found.err, found.status), (b"", 0), "the end")

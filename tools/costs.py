@@ -29,7 +29,7 @@ class Module(NamedTuple):
     seconds: float
 
     def kind(self, lemmas: List[str]) -> str:
-        """What a module is: one of our own files of definitions or lemmas, or one that rattle makes for a function."""
+        """Returns what a module is: one of our own files of definitions or lemmas, or one that rattle makes for a function."""
         part, _, inside = self.name.partition(".")
         if part == "specs" and "." not in inside:
             return "definitions"

@@ -90,7 +90,7 @@ def without(found: Notices) -> list[str]:
 
 
 def short_name(crate: str, file: str) -> str:
-    """How a page of copyrights names a notice."""
+    """Returns how a page of copyrights names a notice."""
     return crate + file.replace("LICENSE", "").replace("-MIT", "")
 
 

@@ -57,7 +57,7 @@ def all_below(name: str, named: dict[str, list[str]]) -> set[str]:
 
 
 def nearest(named: dict[str, list[str]]) -> dict[str, list[str]]:
-    """What each name rests on, without what another of these rests on too."""
+    """Returns what each name rests on, without what another of these rests on too."""
     below = {name: all_below(name, named) for name in named}
     return {name: [it for it in given if not any(it in below[other] for other in given)] for name, given in named.items()}
 

@@ -139,7 +139,7 @@ class Talk:
 
 
 def answered_alike(query: Query) -> str | None:
-    """Whether a server that keeps nothing says the same, and if so what kind of answer that is."""
+    """Returns whether a server that keeps nothing says the same, and if so what kind of answer that is."""
     opening, published, question, answer = query
     found = harness.serve([initialize(**CLIENT), opening, question, SHUTDOWN, EXIT])
     same(found.status, 0, "the status of a server that keeps nothing")

@@ -104,7 +104,7 @@ def undisturbed(words: list[str], given: bytes = b"", cwd: str | None = None, **
 
 
 def fronts(written: bytes) -> list[bytes]:
-    """What a conversation's output has before each message and after the last."""
+    """Returns what a conversation's output has before each message and after the last."""
     contents = harness.unframed(written)
     return [harness.frames(contents[:count]) for count in range(len(contents) + 1)]
 

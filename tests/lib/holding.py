@@ -94,7 +94,7 @@ def units(letter: str, encoding: str) -> int:
 
 
 def offset(text: str, position: Message, encoding: str) -> int:
-    """Where a position is in a text: at the end of a line or of the text where there is no such one."""
+    """Returns where a position is in a text: at the end of a line or of the text where there is no such one."""
     ends = list(LINE_END.finditer(text))
     if position["line"] > len(ends):
         return len(text)

@@ -80,7 +80,7 @@ class Keyed:
         raise NotImplementedError
 
     def waits(self, holds: Callable[[], object], seconds: float = SECONDS) -> bool:
-        """Whether something holds in time; what the editor draws is read meanwhile."""
+        """Returns whether something holds in time; what the editor draws is read meanwhile."""
         end = time.monotonic() + seconds
         while not holds():
             if time.monotonic() > end:

@@ -41,7 +41,7 @@ PLAYED, STEPPED = "world::a_refused_event_keeps_earlier_results", "world::a_refu
 
 
 def refusals(crate: str, test: str) -> list[list[tuple[int, ...]]]:
-    """What a test prints of what was played, with each of its allocations failing in turn, and at last with none."""
+    """Returns what a test prints of what was played, with each of its allocations failing in turn, and at last with none."""
     words = [program_of(crate), test]
     plain = failing.undisturbed(words)
     numbers = range(1, plain.calls["memory"] + 1)
@@ -78,7 +78,7 @@ def walk(crate: str, test: str, most: int) -> str:
 
 
 def checks(crate: str, most: int) -> Iterator[tuple[str, Callable[[], str]]]:
-    """What is done with a crate's tests: names, each with what does it."""
+    """Yields what is done with a crate's tests: names, each with what does it."""
     found = tests_of(crate)
     for test in found:
         yield test, functools.partial(walk, crate, test, most)
