@@ -12,7 +12,7 @@ from common import match_of
 
 
 def lacks(command: str) -> Optional[str]:
-    """Returns what is said of a command that isn't here, or None."""
+    """Returns a text about a missing command, or None."""
     return None if shutil.which(command) else f"{command} is missing (on Debian: apt-get install {command})"
 
 
