@@ -46,7 +46,7 @@ def wrapper(room: str) -> str:
 
 
 def calls_in(path: str) -> Counter[str]:
-    """How often each of the counted functions was called in a run."""
+    """Returns how often each of the counted functions was called in a run."""
     found: Counter[str] = collections.Counter()
     name = ""
     with open(path, encoding="utf-8", errors="replace") as lines:

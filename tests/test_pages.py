@@ -86,3 +86,19 @@ def licence_stated() -> None:
         holds("MIT" in item and LICENCES in item, f"{page}: {item}")
     section = text_of("docs/INSTALL.md").partition("### Licences\n")[2].partition("\n#")[0]
     holds("without a notice" in section and "`json`" in section, f"docs/INSTALL.md: {section}")
+
+
+def words_of(page: str) -> int:
+    return len(text_of(page).split())
+
+
+@test("pages: each has at most the words that tests/pages.txt allows, and so have all together")
+def lengths_held() -> None:
+    allowed = {name: int(number) for name, number in (line.split(": ") for line in text_of("tests/pages.txt").splitlines())}
+    found = {it: words_of(it) for it in [*pages(), *(f"share/{it}" for it in os.listdir(os.path.join(TOP, "share")) if it.endswith(".1"))]}
+    others = allowed.pop("any other page")
+    longer = [f"{it}: {count} words" for it, count in found.items() if count > allowed.get(it, others)]
+    same(longer, [], "pages that are too long: say it once and shorter, or raise the number and say why in the commit")
+    total = allowed.pop("all pages together")
+    holds(sum(found.values()) <= total, f"all pages have {sum(found.values())} words, and may have {total}")
+    same(sorted(set(allowed) - set(found)), [], "pages of the list that don't exist")

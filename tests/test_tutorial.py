@@ -14,7 +14,7 @@ from homes import write
 from snippets import fenced
 
 PAGE = os.path.join("docs", "TUTORIAL.md")
-# modules that are there to show what is reported of them
+# modules that show an error
 FAULTY = ["Broken", "Mended", "Types"]
 VALUES = {"TRUE": "1", "FALSE": "0"}
 
@@ -58,7 +58,7 @@ def commands() -> None:
     same(sorted(used), sorted(modules()), "the modules that a command on the page names")
 
 
-@test("tutorial: its modules have no fault and are formatted as the server does it, but for those that show a fault")
+@test("tutorial: its modules are valid and formatted as by the server, except those that show an error")
 def laid_out() -> None:
     with Server() as server:
         for name, text in modules().items():

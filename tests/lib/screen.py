@@ -64,7 +64,7 @@ class Screen:
         return self.status
 
     def has_ended(self) -> bool:
-        """Whether the program has ended: then its status is known."""
+        """Returns whether the program has ended: then its status is known."""
         if self.status is None and os.waitid(os.P_PID, self.process, os.WEXITED | os.WNOHANG | os.WNOWAIT):
             self.take_status()
         return self.status is not None

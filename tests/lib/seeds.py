@@ -20,7 +20,7 @@ def of_commit() -> int:
 
 
 def starts() -> List[int]:
-    """Where the numbers begin, those that are always the same first."""
+    """Returns where the numbers begin, those that are always the same first."""
     given = os.environ.get("OB0_SEED")
     return [int(given)] if given else [0, of_commit()]
 
