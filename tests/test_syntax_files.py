@@ -205,6 +205,23 @@ def nano() -> None:
             holds(not re.search(rb"m(\x1b\(B)?Begin", screen.drawn.replace(b"\x1b[39;49m", b"").replace(b"\x1b(B\x1b[m", b"")), "a plain name has a colour")
 
 
+@test("syntax files: nano's linter goes to the first error and shows its message")
+def nano_lints() -> None:
+    want("nano")
+    need_program()
+    with temporary() as room:
+        own = at_home(room, "nano")
+        write(os.path.join(room, "faulty.ob0"), "MODULE M;\nVAR x: INTEGER;\nBEGIN\n  x := 1 + y\nEND M.\n")
+        settings = os.path.join(room, "nanorc")
+        write(settings, text_of(room, ".nanorc").replace("~", room))
+        with Screen(["nano", f"--rcfile={settings}", "--constantshow", "faulty.ob0"], {**own, "LC_ALL": "C.UTF-8"}, room) as screen:
+            screen.shows(b"BEGIN", "the module in nano")
+            screen.keys(b"\x1bb")
+            screen.shows(b"not declared", "the message of the linter")
+            screen.keys(b"\x03")
+            screen.shows(rb"line +4/.*col +12/", "the line and the column of the error")
+
+
 @test("syntax files: TextMate's, by the regular expressions of its kind")
 def textmate() -> None:
     want("Ruby")

@@ -1,4 +1,4 @@
-# Oberon-0 for Kakoune: file type, colours, comments, and `lint` by `ob0 check`.
+# Oberon-0 for Kakoune: file type, colours, comments, and `lint` by `ob0-check`.
 declare-option -docstring 'the program ob0: its name, or the path of its file' str ob0_program ob0
 
 hook global BufCreate .*\.ob0 %{ set-option buffer filetype ob0 }
@@ -31,8 +31,8 @@ hook global WinSetOption filetype=ob0 %{
     hook -group ob0-indent window InsertChar \n ob0-indent-on-new-line
     hook -group ob0-indent window InsertChar [A-Z] ob0-indent-on-word
     hook -once -always window WinSetOption filetype=.* %{ remove-hooks window ob0-indent }
-    # `ob0 check` counts lines and columns from 0 and names no file; awk writes its lines as a compiler does
-    set-option window lintcmd "run() { ""%opt{ob0_program}"" check ""$1"" | awk -F: -v f=""$1"" '{ l=$1+1; c=$2+1; sub(/^[0-9]+:[0-9]+: /, """"); print f "":"" l "":"" c "": error: "" $0 }'; } && run"
+    # (sed adds the kind that lint wants)
+    set-option window lintcmd "run() { ob0-check ""$1"" | sed 's/^[^:]*:[0-9]*:[0-9]*:/& error:/'; } && run"
 }
 
 hook -group ob0-highlight global WinSetOption filetype=ob0 %{
