@@ -111,7 +111,7 @@ def in_vim(steps: str, text: str, **given: Any) -> Steps:
 
 
 # what pages of editors say in the same words
-ONLY_SHOWN = "**not applicable**: ob0 makes no edits in this editor"
+ONLY_SHOWN = "**not applicable**: the server makes no edits in this editor"
 UNKNOWN = "save before each edit, and compare afterwards"
 WRONG_EDIT = "If an edit goes wrong: undo it, save, close the file and open it again."
 LONE_CR = "Remove each CR that no LF follows: edits after it may be wrong."
@@ -454,6 +454,15 @@ def vim_refused() -> None:
     told = [(it, f"ob0: {ILL_TYPED}") for it in ("rename", "hover", "definition")]
     found = in_vim("refused", REFUSING, renames=[it[:2] for it in REFUSED_RENAMES], title="")
     same(found, [("opened", []), *steps, *told])
+
+
+@test("Vim: by ALE a text is formatted by ob0-format, with its own line ends, and the run is kept")
+def vim_formatted() -> None:
+    for line_end in ("\n", "\r\n"):
+        text, written = "MODULE M;\nBEGIN Write(1) END M.\n", "MODULE M;\nBEGIN\n  Write(1)\nEND M.\n"
+        found = in_vim("formatted", text.replace("\n", line_end), title="")
+        same(found, [("opened", []), ("formatted", []), ("text", written), ("file", written.replace("\n", line_end))])
+        keeps_the_run(text, written, " 1")
 
 
 @test("Neovim: the prompt of a rename begins with the name, after letters that aren't ASCII too")

@@ -11,6 +11,11 @@ call ale#linter#Define('ob0', {
       \ 'project_root': {buffer -> expand('#' . buffer . ':p:h')},
       \ })
 
+" A fixer for ALE, which doesn't request formatting of a server: a script formats a copy by what the server answers.
+function! Ob0Fix(buffer) abort
+  return {'command': get(g:, 'ob0_format', 'ob0-format') . ' %t', 'read_temporary_file': 1}
+endfunction
+
 " ALE applies the edits of an answer to the text that is there when it comes. Here it forgets the rename and the code actions
 " that it waits for when a buffer of Oberon-0 changes or is closed, so that such an answer does nothing.
 function! s:Forget(buffer) abort
