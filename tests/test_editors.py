@@ -347,16 +347,16 @@ VAR x, y: INTEGER;
 BEGIN Write(1)
 END M.
 """
-ILL_TYPED = "the module has an error: fix the first one that is marked (ill-typed)"
+ILL_TYPED = "the module has an error: fix the first one that is marked"
 # renames of REFUSING that are refused: a place, the new name, and what an editor shows
 REFUSED_RENAMES = [
-    ([1, 4], "y", "`y` is declared in line 2 already (Duplicate)"),
-    ([1, 4], "z", "with the new name, `x` in line 4 would refer to another declaration (Captures)"),
-    ([1, 4], "END", "the new name isn't one: letters and digits, a letter first, and no reserved word (BadName)"),
+    ([1, 4], "y", "`y` is declared in line 2 already"),
+    ([1, 4], "z", "with the new name, `x` in line 4 would refer to another declaration"),
+    ([1, 4], "END", "a name has letters and digits, a letter first, and isn't a reserved word"),
     (
         [0, 7],
         "other",
-        "there is no name here that can be renamed: predeclared names and the module's own can't (NoName)",
+        "no name here can be renamed: predeclared ones and the module's can't",
     ),
 ]
 
@@ -691,8 +691,8 @@ def in_vscode_by(*kind: str, folder: str = vsix.FOLDER) -> None:
     faulty = {**faulty, "prepare": [ill_typed, []], "unnamed": no_name}
     same((found["faulty"], found["told"]), (faulty, []), "what is said in a module with an error, and shown over it")
     refused = [
-        "with the new name, `Write` in line 3 would refer to another declaration (Captures)",
-        "`j` is declared in line 2 already (Duplicate)",
+        "with the new name, `Write` in line 3 would refer to another declaration",
+        "`j` is declared in line 2 already",
     ]
     same(found["refused"], refused, "renames that are refused, with the lines as the editor counts them")
     hows = ("it is opened again", "it stays closed until it is changed")
