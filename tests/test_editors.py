@@ -777,6 +777,14 @@ def ycm_inline() -> None:
     keeps_the_run(text, wanted, " 7")
 
 
+@test("Vim by YouCompleteMe: a text with CR LF is formatted, and keeps its line ends")
+def ycm_line_ends() -> None:
+    for text, _, written in LINES_ENDED[2:4]:
+        found = in_vim_by_ycm("formatted", text)
+        laid_out = written.replace("\r\n", "\n")
+        same(found, [*YCM_TYPED, ("laid out", laid_out), ("file", written)], f"the steps on {text!r}")
+
+
 def in_kate(steps: str, text: str, **given: Any) -> Steps:
     want("Kate", "Xvfb", "xauth", "openbox", "xdotool", "D-Bus")
 
