@@ -111,7 +111,7 @@ def in_vim(steps: str, text: str, **given: Any) -> Steps:
 
 
 # what pages of editors say in the same words
-ONLY_SHOWN = "**not applicable**: ob0 makes no edits in this editor"
+ONLY_SHOWN = "**not applicable**: the server makes no edits in this editor"
 UNKNOWN = "save before each edit, and compare afterwards"
 WRONG_EDIT = "If an edit goes wrong: undo it, save, close the file and open it again."
 LONE_CR = "Remove each CR that no LF follows: edits after it may be wrong."
@@ -347,16 +347,16 @@ VAR x, y: INTEGER;
 BEGIN Write(1)
 END M.
 """
-ILL_TYPED = "the module has an error: fix the first one that is marked (ill-typed)"
+ILL_TYPED = "the module has an error: fix the first one that is marked"
 # renames of REFUSING that are refused: a place, the new name, and what an editor shows
 REFUSED_RENAMES = [
-    ([1, 4], "y", "`y` is declared in line 2 already (Duplicate)"),
-    ([1, 4], "z", "with the new name, `x` in line 4 would refer to another declaration (Captures)"),
-    ([1, 4], "END", "the new name isn't one: letters and digits, a letter first, and no reserved word (BadName)"),
+    ([1, 4], "y", "`y` is declared in line 2 already"),
+    ([1, 4], "z", "with the new name, `x` in line 4 would refer to another declaration"),
+    ([1, 4], "END", "a name has letters and digits, a letter first, and isn't a reserved word"),
     (
         [0, 7],
         "other",
-        "there is no name here that can be renamed: predeclared names and the module's own can't (NoName)",
+        "no name here can be renamed: predeclared ones and the module's can't",
     ),
 ]
 
@@ -454,6 +454,15 @@ def vim_refused() -> None:
     told = [(it, f"ob0: {ILL_TYPED}") for it in ("rename", "hover", "definition")]
     found = in_vim("refused", REFUSING, renames=[it[:2] for it in REFUSED_RENAMES], title="")
     same(found, [("opened", []), *steps, *told])
+
+
+@test("Vim: by ALE a text is formatted by ob0-format, with its own line ends, and the run is kept")
+def vim_formatted() -> None:
+    for line_end in ("\n", "\r\n"):
+        text, written = "MODULE M;\nBEGIN Write(1) END M.\n", "MODULE M;\nBEGIN\n  Write(1)\nEND M.\n"
+        found = in_vim("formatted", text.replace("\n", line_end), title="")
+        same(found, [("opened", []), ("formatted", []), ("text", written), ("file", written.replace("\n", line_end))])
+        keeps_the_run(text, written, " 1")
 
 
 @test("Neovim: the prompt of a rename begins with the name, after letters that aren't ASCII too")
@@ -682,8 +691,8 @@ def in_vscode_by(*kind: str, folder: str = vsix.FOLDER) -> None:
     faulty = {**faulty, "prepare": [ill_typed, []], "unnamed": no_name}
     same((found["faulty"], found["told"]), (faulty, []), "what is said in a module with an error, and shown over it")
     refused = [
-        "with the new name, `Write` in line 3 would refer to another declaration (Captures)",
-        "`j` is declared in line 2 already (Duplicate)",
+        "with the new name, `Write` in line 3 would refer to another declaration",
+        "`j` is declared in line 2 already",
     ]
     same(found["refused"], refused, "renames that are refused, with the lines as the editor counts them")
     hows = ("it is opened again", "it stays closed until it is changed")
@@ -766,6 +775,14 @@ def ycm_inline() -> None:
     found = in_vim_by_ycm("inlining", text, place=[2, len("BEGIN (* \U0001f600 *) Write(".encode())])
     same(found, [*YCM_TYPED, ("offered", ["Inline here", "Inline everywhere"]), ("acted", wanted)])
     keeps_the_run(text, wanted, " 7")
+
+
+@test("Vim by YouCompleteMe: a text with CR LF is formatted, and keeps its line ends")
+def ycm_line_ends() -> None:
+    for text, _, written in LINES_ENDED[2:4]:
+        found = in_vim_by_ycm("formatted", text)
+        laid_out = written.replace("\r\n", "\n")
+        same(found, [*YCM_TYPED, ("laid out", laid_out), ("file", written)], f"the steps on {text!r}")
 
 
 def in_kate(steps: str, text: str, **given: Any) -> Steps:

@@ -529,6 +529,9 @@ def in_kakoune() -> None:
         holds("Undeclared" not in text_of(report, "mended"), "lint: " + text_of(report, "mended"))
         same(text_of(report, "unsaved"), "", "the type of a new file")
         same(text_of(report, "saved"), "ob0", "the type of a new file once it is saved")
+        same(text_of(report, "formatted"), "MODULE N;\nBEGIN\n  WriteLn\nEND N.\n", "the text after :format")
+        faulty = "MODULE N;BEGIN x END N.\n formatter returned an error (exit code 1)"
+        same(text_of(report, "faulty_formatted"), faulty, "a module with an error after :format, and what is said")
         same(text_of(report, "commented"), "MODULE N; END N.\n", "the text after :comment-line")
 
 

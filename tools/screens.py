@@ -42,7 +42,11 @@ class Scene(NamedTuple):
 
 SCENES = [
     Scene("A name that isn't declared is marked as you write", ["16Gzz", "A", " - lwo", "Escape"], "not declared"),
-    Scene("Renaming a to low is refused: in line 15 it would mean another variable", ["4Gzt", "jw", "grn", "C-u", "low", "Enter"], "would mean another declaration"),
+    Scene(
+        "Renaming a to low is refused: in line 15 it would refer to another variable",
+        ["4Gzt", "jw", "grn", "C-u", "low", "Enter"],
+        "would refer to another",
+    ),
 ]
 # (ob0's files as they are in the repository, the keys of their page, and a screen without what differs from run to run)
 SETTINGS = """

@@ -400,16 +400,16 @@ Where it is inside a character, go before that."
 ;; What a client shows of a refusal is its text alone, or a line of Lisp. The words are those of docs/MESSAGES.md; NAME and LINE
 ;; are those of the place in the answer.
 (defconst ob0--words
-  '(("NoName" . "there is no name here that can be renamed: predeclared names and the module's own can't (NoName)")
-    ("Predeclared" . "a predeclared name can't be renamed (Predeclared)")
-    ("BadName" . "the new name isn't one: letters and digits, a letter first, and no reserved word (BadName)")
-    ("Duplicate" . "`NAME` is declared in line LINE already (Duplicate)")
-    ("Captures" . "with the new name, `NAME` in line LINE would refer to another declaration (Captures)")
-    ("TooLong" . "the text would have more than 1,048,576 bytes (TooLong)")
-    ("TooDeep" . "the text would be nested more than 100 deep (TooDeep)")
-    ("Shadowed" . "the edit would write TRUE or FALSE, which the module declares as something else (Shadowed)")
-    ("CommentInside" . "there is a comment in the declaration that would be deleted (CommentInside)")
-    ("ill-typed" . "the module has an error: fix the first one that is marked (ill-typed)"))
+  '(("NoName" . "no name here can be renamed: predeclared ones and the module's can't")
+    ("Predeclared" . "a predeclared name can't be renamed")
+    ("BadName" . "a name has letters and digits, a letter first, and isn't a reserved word")
+    ("Duplicate" . "`NAME` is declared in line LINE already")
+    ("Captures" . "with the new name, `NAME` in line LINE would refer to another declaration")
+    ("TooLong" . "the text would have more than 1,048,576 bytes")
+    ("TooDeep" . "the text would be nested more than 100 deep")
+    ("Shadowed" . "it would write TRUE or FALSE, which the module declares as something else")
+    ("CommentInside" . "there is a comment in the declaration that would be deleted")
+    ("ill-typed" . "the module has an error: fix the first one that is marked"))
   "The words for each refusal of the server.")
 
 (defun ob0--name-at (line column)

@@ -1,4 +1,4 @@
-# Oberon-0 for Kakoune: file type, colours, comments, and `lint` by `ob0-check`.
+# Oberon-0 for Kakoune: file type, colours, comments, `lint` by `ob0-check` and `format` by `ob0-format`.
 declare-option -docstring 'the program ob0: its name, or the path of its file' str ob0_program ob0
 
 hook global BufCreate .*\.ob0 %{ set-option buffer filetype ob0 }
@@ -39,6 +39,11 @@ hook -group ob0-highlight global WinSetOption filetype=ob0 %{
     require-module ob0
     add-highlighter window/ob0 ref ob0
     hook -once -always window WinSetOption filetype=.* %{ remove-highlighter window/ob0 }
+}
+
+hook -group ob0-format global WinSetOption filetype=ob0 %{
+    # `ob0-format` formats files, and this command gets a text and writes one
+    set-option window formatcmd 'run() { t=$(mktemp -d) && cat >"$t/m.ob0" && ob0-format "$t/m.ob0" >/dev/null; s=$?; [ $s = 0 ] && cat "$t/m.ob0"; rm -r "$t"; return $s; } && run'
 }
 
 provide-module ob0 %§

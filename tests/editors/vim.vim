@@ -125,6 +125,13 @@ function! s:rename() abort
   call s:Tell('text', s:Text())
 endfunction
 
+function! s:formatted() abort
+  call s:Tell('formatted', s:After({-> execute('ALEFix')}))
+  call s:Tell('text', s:Text())
+  write
+  call s:Tell('file', join(readfile($OB0_FILE, 'b'), "\n"))
+endfunction
+
 function! s:acting() abort
   call s:Go(s:given.place)
   call s:Tell('acted', s:After({-> execute('ALECodeAction')}))
