@@ -203,7 +203,7 @@ def bounded() -> None:
         same(mark("/nosuch"), (2, "there is no /nosuch\n"), "a folder that isn't there")
     script = os.path.join(TOP, FOLDER, "mark.py")
     found = run_plainly(["python3", "-B", script, "--program", "no-such-program", "x.mod"], dict(os.environ), TOP)
-    same(found, (2, "there is no program no-such-program: --program names another\n"), "without the program")
+    same(found, (2, "there is no program no-such-program: give its path with --program\n"), "without the program")
 
 
 def handed_in(files: dict[str, str], *words: str) -> tuple[int, list[str]]:

@@ -23,7 +23,7 @@ hook global WinSetOption filetype=ob0 %{
     hook -group ob0-indent window InsertChar \n ob0-indent-on-new-line
     hook -group ob0-indent window InsertChar [A-Z] ob0-indent-on-word
     hook -once -always window WinSetOption filetype=.* %{ remove-hooks window ob0-indent }
-    # `ob0 check` counts lines and columns from 0 and names no file; awk writes its lines as a compiler does
+    # `ob0 check` counts lines and columns from 0 and doesn't print the file's name; awk writes its lines as a compiler does
     set-option window lintcmd "run() { ""%opt{ob0_program}"" check ""$1"" | awk -F: -v f=""$1"" '{ l=$1+1; c=$2+1; sub(/^[0-9]+:[0-9]+: /, """"); print f "":"" l "":"" c "": error: "" $0 }'; } && run"
 }
 

@@ -414,7 +414,7 @@ def main(words: List[str]) -> int:
     try:
         program = shutil.which(given.program)
         if program is None:
-            raise Refused(f"there is no program {given.program}: --program names another")
+            raise Refused(f"there is no program {given.program}: give its path with --program")
         return mark_all(Marking(os.path.abspath(program), given.seconds, inputs_in(given.inputs)), given.paths, given.table)
     except Refused as refused:
         say(str(refused), sys.stderr)
