@@ -177,7 +177,7 @@ def played(places: list[int], end: float) -> Iterator[tuple[int, Outcome, str]]:
     for at, found in all_tried(places, len(os.sched_getaffinity(0)), end):
         if found.passed is False and found.drives:
             again.append((at, found))
-            print(f"again    {harness.TESTS[at][0]}: it failed while others ran beside it:\n    {found.said}", flush=True)
+            print(f"again    {harness.TESTS[at][0]}: it failed while other tests ran:\n    {found.said}", flush=True)
         else:
             yield at, found, ""
     for at, first in again:
@@ -303,7 +303,7 @@ def main(words: list[str]) -> int:
             print("0 passed, 1 failed")
             return 1
     if len(chosen) > 50:
-        # (looked for once, and not by each test that wants it)
+        # (searched for once, and not by each test that needs it)
         for tool in editors.TOOLS:
             editors.is_here(tool)
     counts = counted(chosen, is_first)

@@ -92,7 +92,7 @@ def three_more_times() -> None:
     same(counts, "3 passed, 1 failed", said)
     same((sorted(order[:3]), order[3], sorted(order[4:])), (["never", "once", "twice"], "last", ["once"] * 3 + ["twice"] * 3), "the order")
     for it, count in (("once", 1), ("twice", 2)):
-        holds(f"again    {it}: it failed while others ran beside it:\n    {it} fails, time 1\n" in said, said)
+        holds(f"again    {it}: it failed while other tests ran:\n    {it} fails, time 1\n" in said, said)
         holds(f"again    {it}: failed {count} of 4 times\n" in said, said)
     for line in ("FAILED   twice\n    it failed 2 of 4 times; the last: twice fails, time 4\n", "2 run 3 more times"):
         holds(line in said, f"no {line!r} in {said}")

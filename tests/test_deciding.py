@@ -169,7 +169,7 @@ for it in good better; do case "$*" in *$it*) touch "ROOM/has-$it" ;; esac; done
         with mock.patch.object(editors, "TOOLS", table):
             editors.is_here.cache_clear()
             found, said = printed(lambda: editors.main([]))
-            same((found, said[-1]), (0, "missing: bad, none; `make test` names the tests that want them"), str(said))
+            same((found, said[-1]), (0, "missing: bad, none; `make test` lists the tests that need them"), str(said))
             with mock.patch.object(editors, "LONGEST", -1):
                 editors.is_here.cache_clear()
                 called = len(harness.text_of(room, "called").splitlines())

@@ -331,7 +331,7 @@ def neovim_without() -> None:
         write(file, GOOD)
         words = ["nvim", "--headless", "-n", "-i", "NONE", "--cmd", "let g:ob0_program = 'no-such-program'", file, "+qall!"]
         status, said = run_plainly(words, own, room)
-    same((status, said.strip()), (0, "There is no program no-such-program; vim.g.ob0_program names another"))
+    same((status, said.strip()), (0, "There is no program no-such-program: set vim.g.ob0_program to its path"))
 
 
 @test("Neovim: a text that is typed after the buffer was empty has the end of its last line in the server too")
@@ -677,7 +677,7 @@ def in_vscode(folder: str, *kind: str) -> tuple[str, Any, list[Message], list[Me
 
 def in_vscode_by(*kind: str, folder: str = vsix.FOLDER) -> None:
     file, found, started, renamed = in_vscode(folder, *kind)
-    nothing = {"ended": "activated", "stopped": "deactivated", "said": ["There is no program no-such-program; the setting ob0.path names another."]}
+    nothing = {"ended": "activated", "stopped": "deactivated", "said": ["There is no program no-such-program: set ob0.path to its path."]}
     same(found["without"], nothing, "what is said where there is no program")
     same(found["published"], ["Undeclared"], "the diagnostics")
     matched = [[file, "2", "7", "Undeclared", "not declared"]]

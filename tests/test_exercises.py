@@ -198,12 +198,12 @@ def bounded() -> None:
             write(os.path.join(room, f"{name}.{ending}"), answer(name))
         status, said = mark(room, os.path.join(room, "Votes.mod"))
         lines = said.splitlines()
-        same((status, lines[0], lines[4][:28]), (1, f"{room}:", "  3 of 12 right; not there: "), said)
+        same((status, lines[0], lines[4][:26]), (1, f"{room}:", "  3 of 12 right; missing: "), said)
         same(lines[5], f"there is no {room}/Votes.mod", said)
         same(mark("/nosuch"), (2, "there is no /nosuch\n"), "a folder that isn't there")
     script = os.path.join(TOP, FOLDER, "mark.py")
     found = run_plainly(["python3", "-B", script, "--program", "no-such-program", "x.mod"], dict(os.environ), TOP)
-    same(found, (2, "there is no program no-such-program: --program names another\n"), "without the program")
+    same(found, (2, "there is no program no-such-program: give its path with --program\n"), "without the program")
 
 
 def handed_in(files: dict[str, str], *words: str) -> tuple[int, list[str]]:
@@ -267,7 +267,7 @@ def folders() -> None:
         (["anna", "carl"], 1, "anna 2, carl 0"),
         (["carl", "nosuch"], 2, "there is no nosuch"),
         (["anna", "nosuch"], 1, "there is no nosuch"),
-        (["--", "-xaver"], 0, f"  1 of 12 right; not there: {', '.join(NAMES[1:])}"),
+        (["--", "-xaver"], 0, f"  1 of 12 right; missing: {', '.join(NAMES[1:])}"),
     ):
         found, lines = handed_in(files, *words)
         same((found, lines[-1]), (status, last), f"{words}: {lines}")
@@ -344,8 +344,8 @@ def unreadable() -> None:
         status, said = run_plainly([*as_another(), *words], dict(os.environ), room)
         os.chmod(os.path.join(room, "b"), 0o755)
     wrong = "  Reverse.mod wrong: for the input 3 10 20 30: line 1 should be 30 20 10, and is empty"
-    missing = f"  0 of 12 right; not there: {', '.join(it for it in NAMES if it != 'Reverse')}"
-    wanted = ["a:", wrong, missing, "b:", "  it can't be read: Permission denied", f"  0 of 12 right; not there: {', '.join(NAMES)}"]
+    missing = f"  0 of 12 right; missing: {', '.join(it for it in NAMES if it != 'Reverse')}"
+    wanted = ["a:", wrong, missing, "b:", "  it can't be read: Permission denied", f"  0 of 12 right; missing: {', '.join(NAMES)}"]
     wanted += ["b/Reverse.mod can't be read: Permission denied", "c:", wrong, missing, "a 0, b 0, c 0"]
     same((status, said.splitlines()), (1, wanted))
 
@@ -358,7 +358,7 @@ def unprinted() -> None:
         os.close(reader)
         with open(writer, "wb") as closed, open("/dev/full", "wb") as full:
             for file, why in ((closed, b"Broken pipe"), (full, b"No space left on device")):
-                same(marking(room, ["Clock.mod"], file)[::2], (4, b"what was found can't be printed: " + why + b"\n"))
+                same(marking(room, ["Clock.mod"], file)[::2], (4, b"the result can't be printed: " + why + b"\n"))
 
 
 # runs a script that gets a signal just after it has started a process

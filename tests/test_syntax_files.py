@@ -357,7 +357,7 @@ def by_vim(editor: str, words: list[str], name: str) -> None:
     same(found["commented"], "(* x := 1 *)", "a comment by 'commentstring'")
     same(found["new"], [False, True], "whether a new file is Oberon-0, before and after it is saved")
     same(found["ran"], "42", "what :Ob0Run shows of a text that isn't saved yet")
-    same(found["lacking"], "There is no program no-such-program; g:ob0_program names another", "what :Ob0Run says without it")
+    same(found["lacking"], "There is no program no-such-program: set g:ob0_program to its path", "what :Ob0Run says without it")
     same(found["terminal"], [1, 1], "whether :Ob0Run says how input ends, and runs in a terminal")
     same(found["record"], [], "a record over several lines")
     same(found["matched"], 1, "the line that % on the module's END leads to")

@@ -166,7 +166,7 @@ def libraries() -> dict[str, list[str]]:
 
 
 def write_list(path: str, names: Iterable[str]) -> None:
-    """Writes a crates.txt of these crates alone."""
+    """Writes a crates.txt of only these crates."""
     lines = listed()
     with open(path, "w", encoding="utf-8") as file:
         file.writelines(f"{name}: {' '.join(lines[name])}\n" for name in names)
@@ -210,7 +210,7 @@ def file_sum(path: str) -> str:
 
 
 def kit() -> str | None:
-    """The toolchain's line, or None where it isn't here."""
+    """Returns the toolchain's line, or None if it isn't installed."""
     if not shutil.which("rt"):
         return None
     how: dict[str, Any] = {"stdout": subprocess.PIPE, "stderr": subprocess.DEVNULL, "stdin": subprocess.DEVNULL}

@@ -92,7 +92,7 @@ EDITORS = {
     vsix.CLIENT: (lambda: vsix.modules() is not None, ""),
     "nano": (here("nano"), "nano"),
 }
-# Desktop tools, which answer once and end: `make test` leaves a test out if one that it wants is missing.
+# Desktop tools, which answer once and end: `make test` leaves a test out if a tool that it needs is missing.
 DESKTOP = {
     "kate-syntax-highlighter": (here("kate-syntax-highlighter"), "libkf5syntaxhighlighting-tools"),
     "Ruby": (here("ruby"), "ruby"),
@@ -189,7 +189,7 @@ def main(words: list[str]) -> int:
         install_all(packages)
         is_here.cache_clear()
         missing = [it for it in missing if not is_here(it)]
-    print(f"missing: {', '.join(missing)}; `make test` names the tests that want them" if missing else "all editors and tools are here")
+    print(f"missing: {', '.join(missing)}; `make test` lists the tests that need them" if missing else "all editors and tools are here")
     return 0
 
 

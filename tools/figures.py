@@ -21,7 +21,7 @@ def rows() -> dict[str, str]:
 
 
 def summed(lines: list[str]) -> str:
-    """The phrases of several runs as those of one: the sum of the numbers before the same words, and how many runs they were."""
+    """Joins the phrases of several runs: the sum of the numbers before the same words, and the number of runs."""
     counts: Counter[str] = Counter()
     for phrase in "; ".join(lines).split("; "):
         number, _, words = phrase.partition(" ")

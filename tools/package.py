@@ -52,7 +52,7 @@ PARSER, PARSER_HOLDER = "editors/tree-sitter/src/tree_sitter/parser.h", "2018-20
 SCRIPTS = ("ob0-check", "ob0-format", "ob0-rename", "ob0-trace", "ob0-watch")
 DEFAULT_NAME, DEFAULT_ADDRESS = "The authors of ob0", "ob0@example.org"
 
-# where a file or a folder of the repository goes
+# the places of the repository's files and folders
 COPIED = {
     "share/ob0": "share/ob0",
     "share/ob0.bash": "share/bash-completion/completions/ob0",
@@ -206,7 +206,7 @@ def tested() -> str:
 
 
 def proved() -> bytes:
-    """What is known of the proofs of the program that is packed."""
+    """Facts about the proofs of the packed program."""
     found = common.stamp()
     changed = ", with changes that are not committed" if has_changes() else ""
     rows = {
@@ -395,12 +395,12 @@ def archive(found: Tree, top: str, with_folders: bool) -> bytes:
 
 
 def list_of(files: Iterable[str], folders: Iterable[str]) -> str:
-    """The lines of the list: what is removed, in this order. A folder is removed where nothing else is in it."""
+    """The lines of the list: what is removed, in this order. A folder is removed if nothing else is in it."""
     return "".join(f"{it}\n" for it in [*files, *(f"{it}/" for it in sorted(folders, reverse=True))])
 
 
 def with_list(found: Tree) -> Tree:
-    """The tree with a list for its removal, which names the folders that ob0 may have been the first to need."""
+    """The tree with a list for its removal, which contains the folders that ob0 may have been the first to need."""
     folders = {*folders_of([*found, LIST])} - SHARED
     return {**found, LIST: (list_of([*found, LIST], folders).encode(), 0o644)}
 
@@ -479,7 +479,7 @@ def write_files(files: dict[str, bytes], folder: str) -> None:
 
 
 def write_packages(found: Tree, folder: str) -> None:
-    """Writes the packages of a tree to a folder, with their sums, and takes away those of earlier builds."""
+    """Writes the packages of a tree to a folder, with their sums, and removes the packages of earlier builds."""
     number = build_version()
     made = {
         f"ob0_{number}_amd64.deb": debian_package(found),

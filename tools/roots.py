@@ -50,7 +50,7 @@ def inside(root: str, line: str) -> str:
 
 
 def content_of(path: str, mode: int) -> str | None:
-    """A sum over a file's bytes, or a link's target; None of everything else."""
+    """Returns a sum over a file's bytes, or a link's target; None for everything else."""
     if stat.S_ISLNK(mode):
         return os.readlink(path)
     return common.file_sum(path) if stat.S_ISREG(mode) else None

@@ -159,7 +159,7 @@ def picture_of(screens: list[str], version: str) -> str:
 
 
 class Terminal:
-    """Neovim in a terminal of tmux, with a home of its own."""
+    """Neovim in a terminal of tmux, with a separate home."""
 
     def __init__(self, room: str) -> None:
         # (each has its own server: one that is told to end may still answer the next)
@@ -211,7 +211,7 @@ def version() -> str:
 
 
 def played() -> list[str]:
-    """The screen of each scene, each in an editor of its own."""
+    """Returns the screen of each scene, each in a new editor."""
     screens = []
     for scene in SCENES:
         with tempfile.TemporaryDirectory() as room:

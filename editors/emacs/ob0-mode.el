@@ -94,7 +94,7 @@ The case of this word doesn't matter."
 (defun ob0--program ()
   "Return the program, or report an error that names the option for another."
   (or (executable-find ob0-program)
-      (user-error "There is no program %s; the option `ob0-program' names another" ob0-program)))
+      (user-error "There is no program %s: set the option `ob0-program' to its path" ob0-program)))
 
 (defun ob0--saved-file ()
   "The file of this buffer, with what the buffer has."

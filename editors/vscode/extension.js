@@ -6,7 +6,7 @@ const { LanguageClient } = require("vscode-languageclient/node");
 let client;
 
 function notThere(name) {
-  return `There is no program ${name}; the setting ob0.path names another.`;
+  return `There is no program ${name}: set ob0.path to its path.`;
 }
 
 function program() {

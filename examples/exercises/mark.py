@@ -6,7 +6,7 @@
 A path is a module that is named like an exercise (Clock.mod, Clock.Mod or Clock.ob0), or a folder with such modules. Each is
 checked, and run on each input of its exercise. README.md has the exercises; Clock.txt has the inputs of Clock (`in:`) with the
 lines that are to be printed (`out:`). The status is 0 if each path has a module to mark and all of them are right, 1 if not, 2 if
-there was nothing to mark in any path, or the command line is refused, 4 if what was found can't be printed."""
+there was nothing to mark in any path, or the command line is refused, 4 if the result can't be printed."""
 from __future__ import annotations
 
 import argparse
@@ -51,7 +51,7 @@ class Refused(Exception):
 
 
 class Unprinted(Exception):
-    """What was found can't be printed."""
+    """The result can't be printed."""
 
 
 class Stopped(BaseException):
@@ -66,7 +66,7 @@ class Case(NamedTuple):
 
 
 class Ended(NamedTuple):
-    """What a command wrote, and its status: None where it was stopped after the time that it may take."""
+    """The output of a command, and its status: None if it was stopped after the time that it may take."""
 
     out: str
     err: str
@@ -93,7 +93,7 @@ class Marked(NamedTuple):
 
 
 class Result(NamedTuple):
-    """What was found in a path: its modules, and lines about the rest."""
+    """The result of a path: its modules, and lines about the rest."""
 
     path: str
     modules: List[Marked]
@@ -174,7 +174,7 @@ def call(marking: Marking, words: List[str], given: str = "", program: str = "")
     """Runs the program, or another one, with these words on this input, under the limits."""
 
     def limit() -> None:
-        """Bounds what a run may write and take. (Its processor time is bounded too, in case this script is killed before it ends.)"""
+        """Bounds what a run may write and take. (Its processor time is also bounded, in case this script is killed before it ends.)"""
         seconds = int(marking.seconds) + 2
         for which, most in ((resource.RLIMIT_FSIZE, MOST_PRINTED), (resource.RLIMIT_DATA, MOST_MEMORY), (resource.RLIMIT_CPU, seconds)):
             hard = resource.getrlimit(which)[1]
@@ -204,7 +204,7 @@ def call(marking: Marking, words: List[str], given: str = "", program: str = "")
 
 
 def text_in(file: IO[bytes]) -> str:
-    """Returns what was written to a file, from its start, in ASCII."""
+    """Returns the contents of a file, from its start, in ASCII."""
     file.seek(0)
     return file.read().decode("ascii", "backslashreplace")
 
@@ -238,7 +238,7 @@ def fault_of(marking: Marking, file: str) -> Optional[str]:
 
 
 def begins_with_mark(file: str) -> bool:
-    """Whether a file begins with a byte order mark."""
+    """Returns whether a file begins with a byte order mark."""
     with open(file, "rb") as it:
         return it.read(3) == codecs.BOM_UTF8
 
@@ -329,7 +329,7 @@ def why_unmarked(marking: Marking, path: str) -> str:
 
 
 def mark(marking: Marking, path: str, is_said: bool) -> Result:
-    """Marks a path, and prints what is found if `is_said`."""
+    """Marks a path, and prints the result if `is_said`."""
     result = Result(path, [], [])
 
     def found(line: str, is_other: bool = False) -> None:
@@ -361,7 +361,7 @@ def mark(marking: Marking, path: str, is_said: bool) -> Result:
             found(f"  it can't be read: {why.strerror}", True)
         rights = result.exercises()
         missing = [it for it in marking.cases if it not in rights]
-        found(f"  {sum(rights.values())} of {len(marking.cases)} right" + (f"; not there: {', '.join(missing)}" if missing else ""))
+        found(f"  {sum(rights.values())} of {len(marking.cases)} right" + (f"; missing: {', '.join(missing)}" if missing else ""))
     return result
 
 
@@ -389,7 +389,7 @@ def name_of(path: str) -> str:
 
 
 def mark_all(marking: Marking, paths: List[str], is_table: bool) -> int:
-    """Marks each path, prints what is found, and returns the status."""
+    """Marks each path, prints the results, and returns the status."""
     if is_table:
         say(csv_line(["name", "right", *marking.cases, "others"]))
     results = []
@@ -415,7 +415,7 @@ def seconds_of(word: str) -> float:
 def parsed(words: List[str]) -> argparse.Namespace:
     """Returns what a command line gives."""
     parser = argparse.ArgumentParser(description="Marks modules of Oberon-0 by the exercises of this folder.")
-    parser.add_argument("--program", default="ob0", help="the program ob0, where it isn't on PATH")
+    parser.add_argument("--program", default="ob0", help="the program ob0, if it isn't on PATH")
     parser.add_argument("--seconds", type=seconds_of, default=10, help="the longest that one run may take (10)")
     parser.add_argument("--inputs", metavar="FOLDER", default=HERE, help="a folder with other inputs, such as a file Clock.txt")
     parser.add_argument("--table", action="store_true", help="print a table in CSV: a row for each path, a column for each exercise")
@@ -437,13 +437,13 @@ def main(words: List[str]) -> int:
     try:
         program = shutil.which(given.program)
         if program is None:
-            raise Refused(f"there is no program {given.program}: --program names another")
+            raise Refused(f"there is no program {given.program}: give its path with --program")
         return mark_all(Marking(os.path.abspath(program), given.seconds, inputs_in(given.inputs)), given.paths, given.table)
     except Refused as refused:
         say(str(refused), sys.stderr)
         return 2
     except Unprinted as why:
-        say(f"what was found can't be printed: {why}", sys.stderr)
+        say(f"the result can't be printed: {why}", sys.stderr)
         return 4
     except Stopped as stopped:
         signal.signal(stopped.args[0], signal.SIG_DFL)

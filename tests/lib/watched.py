@@ -1,4 +1,4 @@
-"""Editors watched by ob0-watch: the program that starts their server through it, and its reports. If the variable OB0_REPORTS names a
+"""Editors watched by ob0-watch: the program that starts their server through it, and its reports. If the variable OB0_REPORTS is a
 folder, the reports are kept there, by the editors."""
 from __future__ import annotations
 
@@ -53,7 +53,7 @@ def put_program(room: str, server: list[str]) -> str:
 
 
 class Count(NamedTuple):
-    """How much was judged by a rule, and what was found."""
+    """The number of messages judged by a rule, and the findings."""
 
     watched: int
     broken: int
@@ -92,7 +92,7 @@ def reports(room: str) -> list[Report]:
 
 
 def expect(room: str) -> None:
-    """Holds the editors of a room to the rules: those of the file `breaks`, if there is one, are broken, and no others are."""
+    """Holds the editors of a room to the rules: they break the rules of the file `breaks`, if it exists, and no others."""
     breaks: set[str] = set()
     if os.path.exists(os.path.join(room, "breaks")):
         with open(os.path.join(room, "breaks"), encoding="utf-8") as file:
