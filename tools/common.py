@@ -71,7 +71,7 @@ def choose_temporary() -> None:
         why = unfit(folder)
         if not why:
             if whys:
-                print(f"temporary files are in {folder}: {'; '.join(whys)}", flush=True)
+                print(f"temporary files are in {folder}: {'; '.join(whys)}", file=sys.stderr, flush=True)
             tempfile.tempdir = os.environ["TMPDIR"] = folder
             return
         whys.append(f"{folder} isn't used, since {why}")
