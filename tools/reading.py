@@ -25,8 +25,6 @@ class Function:
         self.impl_words, self.is_test = scope.impl_words, scope.is_test
         self.name, self.is_pub, self.words = name, is_pub, [it.text for it in words]
         self.file, self.first, self.last = scope.file, words[0].line, words[-1].line
-        # (a method of a trait has its contract at the head of its impl)
-        self.contract_from = min(scope.block_from or self.first, self.first) if scope.trait else self.first
         self.block_from = scope.block_from
         self.head, self.has_body = heading(self.words), self.words[-1] == "}"
         # (the line on which its body begins)
