@@ -283,7 +283,8 @@ pub conversation_is_served_at_reads : ConversationIsDetermined → OneFeed → P
 conversation_is_served_at_reads one feeds nothing read taken sent after small talk steps owes more given =
     let rest : StreamRest = Open owes.left in
     let all : AnswersAllContents (flat_map frame taken ++ more) rest (bytes_written steps) = subst (λ bytes. AnswersAllContents bytes rest (bytes_written steps)) given owes.answered in
-    (frames_first one feeds taken sent after talk (read taken small, nothing.1) more (bytes_written steps) (with_rest rest) all, owes.flushed)
+    let first = frames_first one feeds taken sent after talk (read taken small, nothing.1) more (bytes_written steps) (with_rest rest) all in
+    (first.0, first.1, owes.flushed)
 
 -- ---- the frames of a conversation that ended
 

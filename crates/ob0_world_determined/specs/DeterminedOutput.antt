@@ -191,5 +191,5 @@ ServeHasAnsweredAtReads =
     → IsConversation initial_server_state taken sent after
     → (steps : List StreamStep) → OwesNothing steps
     → (more : List ℕ) → bytes_given steps ≡ flat_map frame taken ++ more
-    → ((later : List ℕ) × (bytes_written steps ≡ flat_map frame sent ++ later))
+    → (later : List ℕ) × (bytes_written steps ≡ flat_map frame sent ++ later)
     × (is_all_flushed steps ≡ true)
