@@ -67,7 +67,7 @@ def whole(is_whole: bool) -> Iterator[None]:
 
 
 def counted(tests: Dict[str, harness.Test], lacks: Tuple[str, ...] = (), is_whole: bool = False, is_first: bool = False) -> Tuple[str, str, str]:
-    """The counts of these tests, what is printed, and what is kept, on a machine that lacks some tools."""
+    """Returns the counts of these tests, the output and the kept lines, on a machine that lacks some tools."""
     with tempfile.TemporaryDirectory() as room, whole(is_whole):
         results = os.path.join(room, "results")
         note(results, "")
@@ -114,7 +114,7 @@ def not_once_more() -> None:
         counts, said, _ = counted({**tests, **tools})
         same((counts, sorted(note(path, ""))), ("0 passed, 6 failed", ["alone", "cc", "gone", "lintian", "mandoc", "mypy"]), said)
     lines = ["FAILED   gone", "    its process ended with 3", *(line for it in ("alone", *tools) for line in (f"FAILED   {it}", f"    {it} fails"))]
-    same(sorted(said.splitlines()), sorted(lines), "what is said")
+    same(sorted(said.splitlines()), sorted(lines), "the output")
 
 
 @test("again: in the whole test a test is left out for a missing editor or desktop tool only, by name, and is counted")
@@ -188,7 +188,7 @@ def leaves_a_child(path: str) -> None:
     time.sleep(600)
 
 
-@test("again: a test that takes too long is ended with all that it has started, and none is started when the time for all is over")
+@test("again: a test that takes too long is ended with everything that it started, and no test starts when the time for all is over")
 def ended_in_time() -> None:
     with tempfile.TemporaryDirectory() as room:
         path = os.path.join(room, "child")
@@ -198,7 +198,7 @@ def ended_in_time() -> None:
             counts, said, _ = counted({"long": lambda: leaves_a_child(path)})
         same((counts, "it had not ended after" in said), ("0 passed, 1 failed", True), said)
         child = int(harness.text_of(path))
-        holds(child not in processes.parents(), f"process {child} goes on")
+        holds(child not in processes.parents(), f"process {child} still runs")
     with mock.patch.object(run, "LONGEST", 1):
         counts, said, _ = counted({"long": lambda: time.sleep(600)})
     same((counts, "it had not ended after" in said), ("0 passed, 1 failed", True), said)
@@ -219,7 +219,7 @@ def ends_with_it() -> None:
                 time.sleep(0.01)
 
         same(counted({"starts": starts})[0], "1 passed, 0 failed", "the count")
-        holds(int(harness.text_of(path)) not in processes.parents(), "its process goes on")
+        holds(int(harness.text_of(path)) not in processes.parents(), "its process still runs")
 
 
 @test("again: a failed comparison shows where two texts or lists differ first")
@@ -262,4 +262,4 @@ def interrupted() -> None:
                 pass
             else:
                 raise Failed("the run went on")
-            holds(int(harness.text_of(path)) not in processes.parents(), "a process goes on")
+            holds(int(harness.text_of(path)) not in processes.parents(), "a process still runs")

@@ -76,7 +76,7 @@ def ended() -> None:
         is_ended_by(number)
 
 
-@test("build: it goes on in a terminal that is closed if that signal is ignored, as `nohup` has it")
+@test("build: it continues after its terminal is closed if that signal is ignored, as `nohup` does")
 def ignored() -> None:
     is_ended_by(signal.SIGHUP, ignored=True)
 
@@ -91,7 +91,7 @@ echo "crate $name: modules loaded=0 checked=1"
 """
 
 
-@test("build: `make check` goes on with the crates that don't rest on one that isn't proved, and names it; a build ends there")
+@test("build: `make check` continues with the crates that don't rest on one that isn't proved, and names that; a build ends there")
 def others_are_proved() -> None:
     with temporary() as room:
         copy(os.path.join(TOP, "tools"), os.path.join(room, "tools"))

@@ -244,22 +244,22 @@ def as_emacs_shows() -> list[Any]:
     return found
 
 
-@test("Neovim: the diagnostics of a faulty module, and none of the mended one")
+@test("Neovim: the diagnostics of an invalid module, and none after it is fixed")
 def neovim_types() -> None:
     same(in_neovim("mending", FAULTY, mended=MENDED), [("opened", as_neovim_shows()), ("mended", []), ("ended", ENDED)])
 
 
-@test("Emacs: the diagnostics of a faulty module, and none of the mended one")
+@test("Emacs: the diagnostics of an invalid module, and none after it is fixed")
 def emacs_types() -> None:
     same(in_emacs("mending", FAULTY, mended=MENDED), [("opened", as_emacs_shows()), ("mended", []), ("ended", 0)])
 
 
-@test("lsp-mode: the diagnostics of a faulty module, and none of the mended one")
+@test("lsp-mode: the diagnostics of an invalid module, and none after it is fixed")
 def lsp_mode_types() -> None:
     same(in_lsp_mode("mending", FAULTY, mended=MENDED), [("opened", as_neovim_shows()), ("mended", [])])
 
 
-@test("Vim: the diagnostics of a faulty module, and none of the mended one")
+@test("Vim: the diagnostics of an invalid module, and none after it is fixed")
 def vim_types() -> None:
     same(in_vim("mending", FAULTY, mended=MENDED), [("opened", as_neovim_shows()), ("mended", [])])
 
@@ -293,7 +293,7 @@ def emacs_questions() -> None:
     same(in_emacs("questions", CALLS), [*ANSWERED, ("ended", 0)])
 
 
-# places to look at, each with its hover text, the places that are listed, and where its name is declared
+# places, each with its hover text, the listed places, and the declaration of its name
 CALLS_SEEN = [
     ([3, 6], "PROCEDURE F(n: INTEGER)", [[1, 10], [2, 30], [2, 47], [3, 6]], [1, 10]),
     ([2, 47], "PROCEDURE F(n: INTEGER)", [[1, 10], [2, 30], [2, 47], [3, 6]], [1, 10]),
@@ -323,7 +323,7 @@ def neovim_looking() -> None:
         same(in_neovim("looking", text, places=[it[0] for it in seen]), [*looked(seen), ("ended", ENDED)])
 
 
-@test("Neovim: a program that isn't there is said in one line")
+@test("Neovim: one line reports a missing program")
 def neovim_without() -> None:
     want("Neovim")
     with temporary() as room:
@@ -472,7 +472,7 @@ def neovim_prompted() -> None:
     same(found, [("opened", []), ("prompted", "total"), ("ended", ENDED)])
 
 
-@test("Neovim: where it shows no messages with diagnostics, ob0's files do, unless the user has them not")
+@test("Neovim: if it shows no messages with diagnostics, ob0's files do, unless the user prevents it")
 def neovim_messages() -> None:
     shown = [("by Neovim", 0), ("by the user's choice", 0), ("by ob0", 1)]
     same(in_neovim("messages", GOOD.replace("WriteLn", "x := 1")), [("opened", 1), *shown, ("ended", ENDED)])
@@ -678,7 +678,7 @@ def in_vscode(folder: str, *kind: str) -> tuple[str, Any, list[Message], list[Me
 def in_vscode_by(*kind: str, folder: str = vsix.FOLDER) -> None:
     file, found, started, renamed = in_vscode(folder, *kind)
     nothing = {"ended": "activated", "stopped": "deactivated", "said": ["There is no program no-such-program: set ob0.path to its path."]}
-    same(found["without"], nothing, "what is said where there is no program")
+    same(found["without"], nothing, "the message if there is no program")
     same(found["published"], ["Undeclared"], "the diagnostics")
     matched = [[file, "2", "7", "Undeclared", "not declared"]]
     tasks: dict[str, Any] = {"executed": ["check", "run"], "matchers": ["$ob0"], "matched": matched, "status": 1, "words": ["ob0", "run", file], "provided": ["check", "run"]}
@@ -703,7 +703,7 @@ def in_vscode_by(*kind: str, folder: str = vsix.FOLDER) -> None:
     same(found["carriageReturns"], [True, 0, formatted], "a text with CR LF that is formatted")
     same(found["edits"]["made"], MADE_AT_ONCE, "what answers leave that come at once")
     same(found["edits"]["late"], MADE_LATE, "what answers leave that come after a change")
-    same(found["edits"]["said"], ["The text was changed since the action was offered: ask for it again."], "what is said of an old action")
+    same(found["edits"]["said"], ["The text was changed since the action was offered: ask for it again."], "the message about an old action")
     same((found["stopped"], found["restarted"]), ("deactivated", {"said": [], "shutdowns": 3}), "how it ends, and restarts one after another")
     same(found["settings"], ["ob0.path", "ob0.trace.server"], "the settings that are declared")
     announced = [it["params"]["capabilities"]["workspace"]["workspaceEdit"]["documentChanges"] for it in started]
@@ -740,7 +740,7 @@ def vscode_packed() -> None:
 def in_vim_by_ycm(steps: str, text: str, **given: Any) -> Steps:
     want("Vim", "YouCompleteMe")
     words = ["vim.nox", "-n", "-i", "NONE", "-S", os.path.join(EDITORS, "ycm.vim")]
-    # (its server wants the system's Python, whichever one is first on PATH)
+    # (its server needs the system's Python, whichever one is first on PATH)
     lines = "\n".join([*snippets("vim", "viml"), "let g:ycm_server_python_interpreter = '/usr/bin/python3'"])
     return play("vim", words, steps, text, given, lambda room: write(os.path.join(room, ".vimrc"), lines), in_terminal=True)
 
@@ -760,7 +760,7 @@ END M.
 YCM_TYPED = [("typed", ["bad character [BadChar]"]), ("mended", [])]
 
 
-@test("Vim by YouCompleteMe: diagnostics, what is known of a name, a rename and a layout")
+@test("Vim by YouCompleteMe: diagnostics, hover and references of a name, a rename and formatting")
 def ycm_names() -> None:
     steps = [("shown", "PROCEDURE F(n: INTEGER)"), ("listed", [[1, 10], [2, 30], [2, 47], [3, 6]]), ("jumped", [1, 10])]
     steps += [("renamed", edited(CALLS, PLACES, "G")), ("laid out", LAID_OUT)]
@@ -800,7 +800,7 @@ def in_kate(steps: str, text: str, **given: Any) -> Steps:
     return play("kate", words, steps, text, given, set_up, more=own)
 
 
-@test("Kate: diagnostics, what is known of a name, a rename and a layout, by its keys")
+@test("Kate: diagnostics, hover and references of a name, a rename and formatting, by its keys")
 def kate_names() -> None:
     steps = [("opened", []), ("typed", ["BadChar"]), ("undone", []), ("shown", "PROCEDURE F(n: INTEGER)")]
     steps += [("listed", [[1, 10], [2, 30], [2, 47], [3, 6]]), ("jumped", [1, 10])]
@@ -976,7 +976,7 @@ def changes_by_keys() -> Iterator[tuple[Any, str, str]]:
 
 
 def replaced_in_other_cases(which: Which, *names: str) -> None:
-    """The server has the editor's text after a name was replaced in a text that has it in the other case too."""
+    """The server has the editor's text after a name was replaced in a text that also contains it in the other case."""
 
     def replaced(editor: keyed.Keyed) -> None:
         new = editor.letters[-1]

@@ -89,13 +89,13 @@ def reported(text: str) -> list[tuple[str, str, str]]:
 
 
 def first(snippet: str, module: str | None) -> tuple[str, str, str]:
-    """What is reported first of a snippet in a module."""
+    """Returns the first diagnostic of a snippet in a module."""
     text = filled(module, snippet) if module else snippet
     return (reported(text) or [("", "nothing", "")])[0]
 
 
 def mistakes(title: str, module: str | None) -> None:
-    """Holds each row of a section to what is reported of it: what `check` reports first, or the fault of a run of it in a module."""
+    """Compares each row of a section with the first error that `check` reports, or with the fault of a run of it in a module."""
     for written, what, _ in rows(title):
         snippet, found = code_in(written), CODE.findall(what)
         if what.startswith("nothing by `check`"):
@@ -106,10 +106,10 @@ def mistakes(title: str, module: str | None) -> None:
             continue
         _, said, rest = first(snippet, module)
         if what.endswith("at the end of the text"):
-            same(([said], rest), (found, ""), f"what is reported of {snippet}")
+            same(([said], rest), (found, ""), f"the report about {snippet}")
             continue
         message, at = found
-        same((said, rest[: len(at)]), (message, at), f"what is reported of {snippet}")
+        same((said, rest[: len(at)]), (message, at), f"the report about {snippet}")
 
 
 @test("messages: what beginners write in statements, declarations and whole texts is reported as the page says")
@@ -118,7 +118,7 @@ def beginners() -> None:
     mistakes("Declarations", DECLARATIONS)
     mistakes("Whole texts", None)
     for module, snippet in ((STATEMENTS, "x := 1"), (DECLARATIONS, "VAR x: INTEGER;")):
-        same(reported(filled(module, snippet)), [], "what is reported of a module without a mistake")
+        same(reported(filled(module, snippet)), [], "the report about a module without a mistake")
     same(first("\ufeffMODULE M; END M.", None)[:2], ("BadChar", "bad character"), "a byte order mark")
     same(first("x := y\u00a0+ 1", STATEMENTS), ("BadChar", "bad character", "\u00a0+ 1"), "a no-break space")
 
@@ -145,7 +145,7 @@ def diagnostics() -> None:
         snippet = code_in(example)
         module = DECLARATIONS if re.match("(CONST|TYPE|VAR|PROCEDURE)", snippet) else STATEMENTS
         found, where = first(snippet, module), code_in(at)
-        same((found[0], found[1], found[2][: len(where)]), (name, said, where), f"what is reported of {snippet}")
+        same((found[0], found[1], found[2][: len(where)]), (name, said, where), f"the report about {snippet}")
 
 
 @test("messages: each end of a run is on the page, with an example")
@@ -204,11 +204,11 @@ def offered(text: str, at: Message) -> list[str]:
 
 
 def refused_inlinings() -> None:
-    """What isn't offered for the reasons that an inlining alone can have."""
+    """Inlinings that aren't offered, for reasons that only an inlining can have."""
     deep = "MODULE M;\nCONST c = -1;\nBEGIN Write(" + "(" * 100 + "c" + ")" * 100 + ") END M.\n"
     same(offered(deep, place(2, 112)), [], "an inlining that nests too deep")
     shadowed = "MODULE M;\nCONST c = TRUE;\nPROCEDURE P;\nVAR TRUE: BOOLEAN;\nBEGIN TRUE := c\nEND P;\nEND M.\n"
-    same(offered(shadowed, place(4, 14)), [], "an inlining of TRUE where that is a variable")
+    same(offered(shadowed, place(4, 14)), [], "an inlining of TRUE although TRUE is a variable")
     inside = "MODULE M;\nCONST c (* one *) = 1;\nBEGIN Write(c) END M.\n"
     same(offered(inside, place(2, 12)), TITLES[:1], "an inlining of a declaration with a comment")
 

@@ -119,7 +119,7 @@ def as_readme_says() -> None:
         holds(status == 0 and "Inst ob0 " in said, said)
 
 
-@test("package: README's line looks at the sum of the one package that is there, and its line without sudo unpacks the archive")
+@test("package: README's line checks the sum of the one package that is present, and its line without sudo unpacks the archive")
 def as_readme_says_without() -> None:
     want_proved()
     page = text_of("README.md").partition("**From a package.**")[2]
@@ -163,7 +163,7 @@ def taken_away() -> None:
                 run_plainly(["sh", "-c", take_away.replace("/usr/local", room)], dict(os.environ), room)
             else:
                 made(f"PREFIX={room}", "uninstall")
-            same(modes_in(room), before, f"what is there after `{remove}`")
+            same(modes_in(room), before, f"the folders after `{remove}`")
 
 
 def modes_in(room: str) -> dict[str, int]:
@@ -186,7 +186,7 @@ def refused_prefixes() -> None:
 
 
 def in_copy(*commits: tuple[int, str, str]) -> list[str]:
-    """The version of the packages in a repository of its own, which has the scripts and these commits: a time and a tag for each."""
+    """Returns the version of the packages in a separate repository with the scripts and these commits: a time and a tag for each."""
     versions = []
     with temporary() as room:
         copy(os.path.join(TOP, "tools"), os.path.join(room, "tools"))
@@ -206,7 +206,7 @@ def in_copy(*commits: tuple[int, str, str]) -> list[str]:
     return versions
 
 
-@test("package: its version grows with the time of the commit, and is the program's where that has its tag")
+@test("package: its version grows with the time of the commit, and is the program's if the commit has its tag")
 def versions() -> None:
     want("git")
     day = 1795823088
@@ -225,7 +225,7 @@ def versions() -> None:
 INSTALLED = "Package: {}\nStatus: install ok installed\nVersion: {}\nArchitecture: amd64\nMaintainer: x <x@example.org>\nDescription: x\n\n"
 
 
-@test("package: dpkg installs it in a root of its own, where libc6 is new enough, and removing it leaves nothing")
+@test("package: dpkg installs it in a separate root with a new enough libc6, and removing it leaves nothing")
 def by_dpkg() -> None:
     want_proved()
     want("dpkg", "root")
@@ -243,7 +243,7 @@ def by_dpkg() -> None:
         same(paths_in(os.path.join(room, "usr")), paths_in(placed(os.path.join(room, "other"))), "the files")
         shutil.rmtree(os.path.join(room, "other"))
         status, said = run_plainly([*words, "--remove", "ob0"], dict(os.environ), room)
-        same((status, [it for it in paths_in(room) if not it.startswith("var/")]), (0, []), f"what is left: {said}")
+        same((status, [it for it in paths_in(room) if not it.startswith("var/")]), (0, []), f"the remaining files: {said}")
         holds("ob0" not in text_of(admin, "status"), "dpkg knows of it still")
 
 
@@ -280,7 +280,7 @@ def installed() -> None:
             status, said = run_plainly([*words, "install"], environment, TOP)
             same(status, 0, said)
         same(paths_in(os.path.join(root, "opt", "x")), sorted([*paths_in(usr), "share/doc/ob0/installed"]), "the files")
-        # (each help that names a page says where the pages are)
+        # (each help that mentions a page tells the folder of the pages)
         for command in ("check", "rename"):
             status, said = run_plainly([os.path.join(root, "opt", "x", "bin", "ob0"), "help", command], environment, room)
             page, below = match_of(r"(docs/\S+\.md) .* in (\S+) below the folder that ob0 was\s+installed", said.replace("\n", " ")).groups()
@@ -288,7 +288,7 @@ def installed() -> None:
         status, said = run_plainly([*words, "uninstall"], environment, TOP)
         same(status, 0, said)
         left = [at for at, _, _ in os.walk(os.path.join(root, "opt", "x"))]
-        same(left, [os.path.join(root, "opt", "x"), os.path.join(root, "opt", "x", "bin")], "what is left")
+        same(left, [os.path.join(root, "opt", "x"), os.path.join(root, "opt", "x", "bin")], "the remaining folders")
         # (a home that the shell left to be named)
         home = os.path.join(room, "home")
         os.mkdir(home)
@@ -301,7 +301,7 @@ def installed() -> None:
         same(os.listdir(home), [], "what is in the home: the folders around the prefix")
 
 
-@test("package: a stamp beside another program doesn't make it the proved one")
+@test("package: a stamp next to another program doesn't make it the proved one")
 def stamped() -> None:
     want_proved()
     with temporary() as room:
@@ -463,7 +463,7 @@ def in_kakoune() -> None:
         usr = placed(room)
         environment, work = own(room, usr), os.path.join(room, "work")
         os.makedirs(work)
-        # (Kakoune reads the files beside its own, in /usr/share/kak/rc: a runtime folder has both)
+        # (Kakoune reads the files next to its own, in /usr/share/kak/rc: a runtime folder has both)
         runtime = os.path.join(room, "runtime")
         shutil.copytree("/usr/share/kak", runtime, symlinks=True, ignore=shutil.ignore_patterns("doc"))
         shutil.copytree(os.path.join(usr, "share", "kak"), runtime, dirs_exist_ok=True)

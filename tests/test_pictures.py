@@ -23,7 +23,7 @@ PICTURES = os.path.join("docs", "pictures")
 PERFORMANCE = os.path.join("docs", "PERFORMANCE.md")
 
 
-@test("pictures: each is shown on a page, is whole, and has colours for dark screens or a paper of its own")
+@test("pictures: each is shown on a page, is whole, and has colours for dark screens or its own background")
 def shown() -> None:
     pages = [*glob.glob(os.path.join(TOP, "*.md")), *glob.glob(os.path.join(TOP, "docs", "*.md"))]
     linked = {os.path.normpath(os.path.join(os.path.dirname(page), it)) for page in pages for it in re.findall(r"!\[[^]]+\]\(([^)]+)\)", text_of(page))}
@@ -36,12 +36,12 @@ def shown() -> None:
         name = os.path.basename(path)
         holds(len(texts) > 5 and drawn.find("{http://www.w3.org/2000/svg}title") is not None, f"{name} has texts and a title")
         holds("prefers-color-scheme:dark" in text_of(path), f"{name} has colours for dark screens")
-        # (a terminal has a paper of its own)
+        # (a terminal has its own background)
         fixed = [it.text for it in texts if it.get("fill") and name != "editor.svg"]
         same(fixed, [], f"texts of {name} in a colour that doesn't change on dark screens")
 
 
-@test("pictures: those of the rooms and of a message's life are what tools/rooms.py draws, and each step names what its crate has")
+@test("pictures: tools/rooms.py draws the rooms and a message's life, and each step mentions a name of its crate")
 def drawn_from_text() -> None:
     for name, drawn in rooms.pictures().items():
         same(text_of(PICTURES, name), drawn, f"{name} (tools/rooms.py draws it)")
@@ -110,7 +110,7 @@ def plotted() -> None:
     holds("make bench" in page and not re.search(r"\d (ms|s|seconds)\b", page), "how the figures are made again, and no time of one day")
     # (until they are counted the page has neither plots nor figures)
     if not plots.drawn_of(page):
-        same(page.count("Not counted yet"), 2, "tables that aren't there")
+        same(page.count("Not counted yet"), 2, "missing tables")
         return
     same([name for name, _ in plots.rows_of(page, plots.RUNS)[1]], list(programs.PROGRAMS), "the programs that were counted")
     ratios_fit(page)

@@ -93,7 +93,7 @@ def not_at_all() -> None:
     same((refused, failed), (0, count + 1), "a line of no edit")
 
 
-@test("refusals: each edit of `rt ci` names a function that it changes, adds no loop, and is in a crate that crates.txt names")
+@test("refusals: each edit of `rt ci` names a function that it changes, adds no loop, and is in a crate of crates.txt")
 def edits_of_kit() -> None:
     found = refusals.Refusals().edits
     for path, edit in found.items():

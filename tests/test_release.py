@@ -37,7 +37,7 @@ PLACES = [
 ]
 SOURCE = "crates/ob0_cli/src/line.rt"
 NEEDED = [*package.COPIED, "tools", "share", "LICENSE", "Makefile", "crates.txt", "HANDLES", SOURCE]
-# notices of crates that aren't there, beside a program that isn't ob0
+# notices of crates that don't exist, next to a program that isn't ob0
 STAND_IN = """import common, json, notices, sys
 common.keep(sys.argv[1])
 common.keep_verdict("1 passed, 0 failed")
@@ -47,7 +47,7 @@ json.dump({**notices.head(), "crates": crates}, open(notices.KEPT, "w"))
 
 
 class Repository:
-    """A repository of its own with what is packed, and a program that stands in for ob0."""
+    """Makes a repository with the packed files, and with a program that stands in for ob0."""
 
     def __init__(self, room: str) -> None:
         self.room = os.path.join(room, "repository")
@@ -79,7 +79,7 @@ class Repository:
         self.ran("git", "commit", "--quiet", "--allow-empty", "-m", "x")
 
     def build(self, program: str = "/bin/true") -> None:
-        """Has a program stand in for that of the present sources."""
+        """Lets a program stand in for the one of the present sources."""
         self.ran(sys.executable, "-B", "-c", f"import sys; sys.path.insert(0, 'tools')\n{STAND_IN}", program)
 
     def change(self, path: str, pattern: str, new: str) -> None:
@@ -103,7 +103,7 @@ def repository() -> Iterator[Repository]:
         yield Repository(room)
 
 
-@test("release: every place that has the version has that of the program's source")
+@test("release: every place that has the version has the same as the program's source")
 def places() -> None:
     number = package.version()
     for path, pattern in PLACES:
@@ -331,7 +331,7 @@ def paths_in(room: str) -> Iterator[str]:
 
 
 def installed_in_turn(room: str, *debs: str) -> None:
-    """Installs packages one over the other in a root of its own, and removes them."""
+    """Installs packages one over the other in a separate root, and removes them."""
     admin = os.path.join(room, "var", "lib", "dpkg")
     for it in ("available", "info/format", "updates/x", "triggers/Unincorp"):
         write(os.path.join(admin, it), "1\n" if it == "info/format" else "")

@@ -373,7 +373,7 @@ def format_keeps() -> None:
         with open(os.path.join(work, "dos.mod"), newline="", encoding="utf-8") as text:
             same(text.read(), LAID_OUT.replace("\n", "\r\n"), "a file with CR LF")
         now = os.stat(file)
-        same((now.st_uid, now.st_gid, now.st_mode & 0o777, os.getxattr(file, "user.ob0")), (*owner, 0o604, b"kept"), "what was kept")
+        same((now.st_uid, now.st_gid, now.st_mode & 0o777, os.getxattr(file, "user.ob0")), (*owner, 0o604, b"kept"), "the kept mode, owner and attribute")
         same(ran(["ob0-format", "--check", "dos.mod"], work, own), (0, "", ""), "a formatted file with CR LF")
         same(ran(["ob0-format", "--check", "read.mod", "first.mod"], work, own), (1, "read.mod\nfirst.mod\n", ""), "what --check names")
 
@@ -426,7 +426,7 @@ def first_by(lines: str, answers: list[Content], work: str, own: dict[str, str])
     return {**own, "PATH": other + os.pathsep + own["PATH"]}
 
 
-@test("scripts: ob0-format goes on with a new server if one fails over a file")
+@test("scripts: ob0-format continues with a new server if one fails over a file")
 def format_again() -> None:
     strange: list[Content] = [*STARTED, {"method": "textDocument/publishDiagnostics"}]
     for answers, said in ((STARTED, "the server ended"), (strange, "the server answers something else than it has to")):
@@ -452,7 +452,7 @@ runpy.run_path(sys.argv[0], run_name="__main__")
 SIGNALS = (signal.SIGINT, signal.SIGTERM, signal.SIGHUP)
 
 
-@test("scripts: a signal ends ob0-format and its server between two files, and leaves no file half done and none beside it")
+@test("scripts: a signal ends ob0-format and its server between two files, and leaves no half-written and no other file")
 def format_signalled() -> None:
     def while_it_writes(number: int, work: str, own: dict[str, str]) -> None:
         status, out, _ = ran(["python3", "-c", SIGNALLED, str(int(number)), FORMAT, "a.mod", "b.mod"], work, own)
@@ -467,7 +467,7 @@ def format_signalled() -> None:
             time.sleep(0.3)
             process.send_signal(number)
             same(process.wait(harness.SECONDS), -number, "the status")
-        holds(not is_running(int(text_of(work, "pid"))), f"the server goes on after signal {number}")
+        holds(not is_running(int(text_of(work, "pid"))), f"the server still runs after signal {number}")
 
     for number in SIGNALS:
         in_folder({"a.mod": LOOSE, "b.mod": LOOSE}, functools.partial(while_it_writes, number))
@@ -640,7 +640,7 @@ def unreadable() -> None:
 ENDLESS = "MODULE Gcd;\nBEGIN\n  WHILE TRUE DO\n  END\nEND Gcd.\n"
 
 
-@test("scripts: the page's line compares what a module prints with what is known, and refuses a run that ends with a fault")
+@test("scripts: the page's line compares the output of a module with the known one, and refuses a run that ends with a fault")
 def run_script() -> None:
     files = {f"Gcd.{it}": text_of("examples", f"Gcd.{it}") for it in ("mod", "in", "out")}
     faulty = "a: ARRAY 1 OF INTEGER;\n" + files["Gcd.mod"].partition("VAR\n")[2]
@@ -653,7 +653,7 @@ def run_script() -> None:
         same((found[0], found[2] if said else ""), (status, said), f"with {more}: {found}")
 
 
-@test("scripts: a FILE is /dev/stdin where the page says so")
+@test("scripts: a FILE may be /dev/stdin if the page says so")
 def standard_input() -> None:
     def trial(work: str, own: dict[str, str]) -> None:
         same(ran(["ob0", "check", "/dev/stdin"], work, own, LAID_OUT), (0, "", ""), "check")
@@ -779,4 +779,4 @@ def manual_lines() -> None:
             wanted = (status, said.replace("two words.Mod", "Sort.mod"), "")
             same(in_folder({"Sort.mod": text}, functools.partial(ran, [*shell, lines])), wanted, " ".join(shell))
     missing = in_folder({"other.mod": LAID_OUT}, functools.partial(ran, ["sh", "-c", lines]))
-    same(missing, (4, "", "fault: File\n"), "a file that isn't there")
+    same(missing, (4, "", "fault: File\n"), "a missing file")

@@ -107,9 +107,9 @@ def in_fish() -> None:
 
     for typed, wanted in OFFERED:
         found = in_folder(functools.partial(offered, typed=typed))
-        # (it offers `--` among the commands too)
+        # (it also offers `--` among the commands)
         same([it for it in found if it != "--" or it in wanted], sorted(wanted), f"after `{typed}`")
-    # (words that fish expands, and what comes after the file)
+    # (words that fish expands, and words after the file)
     for given, wanted in {"~/a": ["~/a.ob0"], "$HOME/a": ["$HOME/a.ob0"], "'b": ["b.mod"]}.items():
         for command in ("ob0 check", "ob0-check", "ob0-format", "ob0-watch run"):
             same(in_folder(functools.partial(offered, typed=f"{command} {given}")), wanted, f"after `{command} {given}`")
@@ -187,7 +187,7 @@ def first_module() -> None:
         same(run_plainly(["sh", "-e", "-c", "\n".join(lines)], own, work), (0, printed + "\n"), "what they print")
 
 
-@test("shell: `make` alone says what there is to make")
+@test("shell: `make` without a goal prints the goals")
 def alone() -> None:
     lines = [re.sub("^# ?", "", it) for it in text_of("Makefile").partition("\nPREFIX")[0].splitlines()]
     same(run_plainly(["make", "--silent"], dict(os.environ), TOP), (0, "\n".join(lines) + "\n"))

@@ -182,7 +182,7 @@ def lacking() -> None:
         same(said_of(top), (0, []), "after the others have a reason")
         with open(public_functions.REASONS, "a", encoding="utf-8") as file:
             file.write("low::gone: a reason\n")
-        same(said_of(top), (1, ["low::gone"]), "a reason of a function that isn't there")
+        same(said_of(top), (1, ["low::gone"]), "a reason for a function that doesn't exist")
         with open(public_functions.PAGE, encoding="utf-8") as file:
             page = file.read()
         holds("| `inside::Count::of` | Counts. |  | wrong-bodies/empty |" in page and "| `law` | A law. |  | law |" in page, page)
@@ -199,7 +199,7 @@ def counted() -> None:
             public_functions.with_counts(page.replace("others", "mutants"))
         except LookupError:
             return
-    raise Failed("a page without the sentence is taken")
+    raise Failed("a page without the sentence is accepted")
 
 
 @test("surface: a public type has its variants, or its public fields, in the order of the source")

@@ -353,7 +353,7 @@ def by_vim(editor: str, words: list[str], name: str) -> None:
     same(found["refused"], "line 2, column 7: Undeclared: not declared", "what :Ob0Run says of a module with an error")
     same(found["faults"], [[2, 8, "Undeclared: not declared"]], "what :make finds in a text that isn't saved yet")
     same(found["broken"], [], "lines that are indented by more than the heading above")
-    same(found["indented"], [], "examples that are indented in another way than the server lays them out")
+    same(found["indented"], [], "examples that are indented differently from the server's layout")
     same(found["commented"], "(* x := 1 *)", "a comment by 'commentstring'")
     same(found["new"], [False, True], "whether a new file is Oberon-0, before and after it is saved")
     same(found["ran"], "42", "what :Ob0Run shows of a text that isn't saved yet")
@@ -387,7 +387,7 @@ def helped(editor: str, words: list[str], name: str) -> None:
         write(os.path.join(room, "steps.vim"), "\n".join([*steps, f"call writefile([json_encode(r)], '{report}')", "qall!", ""]))
         status, drawn = run_in_terminal([*words, "-S", os.path.join(room, "steps.vim")], own, room)
         holds(os.path.exists(report), f"{name} said nothing, and ended with {status}: {drawn[-500:]!r}")
-        same(json.loads(text_of(report)), [["help", "ob0.txt"], *(f"*{it}*" for it in tags)], "the help page, and where each tag leads")
+        same(json.loads(text_of(report)), [["help", "ob0.txt"], *(f"*{it}*" for it in tags)], "the help page, and the target of each tag")
         found = [os.path.join(at, "tags") for at, _, files in os.walk(room) if at.endswith("/vim/doc") and "tags" in files]
         same([text_of(it) for it in found], [package.help_tags().decode()], "the tags that are packed")
         same(sorted({*re.findall(r"\|(\S+?)\|", page)} - {*tags}), [":clist"], "what the page links to, besides itself")
@@ -480,7 +480,7 @@ def managed_in_emacs() -> None:
         same(run_plainly([*words, "-l", "init.el", *modes], own, room)[1].splitlines()[-1], "ob0-mode (eglot-ensure)", "by use-package")
 
 
-@test("syntax files: the lines that Vim's help page has for settings are those of the editors' pages")
+@test("syntax files: the lines for settings on Vim's help page are the same as on the editors' pages")
 def help_blocks() -> None:
     text = text_of("editors", "vim", "doc", "ob0.txt")
     blocks = ["".join(f"{it[1:]}\n" for it in found.splitlines()) for found in re.findall(r" >\n\n((?:\t.*\n)+)<", text)]
@@ -548,7 +548,7 @@ def kakoune_indents() -> None:
             script = f"edit '{file}'; execute-keys -with-hooks 'i{'<ret>'.join(lines)}<esc>'; write; kill!"
             status, said = run_plainly(["timeout", "-k", "10", "300", "kak", "-ui", "dummy", "-e", script], own, room)
             holds(os.path.exists(file), f"{name}: Kakoune ended with {status}: {said[-500:]}")
-            same(text_of(file), text, f"{name} as it was typed")
+            same(text_of(file), text, f"{name}, unchanged")
 
 
 @test("syntax files: settings of Kate and VS Code name the server and files that exist")
@@ -557,7 +557,7 @@ def settings() -> None:
     same(server["command"], ["ob0", "serve"], "Kate's command")
     holds(re.search(server["highlightingModeRegex"], "Oberon-0"), "Kate's mode")
     package = json.loads(text_of("editors", "vscode", "package.json"))
-    # (VS Code looks at the first line alone, in files that nothing else takes)
+    # (VS Code reads only the first line, in files that no other rule claims)
     first = re.compile(package["contributes"]["languages"][0]["firstLine"])
     for file, text, taken in FILES:
         line = text.split("\n")[0]

@@ -36,11 +36,11 @@ COLOURS = [
     ("~", "operator", "operator"), ("OR", "keyword.operator", "keyword.operator"), ("TRUE", "boolean", "constant.builtin.boolean"),
     ("Write", "function.builtin", "function.builtin"),
 ]  # fmt: skip
-# where the queries of Neovim and of Helix are, below the folder `queries`
+# the queries of Neovim and of Helix, below the folder `queries`
 QUERIES = ["highlights", "folds", "helix/highlights", "helix/indents"]
 # the lines (counted from 0) of what can be folded over several
 FOLDS = [(4, 5), (6, 10), (7, 10)]
-# of these faults the grammar knows nothing, or what follows them isn't reported
+# faults that the grammar doesn't know, or after which nothing is reported
 OTHER_FAULTS = {"NumberTooLarge", "TooDeep", "TooLong"}
 LEXICAL = {"BadChar", "NumberJoinsLetter"}
 
@@ -101,7 +101,7 @@ def agrees() -> None:
             wanted.append(None if unclear else bool(found & {"Syntax", "OpenComment", *LEXICAL}))
     holds(wanted.count(True) > 50 and wanted.count(False) > 50, f"{wanted.count(True)} with and {wanted.count(False)} without a fault")
     got = read_by_neovim(tuple(texts))["faulty"]
-    same([text for text, due, came in zip(texts, wanted, got) if due is not None and due != came], [], "the texts that are taken in another way")
+    same([text for text, due, came in zip(texts, wanted, got) if due is not None and due != came], [], "the texts that are read differently")
 
 
 @test("tree-sitter: colours of a sample by the queries of Neovim and of Helix, folds in Neovim, and Helix's indents are read")
@@ -143,7 +143,7 @@ def trees_of_corpus() -> None:
     holds(len(cases) > 8, f"{len(cases)} cases")
 
 
-@test("tree-sitter: its files are those of its conventions, of the grammar's name")
+@test("tree-sitter: its files follow its conventions, and have the grammar's name")
 def conventions() -> None:
     about = json.loads(text_of(FOLDER, "tree-sitter.json"))
     (grammar,) = about["grammars"]

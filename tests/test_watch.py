@@ -278,8 +278,8 @@ BROKEN: Dict[str, Tuple[str, Fault]] = {
 }
 # and what is harmless by itself
 NOTED: Dict[str, Tuple[str, Fault]] = {
-    "a range past the end of a line": ("ranges", changed([{"range": extent("0:99-1:0"), "text": "\n"}])),
-    "a range past the end of the text": ("ranges", changed([inserted(place(99, 0), "x")])),
+    "a range after the end of a line": ("ranges", changed([{"range": extent("0:99-1:0"), "text": "\n"}])),
+    "a range after the end of the text": ("ranges", changed([inserted(place(99, 0), "x")])),
     "a range that ends before it starts": ("ranges", changed([{"range": extent("1:0-0:3"), "text": "\n"}])),
     "an inlining in a range that ends before it starts": (
         "ranges",
@@ -313,7 +313,7 @@ NOTED: Dict[str, Tuple[str, Fault]] = {
 ALLOWED: Dict[str, Fault] = {
     "versions that fall, come again, are negative and large": lambda talk: [talk.changes(TYPED, it) for it in (5, 4, 4, 0, -1, 2**63 - 1)],
     "an edit of a version that comes again": lambda talk: (talk.is_answered(replacements("tot")), talk.changes(IN_TURN, 1)),
-    "an edit in a text that is as it was, in a later version": lambda talk: (
+    "an edit in an equal text, in a later version": lambda talk: (
         talk.is_answered(replacements("tot")),
         [talk.changes(it) for it in (TYPED, [{"range": extent("0:0-0:1"), "text": ""}], IN_TURN)],
     ),
@@ -563,7 +563,7 @@ def robust() -> None:
         holds(err.startswith(b"ob0-watch: the report can't be written: "), str(err))
 
 
-@test("watch: the command line, where the report is, and commands of ob0 that aren't watched")
+@test("watch: the command line, the place of the report, and commands of ob0 that aren't watched")
 def command_line() -> None:
     need_program()
     with temporary() as room:
@@ -629,7 +629,7 @@ def by_watched(room: str) -> None:
     harness.BINARY = watched.put_program(room, [os.path.abspath(harness.BINARY)])
 
 
-@test("watch: the conversations of tests/inputs break no rule, but for the messages in them that can't be read")
+@test("watch: the conversations of tests/inputs break no rule, except messages in them that can't be read")
 def recorded() -> None:
     cases = {name: it for name, it in {**conversations.SHORT, **conversations.LONG}.items() if it.words == ["serve"]}
     for name, case in cases.items():
@@ -644,7 +644,7 @@ def recorded() -> None:
 
 
 # (a change by chance can equal a part of an answer: with these seeds none does)
-@test("watch: conversations of random changes and questions break no rule, but for the changes in them that can't be read")
+@test("watch: conversations of random changes and questions break no rule, except changes in them that can't be read")
 def random_talks() -> None:
     with temporary() as room:
         by_watched(room)

@@ -30,7 +30,7 @@ from framing import Content as Content, Message as Message, compact as compact, 
 from framing import Incoming  # noqa: E402
 
 BINARY = os.environ.get("OB0") or os.path.join(TOP, "bin", "ob0")
-SECONDS = 300  # the longest that one conversation may take (also where the machine has much else to do)
+SECONDS = 300  # the longest that one conversation may take (even if the machine has much other work)
 
 Test = Callable[[], object]  # (what it returns isn't looked at)
 Ident = Union[int, str, None]  # the id of a request
@@ -56,7 +56,7 @@ class Skipped(Exception):
 
 
 class NoProgram(Skipped):
-    """A test that wants a program that isn't there yet."""
+    """A test needs a program that doesn't exist yet."""
 
 
 def leave_out(why: str, is_allowed: bool = False) -> NoReturn:
@@ -395,7 +395,7 @@ def want_proved() -> None:
 
 
 def marked(text: str, *codes: str) -> tuple[str, list[Message]]:
-    """A text whose faulty places are between ⟦ and ⟧, and what is reported of them, a code for each place in order."""
+    """A text with its faulty places between ⟦ and ⟧, and the reported codes, one for each place in order."""
     plain = ""
     starts: list[int] = []
     found: list[tuple[int, int]] = []
