@@ -97,7 +97,9 @@ def cited_by(function: reading.Function) -> str:
     rows = rows_of_file(function.crate, function.file)
     uses = re.findall(r"^ghost use Rattle\.ob0_\w+\.specs\.[\w.]+\.\{([^}]*)\}", "\n".join(rows), re.M)
     names = {it.split(" as ")[-1].strip() for part in uses for it in part.split(",")}
-    contract = "\n".join(rows[function.contract_from - 1 : function.opens]).partition("ensures")[2]
+    # (a method of a trait has its contract at the head of its impl)
+    begins = min(function.block_from or function.first, function.first) if function.trait else function.first
+    contract = "\n".join(rows[begins - 1 : function.opens]).partition("ensures")[2]
     found = dict.fromkeys(it for it in re.findall(r"\w{3,}", contract) if it in names)
     return ", ".join(f"`{it}`" for it in found)
 

@@ -39,8 +39,6 @@ def at_home(room: str, editor: str) -> dict[str, str]:
     """Sets an editor up in a home of its own, by the commands of its page: the environment that it is started in."""
     own = {key: value for key, value in os.environ.items() if not key.startswith("XDG_")}
     watched.put_program(room, [os.path.abspath(harness.BINARY)])
-    for it in ("ob0-check", "ob0-format"):
-        os.symlink(os.path.join(TOP, "share", it), os.path.join(room, "bin", it))
     own.update(HOME=room, XDG_RUNTIME_DIR=room, LC_ALL="C.UTF-8", PATH=os.path.join(room, "bin") + os.pathsep + os.environ["PATH"], TERM="xterm")
     for line in snippets(editor, "sh"):
         status, said = run_plainly(["sh", "-e", "-c", line], own, TOP)

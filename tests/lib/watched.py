@@ -33,8 +33,8 @@ def load() -> Any:
 
 
 def put_program(room: str, server: list[str]) -> str:
-    """Makes bin/ob0 in a room: `ob0 serve` starts this server, watched, and any other command is the program's. `ob0-format` is beside
-    it. Returns its path."""
+    """Makes bin/ob0 in a room: `ob0 serve` starts this server, watched, and any other command is the program's. The scripts that
+    editors call are beside it. Returns its path."""
     program = os.path.join(room, "bin", "ob0")
     os.makedirs(os.path.join(room, "bin"), exist_ok=True)
     report = f"{shlex.quote(os.path.join(room, 'watched'))}/$$"
@@ -46,9 +46,10 @@ def put_program(room: str, server: list[str]) -> str:
         file.write(f"#!/bin/sh\n{watches}")
         file.write(f'exec {shlex.quote(os.path.abspath(harness.BINARY))} "$@"\n')
     os.chmod(program, 0o755)
-    script = os.path.join(room, "bin", "ob0-format")
-    if not os.path.exists(script):
-        os.symlink(os.path.join(TOP, "share", "ob0-format"), script)
+    for name in ("ob0-check", "ob0-format"):
+        script = os.path.join(room, "bin", name)
+        if not os.path.exists(script):
+            os.symlink(os.path.join(TOP, "share", name), script)
     return program
 
 
