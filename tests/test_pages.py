@@ -11,7 +11,7 @@ from harness import TOP, holds, same, test, text_of
 
 # pages whose names of messages, ends and methods may stand without backticks on every page
 NAMING = ["docs/LANGUAGE.md", "docs/PROTOCOL.md", "docs/MESSAGES.md"]
-OTHERS = {"GitHub", "GtkSourceView", "KiB", "LuaSnip", "MiB", "SnipMate", "StdIO", "UltiSnips", "YouCompleteMe", "macOS"}
+OTHERS = {"GitHub", "GitLab", "GtkSourceView", "KiB", "LuaSnip", "MiB", "SnipMate", "StdIO", "UltiSnips", "YouCompleteMe", "macOS"}
 INNER = re.compile(r"\b[A-Za-z]*[a-z][A-Z]\w*")  # a word with a capital inside
 LICENCES = "INSTALL.md#licences"
 
