@@ -1,13 +1,21 @@
-"""What bench/sizes.py counts: rooms, the parts that keep an analysis over a change, and the functions that look for a body.
+"""What bench/sizes.py counts: things that are defined more than once, the parts that keep an analysis over a change, and the
+functions that look for a body.
 
 A line of a table names a folder or a file, and then what is counted in it. `CRATE/src: FILE..` means whole files, and
 `CRATE/src/FILE: NAME..` functions (in `specs` and `proofs` definitions and lemmas). Lines and names are sorted."""
 from __future__ import annotations
 
-# The rooms of crates.txt, and crates, that are counted together. (Two crates are in both groups.)
-GROUPS = {
-    "texts to analysis": ["texts", "wire", "syntax", "language", "scopes", "types", "analysis"],
-    "runs, edits and commands": ["ob0_language_runs", "ob0_language_field_laws", "runs", "questions", "edits", "program"],
+# Things that are defined more than once, each with the names of its definitions or functions. A name that doesn't exist isn't
+# counted: the definitions that were replaced stay in the list.
+CONCEPTS = {
+    "definitions of which names are fields": "mark_declared_fields rename_fields_in_type records_in_type "
+    "identifier_owners_in_type recorded fields_in_type fields_declared_in_block",
+    "definitions that descend to a body": "path_to_body_in_block block_without_body body_at_path_in_block "
+    "closing_name_at_path_in_block is_range_in_body_of_block body_bounds_in_block names_visible_at_path_in_block "
+    "body_with_token_in_block",
+    "functions that move a token index": "shifted_token_index shifted_token old_closing_token ordinals_in_changed_text "
+    "index_in_changed_text shifted_leaf widen_difference",
+    "relations of a changed body": "AreBindingsBeforeBodyChange AreBindingsBeforeBodyReplacement",
 }
 
 # What would go if every text were analysed from scratch. A file is counted as a whole if that is true of nearly all its lines.

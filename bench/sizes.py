@@ -1,20 +1,27 @@
 #!/usr/bin/env python3
-"""Counts lines, and what a change of a document reaches, by reading the sources.
+"""Counts tokens, concepts, and what a change of a document reaches, by reading the sources.
 
   bench/sizes.py [FOLDER]    this tree, or another one whose folder `crates` is in FOLDER (`git archive` exports one)
 
-It prints the lines of code, definitions and proofs in the rooms, and how many of them are no comment lines; how many only keep
-an analysis over a change; and how many functions, in how many crates, a `didChange` can reach. For two changes of a valid module,
-a letter in a name and a statement, it prints what they can reach, and each call that looks for the changed body.
+It prints the tokens of text of each room and crate. Text is every line that isn't empty, no comment and no `use` or
+`mod`; a token is a word, a number or a sign. Then it prints how often the sources define one thing, and how many
+definitions and files a new production touches (the concepts). It prints how many lines only keep an analysis over a
+change, and how many functions, in how many crates, a `didChange` can reach. For two changes of a valid module, a
+letter in a name and a statement, it prints what they can reach, and each call that looks for the changed body.
 
-bench/size_tables.py has the tables. Which parts only keep an analysis is a judgement. We read each crate with the question which
-functions, definitions and lemmas would go if every text were analysed from scratch, and looked up who cites them. Types aren't
-counted, nor lemmas that other proofs also cite. If a name in a table doesn't exist, the script names it, and fails. For another
-tree it prints the missing names and counts the rest; if that tree has its own bench/size_tables.py, the script uses it.
+bench/size_tables.py has the tables. Concepts that are marked *by name* are counted by a list of names there, which we
+chose by reading. The old names stay in it, so that one command counts a tree before and after a change. The others
+are counted by a rule.
 
-A function reaches the functions that it calls by name. A method's name stands for all methods of that name, except methods of
-types that no reached function names. So the counts are upper bounds. The script needs the toolchain, which cuts the sources into
-words, but no built program."""
+Which parts only keep an analysis is a judgement. We read each crate with the question which functions, definitions
+and lemmas would go if every text were analysed from scratch, and looked up who cites them. Types aren't counted, nor
+lemmas that other proofs also cite. If a name in that table doesn't exist, the script names it, and fails. For another
+tree it prints the missing names and counts the rest; if that tree has its own bench/size_tables.py, the script uses
+the tables in it.
+
+A function reaches the functions that it calls by name. A method's name stands for all methods of that name, except
+methods of types that no reached function names. So the counts are upper bounds. The script needs the toolchain, which
+cuts the sources into words, but no built program."""
 from __future__ import annotations
 
 import functools
@@ -35,6 +42,9 @@ import rooms  # noqa: E402
 from reading import Function, Source  # noqa: E402
 
 PARTS = ("src", "specs", "proofs")
+# the beginnings of lines that are no text, and a token of the others
+NO_TEXT = re.compile(r" *(//|--|$|((pub(\(\w+\))?|ghost) )*(use|mod) )")
+TOKEN = re.compile(r"[\w'-]+|[^\w\s]")
 # the crate in which a function that calls `did_change` applies the notification, and the type of texts that `serve` stores
 SERVER, STORE = "ob0_session_server", "Lines"
 Entry = Tuple[str, str, str, str]  # a crate, a part of it, a file without its ending, and a name in the file or nothing
@@ -176,23 +186,109 @@ class Calls:
 
 
 def row(name: str, cells: Iterable[object], rest: str = "") -> None:
-    print((f"{name:24}" + "".join(f"{it:>11,}" if isinstance(it, int) else f"{it:>11}" for it in cells) + f"  {rest}").rstrip())
+    print((f"{name:42}" + "".join(f"{it:>11,}" if isinstance(it, int) else f"{it:>11}" for it in cells) + f"  {rest}").rstrip())
 
 
-def print_lines(groups: dict[str, list[str]], crates_of: dict[str, list[str]], missing: list[str]) -> None:
-    """Prints the lines of each room, in groups."""
-    for group, names in groups.items():
-        row(group, [*PARTS, "all", "no comment"])
-        total = [0] * 5
-        for name in names:
-            crates = [it for it in crates_of.get(name, [name]) if os.path.isdir(path_of(it))]
-            missing += [f"crates/{it}" for it in crates_of.get(name, [name]) if it not in crates]
-            lines = [[line for crate in crates for path in files_in(crate, part) for line in lines_in(path)] for part in PARTS]
-            counts = [*map(len, lines), sum(map(len, lines)), sum(not is_comment(line) for it in lines for line in it)]
-            total = [a + b for a, b in zip(total, counts)]
-            row(name, counts, " ".join(crates))
-        row("all", total)
-        print()
+def text_in(path: str) -> list[str]:
+    """Returns the lines of a file that aren't empty, no comments and no imports."""
+    return [line for line in lines_in(path) if not NO_TEXT.match(line)]
+
+
+def tokens_in(crate: str, part: str) -> int:
+    return sum(len(TOKEN.findall(line)) for path in files_in(crate, part) for line in text_in(path))
+
+
+def print_tokens(crates_of: dict[str, list[str]], missing: list[str]) -> None:
+    """Prints the tokens of text of each room, and of the crates in it."""
+    row("tokens of text", [*PARTS, "all"])
+    total = [0] * len(PARTS)
+    for name, crates in crates_of.items():
+        missing += [f"crates/{it}" for it in crates if not os.path.isdir(path_of(it))]
+        counts = {it: [tokens_in(it, part) for part in PARTS] for it in crates}
+        room = [sum(it) for it in zip(*counts.values())] or [0] * len(PARTS)
+        total = [a + b for a, b in zip(total, room)]
+        row(name, [*room, sum(room)])
+        for crate, count in counts.items():
+            row("  " + crate, [*count, sum(count)])
+    row("all", [*total, sum(total)])
+    print()
+
+
+def antt_files(*parts: str) -> list[str]:
+    """Returns the files of these parts of all crates."""
+    return [path for crate in os.listdir(path_of()) for part in parts for path in files_in(crate, part)]
+
+
+@functools.lru_cache(None)
+def joined_text(path: str) -> str:
+    """Returns the text of a file of definitions or proofs, with types and right sides that continue on one line."""
+    return re.sub(r"(?<= =)\n +|\n +(?=[→×])", " ", "\n".join(text_in(path)))
+
+
+@functools.lru_cache(None)
+def clauses_in(path: str) -> dict[str, list[tuple[str, str]]]:
+    """Returns the clauses of each definition and lemma of a file by its name, each as its patterns and its right side."""
+    found: Dict[str, List[Tuple[str, str]]] = {}
+    for clause in re.finditer(r"^ *([\w'-]+) (.*?) =(?: (.*))?$", joined_text(path), re.M):
+        found.setdefault(clause[1], []).append((clause[2], clause[3] or ""))
+    return found
+
+
+def constructors() -> set[str]:
+    """Returns the constructors of the syntax trees."""
+    lines = lines_in(path_of("ob0_tree", "specs", "Tree.antt"))
+    lines = [lines[at] for at in definition(lines, "Tree")]
+    return {it[1] for it in (re.match(r"  (\w+) :", line) for line in lines) if it}
+
+
+def names_with_each_constructor() -> list[str]:
+    """Returns the definitions and lemmas that have a clause for at least nine tenths of the constructors."""
+    known = constructors()
+    found = [
+        (name, {word for patterns, _ in clauses for word in TOKEN.findall(patterns)} & known)
+        for path in antt_files("specs", "proofs")
+        for name, clauses in clauses_in(path).items()
+    ]
+    return [name for name, words in found if known and len(words) * 10 >= len(known) * 9]
+
+
+def definitions_over_a_block() -> list[str]:
+    """Returns the lines of definitions whose type mentions a block, or that are records over one."""
+    lines = [line for path in antt_files("specs") for line in joined_text(path).split("\n")]
+    tree = "|".join(constructors())
+    return [line for line in lines if re.search(r"Tree \S+ block\b(?!_)", line) and not re.match(rf"  ({tree}) : ", line)]
+
+
+def is_predicate_of_each(name: str, path: str) -> bool:
+    """Returns whether a definition has two clauses: Unit for the empty list, and a product with itself for a longer one."""
+    clauses = clauses_in(path)[name]
+    empty = [right for patterns, right in clauses if "[]" in patterns]
+    longer = [right for patterns, right in clauses if "∷" in patterns and "[]" not in patterns]
+    return (
+        len(clauses) == 2
+        and any("Unit" in it for it in empty)
+        and any("×" in it and name in TOKEN.findall(it) for it in longer)
+        and bool(re.search(rf"^ *(?:\w+ )*{re.escape(name)} : .*Type 0$", joined_text(path), re.M))
+    )
+
+
+def print_concepts(by_name: dict[str, str], crates: int) -> None:
+    """Prints how often the sources define one thing, and what a new production touches."""
+    declared = re.compile(r"^ *(?:\w+ )*(?:(?:record|data) ([\w'-]+)\b|([\w'-]+) : )", re.M)
+    words = {it[1] or it[2] for path in antt_files("specs", "proofs") for it in declared.finditer(joined_text(path))}
+    words |= {it.name for crate in os.listdir(path_of()) for it in source(crate).functions}
+    for concept, names in by_name.items():
+        found = [it for it in names.split() if it in words]
+        row(concept + ", by name", [len(found)], " ".join(found))
+    proofs = antt_files("proofs")
+    each = [name for path in antt_files("specs", "proofs") for name in clauses_in(path) if is_predicate_of_each(name, path)]
+    row("a clause for nearly each constructor", [len(names_with_each_constructor())])
+    row("definitions over a block", [len(definitions_over_a_block())])
+    row("predicates 'each of a list'", [len(each)])
+    row("inductions over a run", [sum(bool(re.search(r"^ *(pub )?execute_while-[\w-]+ :", joined_text(it), re.M)) for it in proofs)])
+    row("files of proofs about REPEAT", [sum("repeat" in "\n".join(lines_in(it)).lower() for it in proofs)])
+    row("crates", [crates])
+    print()
 
 
 def print_kept(table: str, missing: list[str]) -> None:
@@ -234,12 +330,14 @@ def main(words: List[str]) -> int:
         """Returns the first folder that has a file: a tree may be exported in part."""
         return next(it for it in folders if os.path.exists(os.path.join(it, *steps)))
 
-    tables = runpy.run_path(os.path.join(with_file("bench", "size_tables.py"), "bench", "size_tables.py"))
+    named = [os.path.join(it, "bench", "size_tables.py") for it in (TOP, with_file("bench", "size_tables.py"))]
+    tables = {name: table for it in named for name, table in runpy.run_path(it).items()}
     common.TOP = with_file("crates.txt")
     crates_of, listed = {it.name: it.crates for it in rooms.read_rooms()}, common.libraries()
     common.TOP = folders[0]
     missing: List[str] = []
-    print_lines(tables["GROUPS"], crates_of, missing)
+    print_tokens(crates_of, missing)
+    print_concepts(tables["CONCEPTS"], len(listed))
     print_kept(tables["KEPT"], missing)
     print_reached(tables, listed, missing)
     for it in dict.fromkeys(missing):

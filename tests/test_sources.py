@@ -104,11 +104,12 @@ def types_fit() -> None:
         same(status, 0, said[-3000:])
 
 
-@test("sources: bench/sizes.py counts lines, functions that a change reaches, and searches, and each name of its tables exists")
+@test("sources: bench/sizes.py counts tokens, concepts, functions that a change reaches, and searches, and each kept name exists")
 def sizes_counted() -> None:
     status, said = run_plainly([sys.executable, os.path.join("bench", "sizes.py")], dict(os.environ), TOP)
     same(status, 0, said[-3000:])
-    for word in ("texts to analysis", "kept over a change", "a didChange: ", "a statement: ", "searches for the changed body"):
+    words = ("tokens of text", "definitions over a block", "kept over a change", "a didChange: ", "a statement: ")
+    for word in (*words, "searches for the changed body"):
         holds(word in said, f"{word}: {said}")
 
 

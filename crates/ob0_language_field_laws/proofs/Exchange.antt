@@ -3,22 +3,23 @@
 -- different names different. If the new name is free, the renaming and the exchange agree on every
 -- field that a record of the module declares. Two renamings that agree on these fields give the
 -- same module, if the module is well-typed.
-use Rattle.std.proofs.Common.{◌≡◌, ℕ, Bool, true, false, not, ◌&&◌, ◌||◌, List, [], ◌∷◌, if◌then◌else◌, ◌==◌, sym, refl, ap, ◌∙◌, subst}
-use Rattle.std.specs.List.{list_any}
+use Rattle.std.proofs.Common.{◌≡◌, ℕ, Bool, true, false, not, ◌&&◌, List, [], ◌∷◌, if◌then◌else◌, ◌==◌, sym, refl, ap, ◌∙◌, subst}
 use Rattle.std.proofs.lemmas.Slice.Eq.{bytes_eq-Decides}
 use Rattle.std.proofs.lemmas.Bool.{or_parts}
+use Rattle.ob0_tree.specs.declared.tree.Role.{Role}
 use Rattle.ob0_tree.specs.Tree.{Tree, module_text}
 use Rattle.ob0_language_names.specs.Names.{Name, same_name}
 use Rattle.ob0_language_names.specs.Scopes.{same_ordinal}
 use Rattle.ob0_language_names.proofs.NameEquality.{same_name-refl}
 use Rattle.ob0_language_types.specs.WellTyped.{WellTyped}
 use Rattle.ob0_language_runs.specs.EditLaws.{HaveSameRuns}
-use Rattle.ob0_language_fields.specs.RenamedFields.{FieldRenaming, rename_fields_in_module}
 use Rattle.ob0_language_field_laws.specs.FieldLaws.{RenamingFieldToFreeNameKeepsTypingAndRuns, KeepsFieldsDistinct}
-use Rattle.ob0_language_fields.specs.SingleFieldRenaming.{IsFreeFieldName, RecordFields, module_with_renamed_field, has_another_field_named, single_field_renaming, records_in_module}
-use Rattle.ob0_language_fields.proofs.AgreeingFields.{NamesAgree, RecordsAgree}
-use Rattle.ob0_language_fields.proofs.AgreeingModules.{module-alike}
 use Rattle.ob0_language_field_laws.proofs.Proved.{field_renaming_keeps_typing_and_runs-holds}
+use Rattle.ob0_language_fields.specs.MarkedFields.{UsedName, declares_field, mark_module, marking_declarations, no_field, selects_field, used_names}
+use Rattle.ob0_language_fields.specs.RenamedFields.{FieldRenaming, rename_fields_in_module}
+use Rattle.ob0_language_fields.specs.SingleFieldRenaming.{IsFreeFieldName, has_another_field_named, module_with_renamed_field, names_declared_in_record, single_field_renaming}
+use Rattle.ob0_language_fields.proofs.MarkedNames.{EachName, IsDeclaration, module-declares}
+use Rattle.ob0_language_fields.proofs.KnownFields.{KnownName, RenamedAlike, module-alike}
 
 same_name-is : (x y : Name) → same_name x y ≡ true → x ≡ y
 same_name-is x y e = (bytes_eq-Decides x y).0 e
@@ -73,26 +74,23 @@ agree-cases : (f new x : Name) (c a b : Bool) → (c && (b && not a)) ≡ false 
 agree-cases f new x true false true h = absurd (cc)
 agree-cases f new x _ _ _ h = refl
 
-and-or-false : (c p q : Bool) → (c && (p || q)) ≡ false → ((c && p) ≡ false) × ((c && q) ≡ false)
-and-or-false true true q h = absurd (cc)
-and-or-false true false q h = (refl, h)
-and-or-false false p q h = (refl, refl)
-
-names-agree : (r : ℕ) (f new : Name) (k : ℕ) (xs : List Name) → ((k == r) && has_another_field_named xs f new) ≡ false → NamesAgree (single_field_renaming r f new) (exchanged r f new) k xs
-names-agree r f new k [] h = tt
-names-agree r f new k (x ∷ xs) h =
-    let g = and-or-false (k == r) (same_name x new && not (same_name x f)) (has_another_field_named xs f new) h in
-    (agree-cases f new x (k == r) (same_name x f) (same_name x new) g.0, names-agree r f new k xs g.1)
-
-records-agree : (r : ℕ) (f new : Name) (ts : List RecordFields) → list_any (λ t. (t.ordinal == r) && has_another_field_named t.declared f new) ts ≡ false → RecordsAgree (single_field_renaming r f new) (exchanged r f new) ts
-records-agree r f new [] h = tt
-records-agree r f new (t ∷ ts) h =
-    let g = or_parts ((t.ordinal == r) && has_another_field_named t.declared f new) (list_any (λ t. (t.ordinal == r) && has_another_field_named t.declared f new) ts) h in
-    (names-agree r f new t.ordinal t.declared g.0, records-agree r f new ts g.1)
+names-agree : (r : ℕ) (f new : Name) (xs : List (Role × UsedName Name)) → EachName IsDeclaration xs → has_another_field_named (names_declared_in_record r xs) f new ≡ false → EachName (KnownName (RenamedAlike (single_field_renaming r f new) (exchanged r f new))) xs
+names-agree r f new [] d h = tt
+names-agree r f new ((_, (x, no_field)) ∷ xs) d h = (tt, names-agree r f new xs d.1 h)
+names-agree r f new ((_, (x, declares_field k)) ∷ xs) d h = go (k == r) h (names-agree r f new xs d.1)
+  where
+    go : (c : Bool) → has_another_field_named (if c then x ∷ names_declared_in_record r xs else names_declared_in_record r xs) f new ≡ false
+        → (has_another_field_named (names_declared_in_record r xs) f new ≡ false → EachName (KnownName (RenamedAlike (single_field_renaming r f new) (exchanged r f new))) xs)
+        → ((if c && same_name x f then new else x) ≡ (if c then exchange f new x else x)) × EachName (KnownName (RenamedAlike (single_field_renaming r f new) (exchanged r f new))) xs
+    go true h later =
+        let g = or_parts (same_name x new && not (same_name x f)) (has_another_field_named (names_declared_in_record r xs) f new) h in
+        (agree-cases f new x true (same_name x f) (same_name x new) g.0, later g.1)
+    go false h later = (refl, later h)
+names-agree r f new ((_, (x, selects_field s)) ∷ xs) d h = absurd d.0
 
 pub renamed-exchanged : (m : Tree Name module_text) (r : ℕ) (f new : Name) → IsFreeFieldName m r f new → WellTyped m → module_with_renamed_field m r f new ≡ rename_fields_in_module (exchanged r f new) m
 unfolding WellTyped
-renamed-exchanged m r f new free well = module-alike (single_field_renaming r f new) (exchanged r f new) m (records-agree r f new (records_in_module m) free) well.1
+renamed-exchanged m r f new free well = module-alike (single_field_renaming r f new) (exchanged r f new) m (names-agree r f new (used_names (mark_module marking_declarations tt m)) (module-declares m) free) well.1
 
 pub renaming_field_to_free_name_keeps_typing_and_runs-holds : RenamingFieldToFreeNameKeepsTypingAndRuns
 renaming_field_to_free_name_keeps_typing_and_runs-holds m r f new free well =

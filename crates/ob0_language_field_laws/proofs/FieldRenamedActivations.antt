@@ -12,7 +12,6 @@ use Rattle.ob0_language_types.specs.Typing.{value_of_constant_object, constant_e
 use Rattle.ob0_language_types.specs.WellTyped.{ParameterMode, TypeEnvironment, bind_typed_parameters, by_place, by_value}
 use Rattle.ob0_language_values.specs.Values.{FieldShapes, Shape, Store, Value, array_shape, copies, elements, initial_value, initial_members, members, next_field_shape, next_member, next_value, no_field_shape, record_shape}
 use Rattle.ob0_language_runs.specs.Runs.{RunEnvironment, ProcedureText, Frame, Parameter, add_variables_to_frame, bind_parameter, bind_parameters, declare_block_in_frame, declare_procedures, declare_variables, formal_parameter_modes, formal_parameters_in_sections, object_for_statements, meanings_for_statements, declare_procedures_in_frame}
-use Rattle.ob0_language_fields.specs.RenamedFields.{FieldRenaming, environment_after_heading, environment_after_variables, typed_parameters_of_procedure, rename_fields_in_block, rename_fields_in_procedure, rename_fields_in_procedure_list, rename_fields_in_further_parameter_sections, rename_fields_in_type, rename_fields_in_type_definitions, rename_fields_in_variables}
 use Rattle.ob0_language_fields.proofs.MeaningsByName.{named}
 use Rattle.ob0_language_field_laws.proofs.Apart.{fields_by, shape_by}
 use Rattle.ob0_language_field_laws.proofs.FieldRenamedExecution.{Given, Modes, argument_by, place_given, value_given}
@@ -21,6 +20,9 @@ use Rattle.ob0_language_field_laws.proofs.FieldRenamedModules.{procedure_constru
 use Rattle.ob0_language_field_laws.proofs.FieldRenamedTypes.{constant_expression_value-alike, constructor_count-rename_selected_fields, denoted_type-rename_selected_fields}
 use Rattle.ob0_language_field_laws.proofs.ScalarConstants.{constant_expression_value-scalar}
 use Rattle.ob0_language_field_laws.proofs.Values.{Spot, members_by, store_by, tagged, value_by, values_by}
+use Rattle.ob0_language_fields.specs.MarkedFields.{environment_after_heading, environment_after_variables, no_field, typed_parameters_of_procedure}
+use Rattle.ob0_language_fields.specs.RenamedFields.{FieldRenaming, rename_declared_fields, rename_fields_in_block, rename_fields_in_procedure, rename_fields_in_procedure_list}
+use Rattle.ob0_language_fields.proofs.MarkedNames.{plain_renamed}
 
 -- a procedure in both runs: its text, the ordinal of its first ARRAY or RECORD, and the checked environment of its
 -- block
@@ -63,7 +65,7 @@ object-as l scene x = ap newest_object (suffix_from_newest_binding-as l scene x)
 
 -- The modes of a procedure's parameters are the same if fields have other names.
 
-pub formal_parameter_modes-rename_selected_fields : (l : FieldRenaming) (k : ℕ) (fs : Tree Name (items section_after_semicolon)) → formal_parameter_modes (rename_fields_in_further_parameter_sections l k fs) ≡ formal_parameter_modes fs
+pub formal_parameter_modes-rename_selected_fields : (l : FieldRenaming) (k : ℕ) (fs : Tree Name (items section_after_semicolon)) → formal_parameter_modes (rename_declared_fields l no_field k fs) ≡ formal_parameter_modes fs
 formal_parameter_modes-rename_selected_fields l k end = refl
 formal_parameter_modes-rename_selected_fields l k (more (semicolon_then_section f) fs) = λ i. map (λ x. parameter_section_mode-rename_selected_fields l k f i) (parameter_section_names-rename_selected_fields l k f i) ++ formal_parameter_modes-rename_selected_fields l (k + constructor_count (parameter_section_type f)) fs i
 
@@ -113,7 +115,7 @@ types-as l scene x = ap type_of_type_object (object-as l scene x) ∙ type-as l 
 pub value-as : (l : FieldRenaming) (scene : Scene) (e : Tree Name expression) → constant_expression_value (meanings naming_by_spelling (env_as l scene)) e ≡ constant_expression_value (named (objects_in scene)) e
 value-as l scene e = constant_expression_value-alike (λ x. newest_object (suffix_from_newest_binding naming_by_spelling (env_as l scene) x)) (objects_in scene) (constants-as l scene) e
 
-pub denoted_type-as : (l : FieldRenaming) (scene : Scene) (k : ℕ) (t : Tree Name written_type) → denoted_type (meanings naming_by_spelling (env_as l scene)) k (rename_fields_in_type l k t) ≡ option_map (shape_by l) (denoted_type (named (objects_in scene)) k t)
+pub denoted_type-as : (l : FieldRenaming) (scene : Scene) (k : ℕ) (t : Tree Name written_type) → denoted_type (meanings naming_by_spelling (env_as l scene)) k (rename_declared_fields l no_field k t) ≡ option_map (shape_by l) (denoted_type (named (objects_in scene)) k t)
 denoted_type-as l scene k t = denoted_type-rename_selected_fields l (λ x. newest_object (suffix_from_newest_binding naming_by_spelling (env_as l scene) x)) (objects_in scene) (constants-as l scene) (types-as l scene) k t
 
 -- holds if both runs give results that stand for the same thing, or neither gives a result
@@ -150,7 +152,7 @@ value-both l scene e =
     (c.0, value-as tagged scene e ∙ c.1, value-as l scene e ∙ c.1)
 
 denoted_type-both : (l : FieldRenaming) (scene : Scene) (k : ℕ) (t : Tree Name written_type)
-    → Both (shape_by tagged) (shape_by l) (denoted_type (meanings naming_by_spelling (env_as tagged scene)) k (rename_fields_in_type tagged k t)) (denoted_type (meanings naming_by_spelling (env_as l scene)) k (rename_fields_in_type l k t))
+    → Both (shape_by tagged) (shape_by l) (denoted_type (meanings naming_by_spelling (env_as tagged scene)) k (rename_declared_fields tagged no_field k t)) (denoted_type (meanings naming_by_spelling (env_as l scene)) k (rename_declared_fields l no_field k t))
 denoted_type-both l scene k t = (denoted_type (named (objects_in scene)) k t, denoted_type-as tagged scene k t, denoted_type-as l scene k t)
 
 pub declare_constants-both : (l : FieldRenaming) (scene : Scene) (cs : Tree Name (items constant)) → Both (env_as tagged) (env_as l) (declare_constants naming_by_spelling (env_as tagged scene) cs) (declare_constants naming_by_spelling (env_as l scene) cs)
@@ -161,15 +163,15 @@ declare_constants-both l scene (more (declares_constant x e) cs) =
     (constant_expression_value (meanings naming_by_spelling (env_as tagged scene)) e) (constant_expression_value (meanings naming_by_spelling (env_as l scene)) e) (value-both l scene e)
     (λ c. declare_constants-both l ((x, constant_thing c) ∷ scene) cs)
 
-pub declare_types-both : (l : FieldRenaming) (scene : Scene) (k : ℕ) (ds : Tree Name (items type_definition)) → Both (env_as tagged) (env_as l) (declare_types naming_by_spelling (env_as tagged scene) k (rename_fields_in_type_definitions tagged k ds)) (declare_types naming_by_spelling (env_as l scene) k (rename_fields_in_type_definitions l k ds))
+pub declare_types-both : (l : FieldRenaming) (scene : Scene) (k : ℕ) (ds : Tree Name (items type_definition)) → Both (env_as tagged) (env_as l) (declare_types naming_by_spelling (env_as tagged scene) k (rename_declared_fields tagged no_field k ds)) (declare_types naming_by_spelling (env_as l scene) k (rename_declared_fields l no_field k ds))
 unfolding declare_types
 declare_types-both l scene k end = (Some scene, refl, refl)
 declare_types-both l scene k (more (declares_type x u) ds) =
-    subst₂ (λ m n. Both (env_as tagged) (env_as l) (option_and_then (λ s. declare_types naming_by_spelling ((x, a_type s) ∷ env_as tagged scene) (k + m) (rename_fields_in_type_definitions tagged (k + constructor_count u) ds)) (denoted_type (meanings naming_by_spelling (env_as tagged scene)) k (rename_fields_in_type tagged k u)))
-    (option_and_then (λ s. declare_types naming_by_spelling ((x, a_type s) ∷ env_as l scene) (k + n) (rename_fields_in_type_definitions l (k + constructor_count u) ds)) (denoted_type (meanings naming_by_spelling (env_as l scene)) k (rename_fields_in_type l k u))))
+    subst₂ (λ m n. Both (env_as tagged) (env_as l) (option_and_then (λ s. declare_types naming_by_spelling ((x, a_type s) ∷ env_as tagged scene) (k + m) (rename_declared_fields tagged no_field (k + constructor_count u) ds)) (denoted_type (meanings naming_by_spelling (env_as tagged scene)) k (rename_declared_fields tagged no_field k u)))
+    (option_and_then (λ s. declare_types naming_by_spelling ((x, a_type s) ∷ env_as l scene) (k + n) (rename_declared_fields l no_field (k + constructor_count u) ds)) (denoted_type (meanings naming_by_spelling (env_as l scene)) k (rename_declared_fields l no_field k u))))
     (sym (constructor_count-rename_selected_fields tagged k u)) (sym (constructor_count-rename_selected_fields l k u))
-    (both-then (shape_by tagged) (shape_by l) (env_as tagged) (env_as l) (λ s. declare_types naming_by_spelling ((x, a_type s) ∷ env_as tagged scene) (k + constructor_count u) (rename_fields_in_type_definitions tagged (k + constructor_count u) ds)) (λ s. declare_types naming_by_spelling ((x, a_type s) ∷ env_as l scene) (k + constructor_count u) (rename_fields_in_type_definitions l (k + constructor_count u) ds))
-    (denoted_type (meanings naming_by_spelling (env_as tagged scene)) k (rename_fields_in_type tagged k u)) (denoted_type (meanings naming_by_spelling (env_as l scene)) k (rename_fields_in_type l k u)) (denoted_type-both l scene k u)
+    (both-then (shape_by tagged) (shape_by l) (env_as tagged) (env_as l) (λ s. declare_types naming_by_spelling ((x, a_type s) ∷ env_as tagged scene) (k + constructor_count u) (rename_declared_fields tagged no_field (k + constructor_count u) ds)) (λ s. declare_types naming_by_spelling ((x, a_type s) ∷ env_as l scene) (k + constructor_count u) (rename_declared_fields l no_field (k + constructor_count u) ds))
+    (denoted_type (meanings naming_by_spelling (env_as tagged scene)) k (rename_declared_fields tagged no_field k u)) (denoted_type (meanings naming_by_spelling (env_as l scene)) k (rename_declared_fields l no_field k u)) (denoted_type-both l scene k u)
     (λ s. declare_types-both l ((x, type_thing s) ∷ scene) (k + constructor_count u) ds))
 
 -- If fields get other names, only these names change in the first values of variables.
@@ -213,17 +215,17 @@ add_variables_to_frame-by l (x ∷ xs) v f =
 begun-by : (l : FieldRenaming) (xs : List Name) (s : Shape) (f : Stage) → add_variables_to_frame xs (initial_value (shape_by l s)) (frame_by l f) ≡ frame_by l (allocated xs (initial_value s) f)
 begun-by l xs s f = ap (λ v. add_variables_to_frame xs v (frame_by l f)) (initial-by l s) ∙ add_variables_to_frame-by l xs (initial_value s) f
 
-pub declare_variables-both : (l : FieldRenaming) (k : ℕ) (gs : Tree Name (items variable)) (f : Stage) → FramesBoth l (declare_variables naming_by_spelling k (rename_fields_in_variables tagged k gs) (frame_by tagged f)) (declare_variables naming_by_spelling k (rename_fields_in_variables l k gs) (frame_by l f))
+pub declare_variables-both : (l : FieldRenaming) (k : ℕ) (gs : Tree Name (items variable)) (f : Stage) → FramesBoth l (declare_variables naming_by_spelling k (rename_declared_fields tagged no_field k gs) (frame_by tagged f)) (declare_variables naming_by_spelling k (rename_declared_fields l no_field k gs) (frame_by l f))
 unfolding declare_variables
 declare_variables-both l k end f = (Some f, refl, refl)
 declare_variables-both l k (more (declares_variable ns u) gs) f =
-    subst₂ (λ m n. FramesBoth l (option_and_then (λ s. declare_variables naming_by_spelling (k + m) (rename_fields_in_variables tagged (k + constructor_count u) gs) (add_variables_to_frame (names_in_list ns) (initial_value s) (frame_by tagged f))) (denoted_type (meanings naming_by_spelling (env_as tagged f.scene)) k (rename_fields_in_type tagged k u)))
-    (option_and_then (λ s. declare_variables naming_by_spelling (k + n) (rename_fields_in_variables l (k + constructor_count u) gs) (add_variables_to_frame (names_in_list ns) (initial_value s) (frame_by l f))) (denoted_type (meanings naming_by_spelling (env_as l f.scene)) k (rename_fields_in_type l k u))))
-    (sym (constructor_count-rename_selected_fields tagged k u)) (sym (constructor_count-rename_selected_fields l k u))
-    (both-then (shape_by tagged) (shape_by l) (frame_by tagged) (frame_by l) (λ s. declare_variables naming_by_spelling (k + constructor_count u) (rename_fields_in_variables tagged (k + constructor_count u) gs) (add_variables_to_frame (names_in_list ns) (initial_value s) (frame_by tagged f)))
-    (λ s. declare_variables naming_by_spelling (k + constructor_count u) (rename_fields_in_variables l (k + constructor_count u) gs) (add_variables_to_frame (names_in_list ns) (initial_value s) (frame_by l f)))
-    (denoted_type (meanings naming_by_spelling (env_as tagged f.scene)) k (rename_fields_in_type tagged k u)) (denoted_type (meanings naming_by_spelling (env_as l f.scene)) k (rename_fields_in_type l k u)) (denoted_type-both l f.scene k u)
-    (λ s. subst₂ (λ a b. FramesBoth l (declare_variables naming_by_spelling (k + constructor_count u) (rename_fields_in_variables tagged (k + constructor_count u) gs) a) (declare_variables naming_by_spelling (k + constructor_count u) (rename_fields_in_variables l (k + constructor_count u) gs) b))
+    subst₂ (λ (m n : ℕ × List Name). FramesBoth l (option_and_then (λ s. declare_variables naming_by_spelling (k + m.0) (rename_declared_fields tagged no_field (k + constructor_count u) gs) (add_variables_to_frame m.1 (initial_value s) (frame_by tagged f))) (denoted_type (meanings naming_by_spelling (env_as tagged f.scene)) k (rename_declared_fields tagged no_field k u)))
+    (option_and_then (λ s. declare_variables naming_by_spelling (k + n.0) (rename_declared_fields l no_field (k + constructor_count u) gs) (add_variables_to_frame n.1 (initial_value s) (frame_by l f))) (denoted_type (meanings naming_by_spelling (env_as l f.scene)) k (rename_declared_fields l no_field k u))))
+    (sym (λ i. (constructor_count-rename_selected_fields tagged k u i, names_in_list (plain_renamed tagged ns i)))) (sym (λ i. (constructor_count-rename_selected_fields l k u i, names_in_list (plain_renamed l ns i))))
+    (both-then (shape_by tagged) (shape_by l) (frame_by tagged) (frame_by l) (λ s. declare_variables naming_by_spelling (k + constructor_count u) (rename_declared_fields tagged no_field (k + constructor_count u) gs) (add_variables_to_frame (names_in_list ns) (initial_value s) (frame_by tagged f)))
+    (λ s. declare_variables naming_by_spelling (k + constructor_count u) (rename_declared_fields l no_field (k + constructor_count u) gs) (add_variables_to_frame (names_in_list ns) (initial_value s) (frame_by l f)))
+    (denoted_type (meanings naming_by_spelling (env_as tagged f.scene)) k (rename_declared_fields tagged no_field k u)) (denoted_type (meanings naming_by_spelling (env_as l f.scene)) k (rename_declared_fields l no_field k u)) (denoted_type-both l f.scene k u)
+    (λ s. subst₂ (λ a b. FramesBoth l (declare_variables naming_by_spelling (k + constructor_count u) (rename_declared_fields tagged no_field (k + constructor_count u) gs) a) (declare_variables naming_by_spelling (k + constructor_count u) (rename_declared_fields l no_field (k + constructor_count u) gs) b))
     (sym (begun-by tagged (names_in_list ns) s f)) (sym (begun-by l (names_in_list ns) s f)) (declare_variables-both l (k + constructor_count u) gs (allocated (names_in_list ns) (initial_value s) f))))
 
 -- binds the procedures of a block in a scene, each with its checked environment
@@ -247,20 +249,20 @@ declare_procedures-by l k (more p rest) env scene =
 
 abbrev declared_parts : FieldRenaming → ℕ → ℕ → ℕ → Tree Name (items constant) → Tree Name (items type_definition) → Tree Name (items variable) → Tree Name (items procedure) → TypeEnvironment Name → Stage → Option (Frame Name)
 declared_parts l k j n cs ts vs ps inner f =
-    option_and_then (λ env. option_map (declare_procedures_in_frame n (rename_fields_in_procedure_list l inner n ps)) (declare_variables naming_by_spelling j (rename_fields_in_variables l j vs) record { env = env; store = store_by l f.store }))
-    (option_and_then (λ env. declare_types naming_by_spelling env k (rename_fields_in_type_definitions l k ts)) (declare_constants naming_by_spelling (env_as l f.scene) cs))
+    option_and_then (λ env. option_map (declare_procedures_in_frame n (rename_fields_in_procedure_list l inner n ps)) (declare_variables naming_by_spelling j (rename_declared_fields l no_field j vs) record { env = env; store = store_by l f.store }))
+    (option_and_then (λ env. declare_types naming_by_spelling env k (rename_declared_fields l no_field k ts)) (declare_constants naming_by_spelling (env_as l f.scene) cs))
 
 declared_parts-both : (l : FieldRenaming) (k j n : ℕ) (cs : Tree Name (items constant)) (ts : Tree Name (items type_definition)) (vs : Tree Name (items variable)) (ps : Tree Name (items procedure)) (inner : TypeEnvironment Name) (f : Stage)
     → FramesBoth l (declared_parts tagged k j n cs ts vs ps inner f) (declared_parts l k j n cs ts vs ps inner f)
 declared_parts-both l k j n cs ts vs ps inner f =
     both-then (env_as tagged) (env_as l) (frame_by tagged) (frame_by l)
-    (λ env. option_map (declare_procedures_in_frame n (rename_fields_in_procedure_list tagged inner n ps)) (declare_variables naming_by_spelling j (rename_fields_in_variables tagged j vs) record { env = env; store = store_by tagged f.store }))
-    (λ env. option_map (declare_procedures_in_frame n (rename_fields_in_procedure_list l inner n ps)) (declare_variables naming_by_spelling j (rename_fields_in_variables l j vs) record { env = env; store = store_by l f.store }))
-    (option_and_then (λ env. declare_types naming_by_spelling env k (rename_fields_in_type_definitions tagged k ts)) (declare_constants naming_by_spelling (env_as tagged f.scene) cs)) (option_and_then (λ env. declare_types naming_by_spelling env k (rename_fields_in_type_definitions l k ts)) (declare_constants naming_by_spelling (env_as l f.scene) cs))
-    (both-then (env_as tagged) (env_as l) (env_as tagged) (env_as l) (λ env. declare_types naming_by_spelling env k (rename_fields_in_type_definitions tagged k ts)) (λ env. declare_types naming_by_spelling env k (rename_fields_in_type_definitions l k ts))
+    (λ env. option_map (declare_procedures_in_frame n (rename_fields_in_procedure_list tagged inner n ps)) (declare_variables naming_by_spelling j (rename_declared_fields tagged no_field j vs) record { env = env; store = store_by tagged f.store }))
+    (λ env. option_map (declare_procedures_in_frame n (rename_fields_in_procedure_list l inner n ps)) (declare_variables naming_by_spelling j (rename_declared_fields l no_field j vs) record { env = env; store = store_by l f.store }))
+    (option_and_then (λ env. declare_types naming_by_spelling env k (rename_declared_fields tagged no_field k ts)) (declare_constants naming_by_spelling (env_as tagged f.scene) cs)) (option_and_then (λ env. declare_types naming_by_spelling env k (rename_declared_fields l no_field k ts)) (declare_constants naming_by_spelling (env_as l f.scene) cs))
+    (both-then (env_as tagged) (env_as l) (env_as tagged) (env_as l) (λ env. declare_types naming_by_spelling env k (rename_declared_fields tagged no_field k ts)) (λ env. declare_types naming_by_spelling env k (rename_declared_fields l no_field k ts))
     (declare_constants naming_by_spelling (env_as tagged f.scene) cs) (declare_constants naming_by_spelling (env_as l f.scene) cs) (declare_constants-both l f.scene cs) (λ scene. declare_types-both l scene k ts))
     (λ scene. both-made (frame_by tagged) (frame_by l) (frame_by tagged) (frame_by l) (declare_procedures_in_frame n (rename_fields_in_procedure_list tagged inner n ps)) (declare_procedures_in_frame n (rename_fields_in_procedure_list l inner n ps)) (λ g. record { scene = declared_procedures n ps inner g.scene; store = g.store })
-    (declare_variables naming_by_spelling j (rename_fields_in_variables tagged j vs) record { env = env_as tagged scene; store = store_by tagged f.store }) (declare_variables naming_by_spelling j (rename_fields_in_variables l j vs) record { env = env_as l scene; store = store_by l f.store })
+    (declare_variables naming_by_spelling j (rename_declared_fields tagged no_field j vs) record { env = env_as tagged scene; store = store_by tagged f.store }) (declare_variables naming_by_spelling j (rename_declared_fields l no_field j vs) record { env = env_as l scene; store = store_by l f.store })
     (declare_variables-both l j vs record { scene = scene; store = f.store })
     (λ g i. record { env = declare_procedures-by tagged n ps inner g.scene i; store = store_by tagged g.store }) (λ g i. record { env = declare_procedures-by l n ps inner g.scene i; store = store_by l g.store }))
 
@@ -272,7 +274,7 @@ declare_block_in_frame-parts l checked k cs ts vs ps statements f = λ i.
     let b : Tree Name block = forms_block (declares cs ts vs ps) statements in
     option_and_then (λ env. option_map (declare_procedures_in_frame (k + types_count-rename_selected_fields l k ts i + variables_count-rename_selected_fields l (constructor_count_before_variables k b) vs i) (rename_fields_in_procedure_list l (environment_after_variables checked k b) (constructor_count_before_procedures k b) ps))
     (declare_variables naming_by_spelling (k + types_count-rename_selected_fields l k ts i) (section_variables-rename_selected_fields l (constructor_count_before_variables k b) vs i) record { env = env; store = store_by l f.store }))
-    (option_and_then (λ env. declare_types naming_by_spelling env k (section_types-rename_selected_fields l k ts i)) (declare_constants naming_by_spelling (env_as l f.scene) (section_constants cs)))
+    (option_and_then (λ env. declare_types naming_by_spelling env k (section_types-rename_selected_fields l k ts i)) (declare_constants naming_by_spelling (env_as l f.scene) (section_constants (plain_renamed l cs i))))
 
 pub declare_block_in_frame-both : (l : FieldRenaming) (checked : TypeEnvironment Name) (k : ℕ) (b : Tree Name block) (f : Stage)
     → FramesBoth l (declare_block_in_frame naming_by_spelling k (rename_fields_in_block tagged checked k b) (frame_by tagged f)) (declare_block_in_frame naming_by_spelling k (rename_fields_in_block l checked k b) (frame_by l f))
@@ -282,7 +284,7 @@ declare_block_in_frame-both l checked k (forms_block (declares cs ts vs ps) stat
 
 -- Binding parameters to arguments does the same in both runs.
 
-pub parameters-rename_selected_fields : (l : FieldRenaming) (k : ℕ) (fs : Tree Name (items section_after_semicolon)) → formal_parameters_in_sections (rename_fields_in_further_parameter_sections l k fs) ≡ formal_parameters_in_sections fs
+pub parameters-rename_selected_fields : (l : FieldRenaming) (k : ℕ) (fs : Tree Name (items section_after_semicolon)) → formal_parameters_in_sections (rename_declared_fields l no_field k fs) ≡ formal_parameters_in_sections fs
 parameters-rename_selected_fields l k end = refl
 parameters-rename_selected_fields l k (more (semicolon_then_section f) fs) = λ i. map (λ x. record { mode = parameter_section_mode-rename_selected_fields l k f i; name = x }) (parameter_section_names-rename_selected_fields l k f i) ++ parameters-rename_selected_fields l (k + constructor_count (parameter_section_type f)) fs i
 

@@ -9,12 +9,12 @@ use Rattle.ob0_language_types.specs.Typing.{lone_designator, type_of_variable_or
 use Rattle.ob0_language_types.specs.WellTyped.{ParameterMode, TypeMeanings, by_place, by_value}
 use Rattle.ob0_language_values.specs.Values.{Outcome, Store, Stuck, TurnBound, Value, ends_run_with, succeeds_with, number, result_or_stuck, truth, write_place, ◌>>=◌}
 use Rattle.ob0_language_runs.specs.Runs.{Argument, CallFunction, Progress, State, choose_by_truth_value, evaluate_argument, evaluate_arguments, execute_statement, execute_sequence, execute_else, execute_elsifs, execute_further_statements, continue_if_running, printed_line_end, argument_modes_of, printed_number, perform_call, place_argument, append_output, read_number, running, stopped, store_value_at_place, execute_while, execute_repeat, continue_with_result, value_argument}
-use Rattle.ob0_language_fields.specs.RenamedFields.{FieldRenaming, rename_selected_fields}
 use Rattle.ob0_language_field_laws.specs.FieldLaws.{KeepsFieldsDistinct}
 use Rattle.ob0_language_field_laws.proofs.Outcomes.{Follows, ValuesFollow, follows-then, result_or_stuck-follows}
 use Rattle.ob0_language_field_laws.proofs.FieldRenamedExpressions.{Thing, Things, active, designated_place-follows, evaluate-follows, procedure_thing, standard_thing, thing_by}
 use Rattle.ob0_language_field_laws.proofs.FieldRenamedStatements.{arguments-rename_selected_fields, lone_designator-rename_selected_fields, refield_designator}
 use Rattle.ob0_language_field_laws.proofs.Values.{Spot, place_by, store_by, tagged, value_by, write_place-finds}
+use Rattle.ob0_language_fields.specs.RenamedFields.{FieldRenaming, rename_selected_fields}
 
 abbrev pub state_by : FieldRenaming → State → State
 state_by l s = record { store = store_by l s.store; input = s.input; output = s.output }

@@ -8,12 +8,13 @@ use Rattle.ob0_language_types.specs.Expressions.{Meanings, Object, StandardProce
 use Rattle.ob0_language_types.specs.Typing.{type_of_variable_or_constant}
 use Rattle.ob0_language_types.specs.WellTyped.{TypeMeanings}
 use Rattle.ob0_language_values.specs.Values.{Outcome, Place, Shape, PathStep, Store, Value, apply_add_operator, add_operator_short_circuits, value_at_path, succeeds_with, apply_multiply_operator, multiply_operator_short_circuits, apply_not, number, result_or_stuck, value_at_step, read_place, apply_relation, apply_sign, truth, ◌>>=◌}
-use Rattle.ob0_language_fields.specs.RenamedFields.{FieldRenaming, shape_after_selector, record_ordinal, rename_selected_fields}
 use Rattle.ob0_language_fields.proofs.MeaningsByName.{named}
 use Rattle.ob0_language_field_laws.specs.FieldLaws.{KeepsFieldsDistinct}
 use Rattle.ob0_language_field_laws.proofs.Apart.{shape_by}
 use Rattle.ob0_language_field_laws.proofs.Outcomes.{Follows, ValuesFollow, add-follows, add_operator_short_circuits-by, element_step-follows, follows-then, multiply-follows, multiply_operator_short_circuits-by, negate-follows, result_or_stuck-follows, apply_relation-follows, settled-follows, apply_sign-follows}
 use Rattle.ob0_language_field_laws.proofs.Values.{Move, Spot, value_at_path-finds, value_at_step-finds, place_by, read_place-finds, step_by, store_by, tagged, to_field, value_by}
+use Rattle.ob0_language_fields.specs.MarkedFields.{type_after_selector}
+use Rattle.ob0_language_fields.specs.RenamedFields.{FieldRenaming, record_ordinal, rename_selected_fields}
 
 -- the value of a constant: a number or a truth value
 pub data Scalar : Type 0 where
@@ -146,18 +147,18 @@ mutual
       → PathsFollow l (evaluate_selectors (active tagged things) (store_by tagged store) (value_by tagged v) (rename_selected_fields tagged checked s path)) (evaluate_selectors (active l things) (store_by l store) (value_by l v) (rename_selected_fields l checked s path))
   follow-follows l apart things checked store s v end = ([], refl, refl)
   follow-follows l apart things checked store s v (more (field x) rest) =
-      follow_on-follows l apart (λ w. evaluate_selectors (active tagged things) (store_by tagged store) w (rename_selected_fields tagged checked (shape_after_selector s (field x)) rest)) (λ w. evaluate_selectors (active l things) (store_by l store) w (rename_selected_fields l checked (shape_after_selector s (field x)) rest))
-      (λ w. follow-follows l apart things checked store (shape_after_selector s (field x)) w rest) v (to_field (record_ordinal s) x)
+      follow_on-follows l apart (λ w. evaluate_selectors (active tagged things) (store_by tagged store) w (rename_selected_fields tagged checked (type_after_selector checked s (field x)) rest)) (λ w. evaluate_selectors (active l things) (store_by l store) w (rename_selected_fields l checked (type_after_selector checked s (field x)) rest))
+      (λ w. follow-follows l apart things checked store (type_after_selector checked s (field x)) w rest) v (to_field (record_ordinal s) x)
   follow-follows l apart things checked store s v (more (index e) rest) =
       follows-then (value_by tagged) (value_by l) (map (step_by tagged)) (map (step_by l)) _ _
-      (λ i. element_step (value_by tagged v) i >>= follow_on (λ w. evaluate_selectors (active tagged things) (store_by tagged store) w (rename_selected_fields tagged checked (shape_after_selector s (index e)) rest)) (value_by tagged v))
-      (λ i. element_step (value_by l v) i >>= follow_on (λ w. evaluate_selectors (active l things) (store_by l store) w (rename_selected_fields l checked (shape_after_selector s (index e)) rest)) (value_by l v))
+      (λ i. element_step (value_by tagged v) i >>= follow_on (λ w. evaluate_selectors (active tagged things) (store_by tagged store) w (rename_selected_fields tagged checked (type_after_selector checked s (index e)) rest)) (value_by tagged v))
+      (λ i. element_step (value_by l v) i >>= follow_on (λ w. evaluate_selectors (active l things) (store_by l store) w (rename_selected_fields l checked (type_after_selector checked s (index e)) rest)) (value_by l v))
       (evaluate-follows l apart things checked store e)
       (λ i. follows-then (step_by tagged) (step_by l) (map (step_by tagged)) (map (step_by l)) (element_step (value_by tagged v) (value_by tagged i)) (element_step (value_by l v) (value_by l i))
-      (follow_on (λ w. evaluate_selectors (active tagged things) (store_by tagged store) w (rename_selected_fields tagged checked (shape_after_selector s (index e)) rest)) (value_by tagged v)) (follow_on (λ w. evaluate_selectors (active l things) (store_by l store) w (rename_selected_fields l checked (shape_after_selector s (index e)) rest)) (value_by l v))
+      (follow_on (λ w. evaluate_selectors (active tagged things) (store_by tagged store) w (rename_selected_fields tagged checked (type_after_selector checked s (index e)) rest)) (value_by tagged v)) (follow_on (λ w. evaluate_selectors (active l things) (store_by l store) w (rename_selected_fields l checked (type_after_selector checked s (index e)) rest)) (value_by l v))
       (element_step-follows l v i)
-      (λ m. follow_on-follows l apart (λ w. evaluate_selectors (active tagged things) (store_by tagged store) w (rename_selected_fields tagged checked (shape_after_selector s (index e)) rest)) (λ w. evaluate_selectors (active l things) (store_by l store) w (rename_selected_fields l checked (shape_after_selector s (index e)) rest))
-      (λ w. follow-follows l apart things checked store (shape_after_selector s (index e)) w rest) v m))
+      (λ m. follow_on-follows l apart (λ w. evaluate_selectors (active tagged things) (store_by tagged store) w (rename_selected_fields tagged checked (type_after_selector checked s (index e)) rest)) (λ w. evaluate_selectors (active l things) (store_by l store) w (rename_selected_fields l checked (type_after_selector checked s (index e)) rest))
+      (λ w. follow-follows l apart things checked store (type_after_selector checked s (index e)) w rest) v m))
 
 -- holds if two outcomes give places that stand for the same place
 

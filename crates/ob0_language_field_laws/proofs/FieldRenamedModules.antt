@@ -10,12 +10,14 @@ use Rattle.ob0_language_types.specs.Expressions.{Object, a_constant, a_procedure
 use Rattle.ob0_language_types.specs.Typing.{value_of_constant_object, constant_expression_value, constructor_count, denoted_type, type_of_type_object}
 use Rattle.ob0_language_types.specs.WellTyped.{ParameterMode, Signature, TypeEnvironment, TypedParameter, bind_names, bind_typed_parameters, block_is_well_typed, body_is_well_typed, declare_typed_variables, passes_type_check, bind_procedure, option_satisfies, procedure_is_well_typed, procedures_and_body_are_well_typed, parameter_section_mode, sequence_is_well_typed, typed_parameters}
 use Rattle.ob0_language_values.specs.Values.{Shape}
-use Rattle.ob0_language_fields.specs.RenamedFields.{FieldRenaming, environment_after_heading, environment_after_procedures, environment_after_variables, typed_parameters_of_procedure, rename_selected_fields, rename_fields_in_block, rename_fields_in_formals, rename_fields_in_procedure, rename_fields_in_procedure_list, rename_fields_in_parameter_section, rename_fields_in_further_parameter_sections, rename_fields_in_type, rename_fields_in_type_section, rename_fields_in_type_definitions, rename_fields_in_variable_section, rename_fields_in_variables}
 use Rattle.ob0_language_fields.proofs.MeaningsByName.{named, parameter_of, object_in}
 use Rattle.ob0_language_field_laws.specs.FieldLaws.{KeepsFieldsDistinct, FieldRenamingKeepsTypeCheck}
 use Rattle.ob0_language_field_laws.proofs.Apart.{value_of_constant_object-by, each-then, formal_by, map-then, object_by, shape_by, type_of_type_object-by}
 use Rattle.ob0_language_field_laws.proofs.FieldRenamedTypes.{constant_expression_value-alike, constructor_count-rename_selected_fields, denoted_type-rename_selected_fields}
 use Rattle.ob0_language_field_laws.proofs.FieldRenamedStatements.{sequence_is_well_typed-rename_selected_fields}
+use Rattle.ob0_language_fields.specs.MarkedFields.{environment_after_heading, environment_after_procedures, environment_after_variables, no_field, typed_parameters_of_procedure}
+use Rattle.ob0_language_fields.specs.RenamedFields.{FieldRenaming, rename_declared_fields, rename_fields_in_block, rename_fields_in_procedure, rename_fields_in_procedure_list, rename_selected_fields}
+use Rattle.ob0_language_fields.proofs.MarkedNames.{plain_renamed}
 
 -- Looking up a name in an environment whose fields have other names gives its meaning with these names.
 
@@ -35,7 +37,7 @@ constants-by l env x = ap value_of_constant_object (newest_object-by l env x) �
 pub types-by : (l : FieldRenaming) (env : TypeEnvironment Name) (x : Name) → type_of_type_object (object_in (env_by l env) x) ≡ option_map (shape_by l) (type_of_type_object (object_in env x))
 types-by l env x = ap type_of_type_object (newest_object-by l env x) ∙ type_of_type_object-by l (object_in env x)
 
-pub denoted_type-by : (l : FieldRenaming) (env : TypeEnvironment Name) (k : ℕ) (t : Tree Name written_type) → denoted_type (meanings naming_by_spelling (env_by l env)) k (rename_fields_in_type l k t) ≡ option_map (shape_by l) (denoted_type (meanings naming_by_spelling env) k t)
+pub denoted_type-by : (l : FieldRenaming) (env : TypeEnvironment Name) (k : ℕ) (t : Tree Name written_type) → denoted_type (meanings naming_by_spelling (env_by l env)) k (rename_declared_fields l no_field k t) ≡ option_map (shape_by l) (denoted_type (meanings naming_by_spelling env) k t)
 denoted_type-by l env k t = denoted_type-rename_selected_fields l (object_in (env_by l env)) (object_in env) (constants-by l env) (types-by l env) k t
 
 pub bind_names-by : (l : FieldRenaming) (xs : List Name) (o : Object Shape Signature) (env : TypeEnvironment Name) → bind_names xs (object_by l o) (env_by l env) ≡ env_by l (bind_names xs o env)
@@ -58,31 +60,31 @@ bind_procedure-by l x ps env = λ i. (x, a_procedure (formals-by l ps i)) ∷ en
 
 -- The sections of a block with its fields under other names are the sections with theirs.
 
-pub section_types-rename_selected_fields : (l : FieldRenaming) (k : ℕ) (ts : Tree Name (maybe type_definitions)) → section_types (rename_fields_in_type_section l k ts) ≡ rename_fields_in_type_definitions l k (section_types ts)
+pub section_types-rename_selected_fields : (l : FieldRenaming) (k : ℕ) (ts : Tree Name (maybe type_definitions)) → section_types (rename_declared_fields l no_field k ts) ≡ rename_declared_fields l no_field k (section_types ts)
 section_types-rename_selected_fields l k none = refl
 section_types-rename_selected_fields l k (one (declares_type_section ts)) = refl
 
-pub section_variables-rename_selected_fields : (l : FieldRenaming) (k : ℕ) (vs : Tree Name (maybe variables)) → section_variables (rename_fields_in_variable_section l k vs) ≡ rename_fields_in_variables l k (section_variables vs)
+pub section_variables-rename_selected_fields : (l : FieldRenaming) (k : ℕ) (vs : Tree Name (maybe variables)) → section_variables (rename_declared_fields l no_field k vs) ≡ rename_declared_fields l no_field k (section_variables vs)
 section_variables-rename_selected_fields l k none = refl
 section_variables-rename_selected_fields l k (one (declares_var_section vs)) = refl
 
-pub formal_parameter_sections-rename_selected_fields : (l : FieldRenaming) (k : ℕ) (fs : Tree Name (maybe formals)) → formal_parameter_sections (rename_fields_in_formals l k fs) ≡ rename_fields_in_further_parameter_sections l k (formal_parameter_sections fs)
+pub formal_parameter_sections-rename_selected_fields : (l : FieldRenaming) (k : ℕ) (fs : Tree Name (maybe formals)) → formal_parameter_sections (rename_declared_fields l no_field k fs) ≡ rename_declared_fields l no_field k (formal_parameter_sections fs)
 formal_parameter_sections-rename_selected_fields l k (one no_formals) = refl
 formal_parameter_sections-rename_selected_fields l k _ = refl
 
-pub parameter_section_type-rename_selected_fields : (l : FieldRenaming) (k : ℕ) (f : Tree Name section) → parameter_section_type (rename_fields_in_parameter_section l k f) ≡ rename_fields_in_type l k (parameter_section_type f)
+pub parameter_section_type-rename_selected_fields : (l : FieldRenaming) (k : ℕ) (f : Tree Name section) → parameter_section_type (rename_declared_fields l no_field k f) ≡ rename_declared_fields l no_field k (parameter_section_type f)
 parameter_section_type-rename_selected_fields l k (value_section ns u) = refl
 parameter_section_type-rename_selected_fields l k (variable_section ns u) = refl
 
-pub parameter_section_names-rename_selected_fields : (l : FieldRenaming) (k : ℕ) (f : Tree Name section) → parameter_section_names (rename_fields_in_parameter_section l k f) ≡ parameter_section_names f
-parameter_section_names-rename_selected_fields l k (value_section ns u) = refl
-parameter_section_names-rename_selected_fields l k (variable_section ns u) = refl
+pub parameter_section_names-rename_selected_fields : (l : FieldRenaming) (k : ℕ) (f : Tree Name section) → parameter_section_names (rename_declared_fields l no_field k f) ≡ parameter_section_names f
+parameter_section_names-rename_selected_fields l k (value_section ns u) = ap names_in_list (plain_renamed l ns)
+parameter_section_names-rename_selected_fields l k (variable_section ns u) = ap names_in_list (plain_renamed l ns)
 
-pub parameter_section_mode-rename_selected_fields : (l : FieldRenaming) (k : ℕ) (f : Tree Name section) → parameter_section_mode (rename_fields_in_parameter_section l k f) ≡ parameter_section_mode f
+pub parameter_section_mode-rename_selected_fields : (l : FieldRenaming) (k : ℕ) (f : Tree Name section) → parameter_section_mode (rename_declared_fields l no_field k f) ≡ parameter_section_mode f
 parameter_section_mode-rename_selected_fields l k (value_section ns u) = refl
 parameter_section_mode-rename_selected_fields l k (variable_section ns u) = refl
 
-pub procedure_formals-rename_selected_fields : (l : FieldRenaming) (env : TypeEnvironment Name) (k : ℕ) (p : Tree Name (item procedure)) → procedure_formals (rename_fields_in_procedure l env k p) ≡ rename_fields_in_further_parameter_sections l k (procedure_formals p)
+pub procedure_formals-rename_selected_fields : (l : FieldRenaming) (env : TypeEnvironment Name) (k : ℕ) (p : Tree Name (item procedure)) → procedure_formals (rename_fields_in_procedure l env k p) ≡ rename_declared_fields l no_field k (procedure_formals p)
 procedure_formals-rename_selected_fields l env k (declares_procedure x fs b closing) = formal_parameter_sections-rename_selected_fields l k fs
 
 pub procedure_name-rename_selected_fields : (l : FieldRenaming) (env : TypeEnvironment Name) (k : ℕ) (p : Tree Name (item procedure)) → procedure_name (rename_fields_in_procedure l env k p) ≡ procedure_name p
@@ -90,28 +92,28 @@ procedure_name-rename_selected_fields l env k (declares_procedure x fs b closing
 
 -- The number of words ARRAY and RECORD is the same if fields have other names.
 
-pub section_constructors-rename_selected_fields : (l : FieldRenaming) (k : ℕ) (f : Tree Name section) → constructor_count (parameter_section_type (rename_fields_in_parameter_section l k f)) ≡ constructor_count (parameter_section_type f)
+pub section_constructors-rename_selected_fields : (l : FieldRenaming) (k : ℕ) (f : Tree Name section) → constructor_count (parameter_section_type (rename_declared_fields l no_field k f)) ≡ constructor_count (parameter_section_type f)
 section_constructors-rename_selected_fields l k f = ap constructor_count (parameter_section_type-rename_selected_fields l k f) ∙ constructor_count-rename_selected_fields l k (parameter_section_type f)
 
-pub types_constructor_count-rename_selected_fields : (l : FieldRenaming) (k : ℕ) (ds : Tree Name (items type_definition)) → types_constructor_count (rename_fields_in_type_definitions l k ds) ≡ types_constructor_count ds
+pub types_constructor_count-rename_selected_fields : (l : FieldRenaming) (k : ℕ) (ds : Tree Name (items type_definition)) → types_constructor_count (rename_declared_fields l no_field k ds) ≡ types_constructor_count ds
 types_constructor_count-rename_selected_fields l k end = refl
 types_constructor_count-rename_selected_fields l k (more (declares_type x u) ds) = λ i. constructor_count-rename_selected_fields l k u i + types_constructor_count-rename_selected_fields l (k + constructor_count u) ds i
 
-pub variables_constructor_count-rename_selected_fields : (l : FieldRenaming) (k : ℕ) (gs : Tree Name (items variable)) → variables_constructor_count (rename_fields_in_variables l k gs) ≡ variables_constructor_count gs
+pub variables_constructor_count-rename_selected_fields : (l : FieldRenaming) (k : ℕ) (gs : Tree Name (items variable)) → variables_constructor_count (rename_declared_fields l no_field k gs) ≡ variables_constructor_count gs
 variables_constructor_count-rename_selected_fields l k end = refl
 variables_constructor_count-rename_selected_fields l k (more (declares_variable ns u) gs) = λ i. constructor_count-rename_selected_fields l k u i + variables_constructor_count-rename_selected_fields l (k + constructor_count u) gs i
 
-pub sections_constructors-rename_selected_fields : (l : FieldRenaming) (k : ℕ) (fs : Tree Name (items section_after_semicolon)) → formals_constructor_count (rename_fields_in_further_parameter_sections l k fs) ≡ formals_constructor_count fs
+pub sections_constructors-rename_selected_fields : (l : FieldRenaming) (k : ℕ) (fs : Tree Name (items section_after_semicolon)) → formals_constructor_count (rename_declared_fields l no_field k fs) ≡ formals_constructor_count fs
 sections_constructors-rename_selected_fields l k end = refl
 sections_constructors-rename_selected_fields l k (more (semicolon_then_section f) fs) = λ i. section_constructors-rename_selected_fields l k f i + sections_constructors-rename_selected_fields l (k + constructor_count (parameter_section_type f)) fs i
 
-pub types_count-rename_selected_fields : (l : FieldRenaming) (k : ℕ) (ts : Tree Name (maybe type_definitions)) → types_constructor_count (section_types (rename_fields_in_type_section l k ts)) ≡ types_constructor_count (section_types ts)
+pub types_count-rename_selected_fields : (l : FieldRenaming) (k : ℕ) (ts : Tree Name (maybe type_definitions)) → types_constructor_count (section_types (rename_declared_fields l no_field k ts)) ≡ types_constructor_count (section_types ts)
 types_count-rename_selected_fields l k ts = ap types_constructor_count (section_types-rename_selected_fields l k ts) ∙ types_constructor_count-rename_selected_fields l k (section_types ts)
 
-pub variables_count-rename_selected_fields : (l : FieldRenaming) (k : ℕ) (vs : Tree Name (maybe variables)) → variables_constructor_count (section_variables (rename_fields_in_variable_section l k vs)) ≡ variables_constructor_count (section_variables vs)
+pub variables_count-rename_selected_fields : (l : FieldRenaming) (k : ℕ) (vs : Tree Name (maybe variables)) → variables_constructor_count (section_variables (rename_declared_fields l no_field k vs)) ≡ variables_constructor_count (section_variables vs)
 variables_count-rename_selected_fields l k vs = ap variables_constructor_count (section_variables-rename_selected_fields l k vs) ∙ variables_constructor_count-rename_selected_fields l k (section_variables vs)
 
-pub formals_count-rename_selected_fields : (l : FieldRenaming) (k : ℕ) (fs : Tree Name (maybe formals)) → formals_constructor_count (formal_parameter_sections (rename_fields_in_formals l k fs)) ≡ formals_constructor_count (formal_parameter_sections fs)
+pub formals_count-rename_selected_fields : (l : FieldRenaming) (k : ℕ) (fs : Tree Name (maybe formals)) → formals_constructor_count (formal_parameter_sections (rename_declared_fields l no_field k fs)) ≡ formals_constructor_count (formal_parameter_sections fs)
 formals_count-rename_selected_fields l k fs = ap formals_constructor_count (formal_parameter_sections-rename_selected_fields l k fs) ∙ sections_constructors-rename_selected_fields l k (formal_parameter_sections fs)
 
 mutual
@@ -141,22 +143,22 @@ declare_constants-by l env (more (declares_constant x e) cs) =
     ∙ each-then (env_by l) (constant_expression_value (meanings naming_by_spelling env) e) (λ v. declare_constants naming_by_spelling ((x, a_constant v) ∷ env) cs) (λ v. declare_constants naming_by_spelling ((x, a_constant v) ∷ env_by l env) cs)
     (λ v. declare_constants-by l ((x, a_constant v) ∷ env) cs)
 
-pub declare_types-by : (l : FieldRenaming) (env : TypeEnvironment Name) (k : ℕ) (ds : Tree Name (items type_definition)) → declare_types naming_by_spelling (env_by l env) k (rename_fields_in_type_definitions l k ds) ≡ option_map (env_by l) (declare_types naming_by_spelling env k ds)
+pub declare_types-by : (l : FieldRenaming) (env : TypeEnvironment Name) (k : ℕ) (ds : Tree Name (items type_definition)) → declare_types naming_by_spelling (env_by l env) k (rename_declared_fields l no_field k ds) ≡ option_map (env_by l) (declare_types naming_by_spelling env k ds)
 unfolding declare_types
 declare_types-by l env k end = refl
 declare_types-by l env k (more (declares_type x u) ds) =
-    ap (λ n. option_and_then (λ s. declare_types naming_by_spelling ((x, a_type s) ∷ env_by l env) (k + n) (rename_fields_in_type_definitions l (k + constructor_count u) ds)) (denoted_type (meanings naming_by_spelling (env_by l env)) k (rename_fields_in_type l k u))) (constructor_count-rename_selected_fields l k u)
-    ∙ map-then (shape_by l) (env_by l) (denoted_type (meanings naming_by_spelling env) k u) (denoted_type (meanings naming_by_spelling (env_by l env)) k (rename_fields_in_type l k u)) (λ s. declare_types naming_by_spelling ((x, a_type s) ∷ env) (k + constructor_count u) ds)
-    (λ s. declare_types naming_by_spelling ((x, a_type s) ∷ env_by l env) (k + constructor_count u) (rename_fields_in_type_definitions l (k + constructor_count u) ds)) (denoted_type-by l env k u) (λ s. declare_types-by l ((x, a_type s) ∷ env) (k + constructor_count u) ds)
+    ap (λ n. option_and_then (λ s. declare_types naming_by_spelling ((x, a_type s) ∷ env_by l env) (k + n) (rename_declared_fields l no_field (k + constructor_count u) ds)) (denoted_type (meanings naming_by_spelling (env_by l env)) k (rename_declared_fields l no_field k u))) (constructor_count-rename_selected_fields l k u)
+    ∙ map-then (shape_by l) (env_by l) (denoted_type (meanings naming_by_spelling env) k u) (denoted_type (meanings naming_by_spelling (env_by l env)) k (rename_declared_fields l no_field k u)) (λ s. declare_types naming_by_spelling ((x, a_type s) ∷ env) (k + constructor_count u) ds)
+    (λ s. declare_types naming_by_spelling ((x, a_type s) ∷ env_by l env) (k + constructor_count u) (rename_declared_fields l no_field (k + constructor_count u) ds)) (denoted_type-by l env k u) (λ s. declare_types-by l ((x, a_type s) ∷ env) (k + constructor_count u) ds)
 
-pub declare_typed_variables-by : (l : FieldRenaming) (env : TypeEnvironment Name) (k : ℕ) (gs : Tree Name (items variable)) → declare_typed_variables naming_by_spelling k (rename_fields_in_variables l k gs) (env_by l env) ≡ option_map (env_by l) (declare_typed_variables naming_by_spelling k gs env)
+pub declare_typed_variables-by : (l : FieldRenaming) (env : TypeEnvironment Name) (k : ℕ) (gs : Tree Name (items variable)) → declare_typed_variables naming_by_spelling k (rename_declared_fields l no_field k gs) (env_by l env) ≡ option_map (env_by l) (declare_typed_variables naming_by_spelling k gs env)
 unfolding declare_typed_variables
 declare_typed_variables-by l env k end = refl
 declare_typed_variables-by l env k (more (declares_variable ns u) gs) =
-    ap (λ n. option_and_then (λ s. declare_typed_variables naming_by_spelling (k + n) (rename_fields_in_variables l (k + constructor_count u) gs) (bind_names (names_in_list ns) (a_variable s) (env_by l env))) (denoted_type (meanings naming_by_spelling (env_by l env)) k (rename_fields_in_type l k u))) (constructor_count-rename_selected_fields l k u)
-    ∙ map-then (shape_by l) (env_by l) (denoted_type (meanings naming_by_spelling env) k u) (denoted_type (meanings naming_by_spelling (env_by l env)) k (rename_fields_in_type l k u)) (λ s. declare_typed_variables naming_by_spelling (k + constructor_count u) gs (bind_names (names_in_list ns) (a_variable s) env))
-    (λ s. declare_typed_variables naming_by_spelling (k + constructor_count u) (rename_fields_in_variables l (k + constructor_count u) gs) (bind_names (names_in_list ns) (a_variable s) (env_by l env))) (denoted_type-by l env k u)
-    (λ s. ap (declare_typed_variables naming_by_spelling (k + constructor_count u) (rename_fields_in_variables l (k + constructor_count u) gs)) (bind_names-by l (names_in_list ns) (a_variable s) env) ∙ declare_typed_variables-by l (bind_names (names_in_list ns) (a_variable s) env) (k + constructor_count u) gs)
+    (λ i. option_and_then (λ s. declare_typed_variables naming_by_spelling (k + constructor_count-rename_selected_fields l k u i) (rename_declared_fields l no_field (k + constructor_count u) gs) (bind_names (names_in_list (plain_renamed l ns i)) (a_variable s) (env_by l env))) (denoted_type (meanings naming_by_spelling (env_by l env)) k (rename_declared_fields l no_field k u)))
+    ∙ map-then (shape_by l) (env_by l) (denoted_type (meanings naming_by_spelling env) k u) (denoted_type (meanings naming_by_spelling (env_by l env)) k (rename_declared_fields l no_field k u)) (λ s. declare_typed_variables naming_by_spelling (k + constructor_count u) gs (bind_names (names_in_list ns) (a_variable s) env))
+    (λ s. declare_typed_variables naming_by_spelling (k + constructor_count u) (rename_declared_fields l no_field (k + constructor_count u) gs) (bind_names (names_in_list ns) (a_variable s) (env_by l env))) (denoted_type-by l env k u)
+    (λ s. ap (declare_typed_variables naming_by_spelling (k + constructor_count u) (rename_declared_fields l no_field (k + constructor_count u) gs)) (bind_names-by l (names_in_list ns) (a_variable s) env) ∙ declare_typed_variables-by l (bind_names (names_in_list ns) (a_variable s) env) (k + constructor_count u) gs)
 
 -- If fields get other names, only these names change in the types of a heading's parameters.
 
@@ -164,20 +166,20 @@ parameters-by : (l : FieldRenaming) (m : ParameterMode) (s : Shape) (xs : List N
 parameters-by l m s [] rest = refl
 parameters-by l m s (x ∷ xs) rest = λ i. parameter_of m (shape_by l s) x ∷ parameters-by l m s xs rest i
 
-pub typed_parameters-by : (l : FieldRenaming) (env : TypeEnvironment Name) (k : ℕ) (fs : Tree Name (items section_after_semicolon)) → typed_parameters naming_by_spelling (env_by l env) k (rename_fields_in_further_parameter_sections l k fs) ≡ option_map (map (parameter_by l)) (typed_parameters naming_by_spelling env k fs)
+pub typed_parameters-by : (l : FieldRenaming) (env : TypeEnvironment Name) (k : ℕ) (fs : Tree Name (items section_after_semicolon)) → typed_parameters naming_by_spelling (env_by l env) k (rename_declared_fields l no_field k fs) ≡ option_map (map (parameter_by l)) (typed_parameters naming_by_spelling env k fs)
 unfolding typed_parameters
 typed_parameters-by l env k end = refl
 typed_parameters-by l env k (more (semicolon_then_section f) fs) =
     (λ i. option_and_then (λ s. option_and_then (λ rest. Some (map (parameter_of (parameter_section_mode-rename_selected_fields l k f i) s) (parameter_section_names-rename_selected_fields l k f i) ++ rest))
-    (typed_parameters naming_by_spelling (bind_names (parameter_section_names-rename_selected_fields l k f i) (a_variable s) (env_by l env)) (k + section_constructors-rename_selected_fields l k f i) (rename_fields_in_further_parameter_sections l (k + constructor_count (parameter_section_type f)) fs))) (denoted_type (meanings naming_by_spelling (env_by l env)) k (parameter_section_type-rename_selected_fields l k f i)))
-    ∙ map-then (shape_by l) (map (parameter_by l)) (denoted_type (meanings naming_by_spelling env) k (parameter_section_type f)) (denoted_type (meanings naming_by_spelling (env_by l env)) k (rename_fields_in_type l k (parameter_section_type f)))
+    (typed_parameters naming_by_spelling (bind_names (parameter_section_names-rename_selected_fields l k f i) (a_variable s) (env_by l env)) (k + section_constructors-rename_selected_fields l k f i) (rename_declared_fields l no_field (k + constructor_count (parameter_section_type f)) fs))) (denoted_type (meanings naming_by_spelling (env_by l env)) k (parameter_section_type-rename_selected_fields l k f i)))
+    ∙ map-then (shape_by l) (map (parameter_by l)) (denoted_type (meanings naming_by_spelling env) k (parameter_section_type f)) (denoted_type (meanings naming_by_spelling (env_by l env)) k (rename_declared_fields l no_field k (parameter_section_type f)))
     (λ s. option_and_then (λ rest. Some (map (parameter_of (parameter_section_mode f) s) (parameter_section_names f) ++ rest)) (typed_parameters naming_by_spelling (bind_names (parameter_section_names f) (a_variable s) env) (k + constructor_count (parameter_section_type f)) fs))
-    (λ s. option_and_then (λ rest. Some (map (parameter_of (parameter_section_mode f) s) (parameter_section_names f) ++ rest)) (typed_parameters naming_by_spelling (bind_names (parameter_section_names f) (a_variable s) (env_by l env)) (k + constructor_count (parameter_section_type f)) (rename_fields_in_further_parameter_sections l (k + constructor_count (parameter_section_type f)) fs)))
+    (λ s. option_and_then (λ rest. Some (map (parameter_of (parameter_section_mode f) s) (parameter_section_names f) ++ rest)) (typed_parameters naming_by_spelling (bind_names (parameter_section_names f) (a_variable s) (env_by l env)) (k + constructor_count (parameter_section_type f)) (rename_declared_fields l no_field (k + constructor_count (parameter_section_type f)) fs)))
     (denoted_type-by l env k (parameter_section_type f))
     (λ s. map-then (map (parameter_by l)) (map (parameter_by l)) (typed_parameters naming_by_spelling (bind_names (parameter_section_names f) (a_variable s) env) (k + constructor_count (parameter_section_type f)) fs)
-    (typed_parameters naming_by_spelling (bind_names (parameter_section_names f) (a_variable (shape_by l s)) (env_by l env)) (k + constructor_count (parameter_section_type f)) (rename_fields_in_further_parameter_sections l (k + constructor_count (parameter_section_type f)) fs))
+    (typed_parameters naming_by_spelling (bind_names (parameter_section_names f) (a_variable (shape_by l s)) (env_by l env)) (k + constructor_count (parameter_section_type f)) (rename_declared_fields l no_field (k + constructor_count (parameter_section_type f)) fs))
     (λ rest. Some (map (parameter_of (parameter_section_mode f) s) (parameter_section_names f) ++ rest)) (λ rest. Some (map (parameter_of (parameter_section_mode f) (shape_by l s)) (parameter_section_names f) ++ rest))
-    (ap (λ inner. typed_parameters naming_by_spelling inner (k + constructor_count (parameter_section_type f)) (rename_fields_in_further_parameter_sections l (k + constructor_count (parameter_section_type f)) fs)) (bind_names-by l (parameter_section_names f) (a_variable s) env) ∙ typed_parameters-by l (bind_names (parameter_section_names f) (a_variable s) env) (k + constructor_count (parameter_section_type f)) fs)
+    (ap (λ inner. typed_parameters naming_by_spelling inner (k + constructor_count (parameter_section_type f)) (rename_declared_fields l no_field (k + constructor_count (parameter_section_type f)) fs)) (bind_names-by l (parameter_section_names f) (a_variable s) env) ∙ typed_parameters-by l (bind_names (parameter_section_names f) (a_variable s) env) (k + constructor_count (parameter_section_type f)) fs)
     (λ rest i. Some (parameters-by l (parameter_section_mode f) s (parameter_section_names f) rest i)))
 
 -- A block is well-typed exactly if it is with its fields under other names.
@@ -189,12 +191,12 @@ body_is_well_typed-rename_selected_fields l apart env (one (begins a)) =
     (λ i. sequence_is_well_typed (named (λ x. newest_object-by l env x i)) (rename_selected_fields l (meanings naming_by_spelling env) None a)) ∙ sequence_is_well_typed-rename_selected_fields l apart (object_in env) a
 
 pub declared-by : (l : FieldRenaming) (env : TypeEnvironment Name) (k j : ℕ) (cs : Tree Name (items constant)) (ts : Tree Name (items type_definition)) (vs : Tree Name (items variable))
-    → option_and_then (declare_typed_variables naming_by_spelling j (rename_fields_in_variables l j vs)) (option_and_then (λ env. declare_types naming_by_spelling env k (rename_fields_in_type_definitions l k ts)) (declare_constants naming_by_spelling (env_by l env) cs))
+    → option_and_then (declare_typed_variables naming_by_spelling j (rename_declared_fields l no_field j vs)) (option_and_then (λ env. declare_types naming_by_spelling env k (rename_declared_fields l no_field k ts)) (declare_constants naming_by_spelling (env_by l env) cs))
     ≡ option_map (env_by l) (option_and_then (declare_typed_variables naming_by_spelling j vs) (option_and_then (λ env. declare_types naming_by_spelling env k ts) (declare_constants naming_by_spelling env cs)))
 declared-by l env k j cs ts vs =
-    map-then (env_by l) (env_by l) (option_and_then (λ env. declare_types naming_by_spelling env k ts) (declare_constants naming_by_spelling env cs)) (option_and_then (λ env. declare_types naming_by_spelling env k (rename_fields_in_type_definitions l k ts)) (declare_constants naming_by_spelling (env_by l env) cs))
-    (declare_typed_variables naming_by_spelling j vs) (declare_typed_variables naming_by_spelling j (rename_fields_in_variables l j vs))
-    (map-then (env_by l) (env_by l) (declare_constants naming_by_spelling env cs) (declare_constants naming_by_spelling (env_by l env) cs) (λ env. declare_types naming_by_spelling env k ts) (λ env. declare_types naming_by_spelling env k (rename_fields_in_type_definitions l k ts)) (declare_constants-by l env cs) (λ env. declare_types-by l env k ts))
+    map-then (env_by l) (env_by l) (option_and_then (λ env. declare_types naming_by_spelling env k ts) (declare_constants naming_by_spelling env cs)) (option_and_then (λ env. declare_types naming_by_spelling env k (rename_declared_fields l no_field k ts)) (declare_constants naming_by_spelling (env_by l env) cs))
+    (declare_typed_variables naming_by_spelling j vs) (declare_typed_variables naming_by_spelling j (rename_declared_fields l no_field j vs))
+    (map-then (env_by l) (env_by l) (declare_constants naming_by_spelling env cs) (declare_constants naming_by_spelling (env_by l env) cs) (λ env. declare_types naming_by_spelling env k ts) (λ env. declare_types naming_by_spelling env k (rename_declared_fields l no_field k ts)) (declare_constants-by l env cs) (λ env. declare_types-by l env k ts))
     (λ env. declare_typed_variables-by l env j vs)
 
 mutual
@@ -204,7 +206,7 @@ mutual
   block_is_well_typed-rename_selected_fields l apart env k (forms_block (declares cs ts vs ps) statements) =
       let b : Tree Name block = forms_block (declares cs ts vs ps) statements in
       let o : Option (TypeEnvironment Name) = option_and_then (declare_typed_variables naming_by_spelling (constructor_count_before_variables k b) (section_variables vs)) (declare_constants_and_types naming_by_spelling env k b) in
-      (λ i. option_satisfies (option_and_then (declare_typed_variables naming_by_spelling (k + types_count-rename_selected_fields l k ts i) (section_variables-rename_selected_fields l (constructor_count_before_variables k b) vs i)) (option_and_then (λ env. declare_types naming_by_spelling env k (section_types-rename_selected_fields l k ts i)) (declare_constants naming_by_spelling (env_by l env) (section_constants cs))))
+      (λ i. option_satisfies (option_and_then (declare_typed_variables naming_by_spelling (k + types_count-rename_selected_fields l k ts i) (section_variables-rename_selected_fields l (constructor_count_before_variables k b) vs i)) (option_and_then (λ env. declare_types naming_by_spelling env k (section_types-rename_selected_fields l k ts i)) (declare_constants naming_by_spelling (env_by l env) (section_constants (plain_renamed l cs i)))))
       (λ inner. procedures_and_body_are_well_typed naming_by_spelling inner (k + types_count-rename_selected_fields l k ts i + variables_count-rename_selected_fields l (constructor_count_before_variables k b) vs i) (rename_selected_fields l (meanings naming_by_spelling (environment_after_procedures (environment_after_variables env k b) (constructor_count_before_procedures k b) ps)) None statements) (rename_fields_in_procedure_list l (environment_after_variables env k b) (constructor_count_before_procedures k b) ps)))
       ∙ (ap (λ o. option_satisfies o (λ inner. procedures_and_body_are_well_typed naming_by_spelling inner (constructor_count_before_procedures k b) (rename_selected_fields l (meanings naming_by_spelling (environment_after_procedures (environment_after_variables env k b) (constructor_count_before_procedures k b) ps)) None statements) (rename_fields_in_procedure_list l (environment_after_variables env k b) (constructor_count_before_procedures k b) ps)))
       (declared-by l env k (constructor_count_before_variables k b) (section_constants cs) (section_types ts) (section_variables vs))

@@ -11,13 +11,14 @@ use Rattle.ob0_language_types.specs.WellTyped.{TypeEnvironment, TypeMeanings, pa
 use Rattle.ob0_language_values.specs.Values.{Stuck, boolean_shape, integer_shape}
 use Rattle.ob0_language_runs.specs.Runs.{RunEnvironment, CallFunction, Frame, Progress, State, execute_newest_procedure, bind_parameters, call_keeping_variables, declare_block_in_frame, execute_sequence, execute_body, run_result, continue_in_frame, formal_parameters_in_sections, run_with_naming, running, stopped}
 use Rattle.ob0_language_runs.proofs.SoundCalls.{fitting-run}
-use Rattle.ob0_language_fields.specs.RenamedFields.{FieldRenaming, environment_after_procedures, environment_after_variables, rename_selected_fields, rename_fields_in_block, rename_fields_in_module}
 use Rattle.ob0_language_field_laws.specs.FieldLaws.{KeepsFieldsDistinct}
 use Rattle.ob0_language_field_laws.proofs.FieldRenamedActivations.{FramesBoth, Scene, Stage, bind_parameters-both, both-then, declare_block_in_frame-both, env_as, frame_by, suffix_from_newest_binding-as, meanings-as, parameters-rename_selected_fields, scene_from, things_in}
 use Rattle.ob0_language_field_laws.proofs.FieldRenamedExecution.{Alike, CallsAlike, Given, Goes, argument_by, execute_sequence-alike, state_by}
 use Rattle.ob0_language_field_laws.proofs.FieldRenamedExpressions.{constant_thing, logical, procedure_thing, standard_thing, type_thing}
 use Rattle.ob0_language_field_laws.proofs.FieldRenamedModules.{formal_parameter_sections-rename_selected_fields, formals_count-rename_selected_fields, field_renaming_keeps_type_check-holds}
 use Rattle.ob0_language_field_laws.proofs.Values.{store_by, tagged, tagged-apart}
+use Rattle.ob0_language_fields.specs.MarkedFields.{environment_after_procedures, environment_after_variables}
+use Rattle.ob0_language_fields.specs.RenamedFields.{FieldRenaming, rename_fields_in_block, rename_fields_in_module, rename_selected_fields}
 
 -- returns the checked meanings of names for a block's statements
 abbrev pub body_meaning : TypeEnvironment Name → ℕ → Tree Name block → TypeMeanings Name

@@ -8,11 +8,11 @@ use Rattle.ob0_language_types.specs.Expressions.{Object, a_constant, a_procedure
 use Rattle.ob0_language_types.specs.Typing.{lone_designator, type_of_variable_or_constant, type_after_selectors, type_of_expression}
 use Rattle.ob0_language_types.specs.WellTyped.{FormalParameter, ParameterMode, Signature, TypeMeanings, same_known_shape, argument_matches_parameter, arguments_match_signature, by_place, by_value, call_is_well_typed, condition_is_boolean, else_is_well_typed, elsifs_are_well_typed, sequence_is_well_typed, signature_of, statement_is_well_typed, further_statements_are_well_typed, assignable_type}
 use Rattle.ob0_language_values.specs.Values.{Shape, boolean_shape}
-use Rattle.ob0_language_fields.specs.RenamedFields.{FieldRenaming, rename_selected_fields}
 use Rattle.ob0_language_fields.proofs.MeaningsByName.{named}
 use Rattle.ob0_language_field_laws.specs.FieldLaws.{KeepsFieldsDistinct}
 use Rattle.ob0_language_field_laws.proofs.Apart.{same_known_shape-by, formal_by, named_by, object_by, shape_by, signature_of-by}
 use Rattle.ob0_language_field_laws.proofs.FieldRenamedTypes.{type_after_selectors-rename_selected_fields, type_of_expression-rename_selected_fields}
+use Rattle.ob0_language_fields.specs.RenamedFields.{FieldRenaming, rename_selected_fields}
 
 abbrev pub refield_designator : FieldRenaming → TypeMeanings Name → Name × Tree Name (items selector) → Name × Tree Name (items selector)
 refield_designator l meaning d = (d.0, rename_selected_fields l meaning (type_of_variable_or_constant (meaning.object_for d.0)) d.1)

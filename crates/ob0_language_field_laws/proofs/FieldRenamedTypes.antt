@@ -3,7 +3,6 @@
 -- equation.
 use Rattle.std.proofs.Common.{◌≡◌, ℕ, suc, ◌+◌, ◌∷◌, map, Some, None, Option, option_map, option_and_then, refl, ap, ◌∙◌, sym}
 use Rattle.ob0_tree.specs.Tree.{Tree, addend, adds, array_type, compares, designator, end, expression, factor, field, fields, fields_after_semicolon, name_after_comma, index, integer, items, listed, more, multiplier, multiplies, named_type, names, negation, no_fields, none, one, parenthesised, product, record_type, relates, selector, simple, some_fields, sum, term, semicolon_then_fields, comma_then_name, written_type}
-use Rattle.ob0_language_names.specs.MappedNames.{map_names}
 use Rattle.ob0_language_names.specs.Names.{Name}
 use Rattle.ob0_language_names.specs.BlockParts.{names_after_first, names_in_list}
 use Rattle.ob0_language_names.proofs.SameNames.{map_names-id}
@@ -12,10 +11,12 @@ use Rattle.ob0_language_types.specs.Typing.{addition_type, array_length_from_val
 use Rattle.ob0_language_types.specs.WellTyped.{Signature}
 use Rattle.ob0_language_types.proofs.TypeNaturality.{constant_expression_value-map}
 use Rattle.ob0_language_values.specs.Values.{FieldShapes, Shape, array_shape, integer_shape, record_shape}
-use Rattle.ob0_language_fields.specs.RenamedFields.{FieldRenaming, rename_selected_fields, rename_fields_in_group, rename_fields_in_further_groups, rename_fields_in_type}
 use Rattle.ob0_language_fields.proofs.MeaningsByName.{named}
 use Rattle.ob0_language_field_laws.specs.FieldLaws.{KeepsFieldsDistinct}
 use Rattle.ob0_language_field_laws.proofs.Apart.{addition_type-by, negation_type-by, each-then, field_type-by, fields_by, map-then, multiplication_type-by, named_by, type_of_variable_or_constant-by, relation_type-by, shape_by, signed_operand_type-by, prepend_fields-by, type_if_within_limits-by}
+use Rattle.ob0_language_fields.specs.MarkedFields.{declares_field, mark_all_names, no_field}
+use Rattle.ob0_language_fields.specs.RenamedFields.{FieldRenaming, rename_declared_fields, rename_marked_fields, rename_selected_fields}
+use Rattle.ob0_language_fields.proofs.MarkedNames.{plain_renamed}
 
 -- If fields get other names, only these names change in the type of an array's element.
 index-step : (l : FieldRenaming) (s i : Shape) (at_there : Shape → Option Shape → Option Shape) (at_here : Shape → Option Shape) → ((u : Shape) → at_there (shape_by l u) (Some u) ≡ option_map (shape_by l) (at_here u))
@@ -75,25 +76,25 @@ mutual
 -- A type's text with its fields under other names denotes the same type with these names.
 
 mutual
-  pub constructor_count-rename_selected_fields : (l : FieldRenaming) (k : ℕ) (t : Tree Name written_type) → constructor_count (rename_fields_in_type l k t) ≡ constructor_count t
+  pub constructor_count-rename_selected_fields : (l : FieldRenaming) (k : ℕ) (t : Tree Name written_type) → constructor_count (rename_declared_fields l no_field k t) ≡ constructor_count t
   constructor_count-rename_selected_fields l k (named_type x) = refl
   constructor_count-rename_selected_fields l k (array_type e t) = λ i. suc (constructor_count-rename_selected_fields l (suc k) t i)
   constructor_count-rename_selected_fields l k (record_type g rest) = λ i. suc (group_constructor_count-rename_selected_fields l k (suc k) g i + later_groups_constructor_count-rename_selected_fields l k (suc k + group_constructor_count g) rest i)
 
-  pub group_constructor_count-rename_selected_fields : (l : FieldRenaming) (r k : ℕ) (g : Tree Name fields) → group_constructor_count (rename_fields_in_group l r k g) ≡ group_constructor_count g
+  pub group_constructor_count-rename_selected_fields : (l : FieldRenaming) (r k : ℕ) (g : Tree Name fields) → group_constructor_count (rename_declared_fields l (declares_field r) k g) ≡ group_constructor_count g
   group_constructor_count-rename_selected_fields l r k no_fields = refl
   group_constructor_count-rename_selected_fields l r k (some_fields ns t) = constructor_count-rename_selected_fields l k t
 
-  pub later_groups_constructor_count-rename_selected_fields : (l : FieldRenaming) (r k : ℕ) (gs : Tree Name (items fields_after_semicolon)) → later_groups_constructor_count (rename_fields_in_further_groups l r k gs) ≡ later_groups_constructor_count gs
+  pub later_groups_constructor_count-rename_selected_fields : (l : FieldRenaming) (r k : ℕ) (gs : Tree Name (items fields_after_semicolon)) → later_groups_constructor_count (rename_declared_fields l (declares_field r) k gs) ≡ later_groups_constructor_count gs
   later_groups_constructor_count-rename_selected_fields l r k end = refl
   later_groups_constructor_count-rename_selected_fields l r k (more (semicolon_then_fields g) rest) = λ i. group_constructor_count-rename_selected_fields l r k g i + later_groups_constructor_count-rename_selected_fields l r (k + group_constructor_count g) rest i
 
-pub further-rename_selected_fields : (h : Name → Name) (xs : Tree Name (items name_after_comma)) → map (λ x. x) (names_after_first (map_names (λ x. x) h xs)) ≡ map h (map (λ x. x) (names_after_first xs))
-further-rename_selected_fields h end = refl
-further-rename_selected_fields h (more (comma_then_name x) xs) = λ i. h x ∷ further-rename_selected_fields h xs i
+pub further-rename_selected_fields : (l : FieldRenaming) (r : ℕ) (xs : Tree Name (items name_after_comma)) → map (λ x. x) (names_after_first (rename_marked_fields l (mark_all_names (declares_field r) xs))) ≡ map (l (Some r)) (map (λ x. x) (names_after_first xs))
+further-rename_selected_fields l r end = refl
+further-rename_selected_fields l r (more (comma_then_name x) xs) = λ i. l (Some r) x ∷ further-rename_selected_fields l r xs i
 
-pub names-rename_selected_fields : (h : Name → Name) (ns : Tree Name names) → map (λ x. x) (names_in_list (map_names (λ x. x) h ns)) ≡ map h (map (λ x. x) (names_in_list ns))
-names-rename_selected_fields h (listed x xs) = λ i. h x ∷ further-rename_selected_fields h xs i
+pub names-rename_selected_fields : (l : FieldRenaming) (r : ℕ) (ns : Tree Name names) → map (λ x. x) (names_in_list (rename_marked_fields l (mark_all_names (declares_field r) ns))) ≡ map (l (Some r)) (map (λ x. x) (names_in_list ns))
+names-rename_selected_fields l r (listed x xs) = λ i. l (Some r) x ∷ further-rename_selected_fields l r xs i
 
 -- Two constant expressions have the same value if their names mean the same constants.
 pub constant_expression_value-alike : {V P W Q : Type 0} (there : Name → Option (Object V P)) (here : Name → Option (Object W Q)) → ((x : Name) → value_of_constant_object (there x) ≡ value_of_constant_object (here x)) → (e : Tree Name expression)
@@ -106,37 +107,37 @@ mutual
 
   pub denoted_type-rename_selected_fields : {V P W Q : Type 0} (l : FieldRenaming) (there : Name → Option (Object V P)) (here : Name → Option (Object W Q))
       → ((x : Name) → value_of_constant_object (there x) ≡ value_of_constant_object (here x)) → ((x : Name) → type_of_type_object (there x) ≡ option_map (shape_by l) (type_of_type_object (here x)))
-      → (k : ℕ) (t : Tree Name written_type) → denoted_type (named there) k (rename_fields_in_type l k t) ≡ option_map (shape_by l) (denoted_type (named here) k t)
+      → (k : ℕ) (t : Tree Name written_type) → denoted_type (named there) k (rename_declared_fields l no_field k t) ≡ option_map (shape_by l) (denoted_type (named here) k t)
   denoted_type-rename_selected_fields l there here hc ht k (named_type x) = ht x
   denoted_type-rename_selected_fields l there here hc ht k (array_type e t) =
-      ap (option_and_then (λ v. option_and_then (λ n. option_and_then (λ s. type_if_within_limits (array_shape k n s)) (denoted_type (named there) (suc k) (rename_fields_in_type l (suc k) t))) (array_length_from_value v))) (constant_expression_value-alike there here hc e)
+      ap (option_and_then (λ v. option_and_then (λ n. option_and_then (λ s. type_if_within_limits (array_shape k n s)) (denoted_type (named there) (suc k) (rename_declared_fields l no_field (suc k) t))) (array_length_from_value v))) (ap (constant_expression_value (named there)) (plain_renamed l e) ∙ constant_expression_value-alike there here hc e)
       ∙ each-then (shape_by l) (constant_expression_value (named here) e) (λ v. option_and_then (λ n. option_and_then (λ s. type_if_within_limits (array_shape k n s)) (denoted_type (named here) (suc k) t)) (array_length_from_value v))
-      (λ v. option_and_then (λ n. option_and_then (λ s. type_if_within_limits (array_shape k n s)) (denoted_type (named there) (suc k) (rename_fields_in_type l (suc k) t))) (array_length_from_value v))
-      (λ v. each-then (shape_by l) (array_length_from_value v) (λ n. option_and_then (λ s. type_if_within_limits (array_shape k n s)) (denoted_type (named here) (suc k) t)) (λ n. option_and_then (λ s. type_if_within_limits (array_shape k n s)) (denoted_type (named there) (suc k) (rename_fields_in_type l (suc k) t)))
-      (λ n. map-then (shape_by l) (shape_by l) (denoted_type (named here) (suc k) t) (denoted_type (named there) (suc k) (rename_fields_in_type l (suc k) t)) (λ s. type_if_within_limits (array_shape k n s)) (λ s. type_if_within_limits (array_shape k n s)) (denoted_type-rename_selected_fields l there here hc ht (suc k) t) (λ s. type_if_within_limits-by l (array_shape k n s))))
+      (λ v. option_and_then (λ n. option_and_then (λ s. type_if_within_limits (array_shape k n s)) (denoted_type (named there) (suc k) (rename_declared_fields l no_field (suc k) t))) (array_length_from_value v))
+      (λ v. each-then (shape_by l) (array_length_from_value v) (λ n. option_and_then (λ s. type_if_within_limits (array_shape k n s)) (denoted_type (named here) (suc k) t)) (λ n. option_and_then (λ s. type_if_within_limits (array_shape k n s)) (denoted_type (named there) (suc k) (rename_declared_fields l no_field (suc k) t)))
+      (λ n. map-then (shape_by l) (shape_by l) (denoted_type (named here) (suc k) t) (denoted_type (named there) (suc k) (rename_declared_fields l no_field (suc k) t)) (λ s. type_if_within_limits (array_shape k n s)) (λ s. type_if_within_limits (array_shape k n s)) (denoted_type-rename_selected_fields l there here hc ht (suc k) t) (λ s. type_if_within_limits-by l (array_shape k n s))))
   denoted_type-rename_selected_fields l there here hc ht k (record_type g rest) =
-      ap (λ n. option_and_then (λ later. option_and_then (λ fs. type_if_within_limits (record_shape k fs)) (denoted_group_fields (named there) (suc k) later (rename_fields_in_group l k (suc k) g))) (denoted_further_fields (named there) (suc k + n) (rename_fields_in_further_groups l k (suc k + group_constructor_count g) rest))) (group_constructor_count-rename_selected_fields l k (suc k) g)
-      ∙ map-then (fields_by l k) (shape_by l) (denoted_further_fields (named here) (suc k + group_constructor_count g) rest) (denoted_further_fields (named there) (suc k + group_constructor_count g) (rename_fields_in_further_groups l k (suc k + group_constructor_count g) rest))
-      (λ later. option_and_then (λ fs. type_if_within_limits (record_shape k fs)) (denoted_group_fields (named here) (suc k) later g)) (λ later. option_and_then (λ fs. type_if_within_limits (record_shape k fs)) (denoted_group_fields (named there) (suc k) later (rename_fields_in_group l k (suc k) g)))
+      ap (λ n. option_and_then (λ later. option_and_then (λ fs. type_if_within_limits (record_shape k fs)) (denoted_group_fields (named there) (suc k) later (rename_declared_fields l (declares_field k) (suc k) g))) (denoted_further_fields (named there) (suc k + n) (rename_declared_fields l (declares_field k) (suc k + group_constructor_count g) rest))) (group_constructor_count-rename_selected_fields l k (suc k) g)
+      ∙ map-then (fields_by l k) (shape_by l) (denoted_further_fields (named here) (suc k + group_constructor_count g) rest) (denoted_further_fields (named there) (suc k + group_constructor_count g) (rename_declared_fields l (declares_field k) (suc k + group_constructor_count g) rest))
+      (λ later. option_and_then (λ fs. type_if_within_limits (record_shape k fs)) (denoted_group_fields (named here) (suc k) later g)) (λ later. option_and_then (λ fs. type_if_within_limits (record_shape k fs)) (denoted_group_fields (named there) (suc k) later (rename_declared_fields l (declares_field k) (suc k) g)))
       (denoted_further_fields-rename_selected_fields l there here hc ht k (suc k + group_constructor_count g) rest)
-      (λ later. map-then (fields_by l k) (shape_by l) (denoted_group_fields (named here) (suc k) later g) (denoted_group_fields (named there) (suc k) (fields_by l k later) (rename_fields_in_group l k (suc k) g)) (λ fs. type_if_within_limits (record_shape k fs)) (λ fs. type_if_within_limits (record_shape k fs))
+      (λ later. map-then (fields_by l k) (shape_by l) (denoted_group_fields (named here) (suc k) later g) (denoted_group_fields (named there) (suc k) (fields_by l k later) (rename_declared_fields l (declares_field k) (suc k) g)) (λ fs. type_if_within_limits (record_shape k fs)) (λ fs. type_if_within_limits (record_shape k fs))
       (denoted_group_fields-rename_selected_fields l there here hc ht k (suc k) later g) (λ fs. type_if_within_limits-by l (record_shape k fs)))
 
   pub denoted_group_fields-rename_selected_fields : {V P W Q : Type 0} (l : FieldRenaming) (there : Name → Option (Object V P)) (here : Name → Option (Object W Q))
       → ((x : Name) → value_of_constant_object (there x) ≡ value_of_constant_object (here x)) → ((x : Name) → type_of_type_object (there x) ≡ option_map (shape_by l) (type_of_type_object (here x)))
-      → (r k : ℕ) (later : FieldShapes) (g : Tree Name fields) → denoted_group_fields (named there) k (fields_by l r later) (rename_fields_in_group l r k g) ≡ option_map (fields_by l r) (denoted_group_fields (named here) k later g)
+      → (r k : ℕ) (later : FieldShapes) (g : Tree Name fields) → denoted_group_fields (named there) k (fields_by l r later) (rename_declared_fields l (declares_field r) k g) ≡ option_map (fields_by l r) (denoted_group_fields (named here) k later g)
   denoted_group_fields-rename_selected_fields l there here hc ht r k later no_fields = refl
   denoted_group_fields-rename_selected_fields l there here hc ht r k later (some_fields ns t) =
-      map-then (shape_by l) (fields_by l r) (denoted_type (named here) k t) (denoted_type (named there) k (rename_fields_in_type l k t)) (λ s. Some (prepend_fields (map (λ x. x) (names_in_list ns)) s later))
-      (λ s. Some (prepend_fields (map (λ x. x) (names_in_list (map_names (λ x. x) (l (Some r)) ns))) s (fields_by l r later))) (denoted_type-rename_selected_fields l there here hc ht k t)
-      (λ s i. Some (((λ j. prepend_fields (names-rename_selected_fields (l (Some r)) ns j) (shape_by l s) (fields_by l r later)) ∙ prepend_fields-by l r (map (λ x. x) (names_in_list ns)) s later) i))
+      map-then (shape_by l) (fields_by l r) (denoted_type (named here) k t) (denoted_type (named there) k (rename_declared_fields l no_field k t)) (λ s. Some (prepend_fields (map (λ x. x) (names_in_list ns)) s later))
+      (λ s. Some (prepend_fields (map (λ x. x) (names_in_list (rename_marked_fields l (mark_all_names (declares_field r) ns)))) s (fields_by l r later))) (denoted_type-rename_selected_fields l there here hc ht k t)
+      (λ s i. Some (((λ j. prepend_fields (names-rename_selected_fields l r ns j) (shape_by l s) (fields_by l r later)) ∙ prepend_fields-by l r (map (λ x. x) (names_in_list ns)) s later) i))
 
   pub denoted_further_fields-rename_selected_fields : {V P W Q : Type 0} (l : FieldRenaming) (there : Name → Option (Object V P)) (here : Name → Option (Object W Q))
       → ((x : Name) → value_of_constant_object (there x) ≡ value_of_constant_object (here x)) → ((x : Name) → type_of_type_object (there x) ≡ option_map (shape_by l) (type_of_type_object (here x)))
-      → (r k : ℕ) (gs : Tree Name (items fields_after_semicolon)) → denoted_further_fields (named there) k (rename_fields_in_further_groups l r k gs) ≡ option_map (fields_by l r) (denoted_further_fields (named here) k gs)
+      → (r k : ℕ) (gs : Tree Name (items fields_after_semicolon)) → denoted_further_fields (named there) k (rename_declared_fields l (declares_field r) k gs) ≡ option_map (fields_by l r) (denoted_further_fields (named here) k gs)
   denoted_further_fields-rename_selected_fields l there here hc ht r k end = refl
   denoted_further_fields-rename_selected_fields l there here hc ht r k (more (semicolon_then_fields g) rest) =
-      ap (λ n. option_and_then (λ later. denoted_group_fields (named there) k later (rename_fields_in_group l r k g)) (denoted_further_fields (named there) (k + n) (rename_fields_in_further_groups l r (k + group_constructor_count g) rest))) (group_constructor_count-rename_selected_fields l r k g)
-      ∙ map-then (fields_by l r) (fields_by l r) (denoted_further_fields (named here) (k + group_constructor_count g) rest) (denoted_further_fields (named there) (k + group_constructor_count g) (rename_fields_in_further_groups l r (k + group_constructor_count g) rest))
-      (λ later. denoted_group_fields (named here) k later g) (λ later. denoted_group_fields (named there) k later (rename_fields_in_group l r k g)) (denoted_further_fields-rename_selected_fields l there here hc ht r (k + group_constructor_count g) rest)
+      ap (λ n. option_and_then (λ later. denoted_group_fields (named there) k later (rename_declared_fields l (declares_field r) k g)) (denoted_further_fields (named there) (k + n) (rename_declared_fields l (declares_field r) (k + group_constructor_count g) rest))) (group_constructor_count-rename_selected_fields l r k g)
+      ∙ map-then (fields_by l r) (fields_by l r) (denoted_further_fields (named here) (k + group_constructor_count g) rest) (denoted_further_fields (named there) (k + group_constructor_count g) (rename_declared_fields l (declares_field r) (k + group_constructor_count g) rest))
+      (λ later. denoted_group_fields (named here) k later g) (λ later. denoted_group_fields (named there) k later (rename_declared_fields l (declares_field r) k g)) (denoted_further_fields-rename_selected_fields l there here hc ht r (k + group_constructor_count g) rest)
       (λ later. denoted_group_fields-rename_selected_fields l there here hc ht r k later g)

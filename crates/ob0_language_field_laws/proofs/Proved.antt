@@ -7,7 +7,7 @@ use Rattle.ob0_language_field_laws.specs.FieldLaws.{KeepsFieldsDistinct, FieldRe
 use Rattle.ob0_language_field_laws.proofs.FieldRenamedModules.{field_renaming_keeps_type_check-holds}
 use Rattle.ob0_language_field_laws.proofs.FieldRenamedOnce.{has_consistent_names-rename_selected_fields}
 use Rattle.ob0_language_field_laws.proofs.FieldRenamedRuns.{run-tagged}
-use Rattle.ob0_language_fields.proofs.Bare.{bare, rename_fields_in_module-bare}
+use Rattle.ob0_language_fields.proofs.MarkedNames.{bare, rename_fields_in_module-bare}
 
 bare-apart : KeepsFieldsDistinct bare
 bare-apart k x y = refl

@@ -12,10 +12,10 @@ use Rattle.std.proofs.lemmas.Bool.{eqb-true}
 use Rattle.std.proofs.lemmas.Option.{slice_get-map}
 use Rattle.ob0_language_names.specs.Names.{Name, same_name}
 use Rattle.ob0_language_values.specs.Values.{Members, Place, PathStep, Store, Value, Values, at_field, at_index, value_at_path, value_count, elements, members, named_member, next_member, next_value, no_member, no_value, nth_value, number, value_at_step, read_place, truth, with_value_at_path, with_named_member, with_nth_value, with_value_at_step, write_place}
-use Rattle.ob0_language_fields.specs.RenamedFields.{FieldRenaming}
-use Rattle.ob0_language_fields.proofs.Bare.{bare}
 use Rattle.ob0_language_field_laws.specs.FieldLaws.{KeepsFieldsDistinct}
 use Rattle.ob0_language_field_laws.proofs.Apart.{choose_by_truth-map}
+use Rattle.ob0_language_fields.specs.RenamedFields.{FieldRenaming}
+use Rattle.ob0_language_fields.proofs.MarkedNames.{bare}
 
 -- puts the ordinal of its record before a field's name, so that fields of different records never share a name
 abbrev pub tagged : FieldRenaming

@@ -1,5 +1,4 @@
-pub mod AgreeingFields
-pub mod AgreeingModules
-pub mod Bare
+pub mod MarkedNames
+pub mod KnownFields
 pub mod MeaningsByName
 pub mod WorkedFields

@@ -7,7 +7,7 @@ use Rattle.ob0_language_names.proofs.WorkedTrees as worked
 use Rattle.ob0_language_names.proofs.WorkedTrees.{alone}
 use Rattle.ob0_language_types.specs.Declarations.{declare_constants_and_types}
 use Rattle.ob0_language_types.specs.WellTyped.{declare_typed_variables, typed_parameters}
-use Rattle.ob0_language_fields.specs.SingleFieldRenaming.{IsFreeFieldName, module_with_renamed_field, is_duplicate_field_name, records_in_module}
+use Rattle.ob0_language_fields.specs.SingleFieldRenaming.{IsFreeFieldName, declared_field_names, is_duplicate_field_name, module_with_renamed_field}
 
 -- TYPE R = RECORD a, b: INTEGER END; VAR r: R; s: RECORD a: INTEGER END; a: INTEGER; BEGIN r.a :=
 -- 1; s.a := 2; a := r.a + s.a; Write(a) END M.
@@ -20,8 +20,11 @@ pub first_record-renamed : module_with_renamed_field worked.records 0 (codes "a"
 unfolding declare_constants_and_types declare_typed_variables typed_parameters
 first_record-renamed = refl
 
-pub records-of_two : records_in_module worked.records ≡ record { ordinal = 0; declared = codes "a" ∷ codes "b" ∷ [] } ∷ record { ordinal = 1; declared = codes "a" ∷ [] } ∷ []
-records-of_two = refl
+pub fields-of_first : declared_field_names worked.records 0 ≡ codes "a" ∷ codes "b" ∷ []
+fields-of_first = refl
+
+pub fields-of_second : declared_field_names worked.records 1 ≡ codes "a" ∷ []
+fields-of_second = refl
 
 -- The field a of the first record can be renamed to c, to r and to a itself, and the field a of the second record to b.
 pub to_c-free : IsFreeFieldName worked.records 0 (codes "a") (codes "c")

@@ -1,2 +1,3 @@
+pub mod MarkedFields
 pub mod RenamedFields
 pub mod SingleFieldRenaming

@@ -2,6 +2,8 @@
 -- declarations. The identifiers of a module ascend, so the parts before and after have no field at that token.
 use Rattle.std.proofs.Common.{◌≡◌, ℕ, ◌+◌, ◌==◌, ◌<◌, ◌≤◌, Bool, true, false, nat_lt, if◌then◌else◌, List, [], ◌∷◌, ◌++◌, length, Option, Some, None, refl, sym, ap, ◌∙◌, subst, arith, append_assoc, eqb-true, ⊎_elim, ltb-true, ltb-false}
 use Rattle.std.proofs.lemmas.Bool.{cases_lt}
+use Rattle.ob0_tree.specs.declared.tree.Role.{Role}
+use Rattle.ob0_tree.specs.declared.tree.Role.TheVariants as role
 use Rattle.ob0_tree.specs.IdentifierIndexes.{AreAscendingWithin}
 use Rattle.ob0_tree.specs.ParsedModule.{TreeMatchesText, named_tree_of, tree_of}
 use Rattle.ob0_tree.specs.Tree.{Tree, block, body, declares, declares_procedure, end, forms_block, forms_module, item, items, maybe, module_text, more, procedure}
@@ -15,14 +17,14 @@ use Rattle.ob0_language_values.specs.Values.{Shape}
 use Rattle.ob0_scope_table.specs.Resolution.{Resolution}
 use Rattle.ob0_scope_table.specs.SpellingChangesInOneBody.{closing_name}
 use Rattle.ob0_types_fields.specs.declared.field_identifier.FieldIdentifier.{FieldIdentifier}
-use Rattle.ob0_types_fields.specs.FieldIdentifiers.{declared_fields, field_at_token, field_identifiers, fields_declared_in_block, fields_declared_in_procedure, fields_declared_in_procedures}
-use Rattle.ob0_types_fields.specs.IdentifierOwners.{fields_in_parameter_sections, fields_in_tree, fields_in_types, fields_in_variables, fields_with_owners, identifier_owners_in_block, identifier_owners_in_formals, identifier_owners_in_module, identifier_owners_in_procedure, identifier_owners_in_procedures, identifier_owners_in_tree, identifier_owners_in_type_section, identifier_owners_in_variable_section, identifiers_without_owners, meanings_by_token}
-use Rattle.ob0_types_fields.proofs.OwnedTokens.{module-tokens, tokens}
-use Rattle.ob0_types_fields.proofs.WalkFindsAllFields.{among-append, fields_in_tree-fields, formals-fields, plain-fields, type_section-fields, variable_section-fields}
 use Rattle.ob0_types.specs.OneBody.{body_with_token_in_block, body_with_token_in_procedure, body_with_token_in_procedures}
+use Rattle.ob0_types_fields.specs.IdentifierOwners.{fields_in_parameter_sections, fields_in_tree, fields_in_types, fields_in_variables, fields_with_owners, meanings_by_token}
+use Rattle.ob0_types_fields.specs.FieldIdentifiers.{declared_fields, field_at_token, field_identifiers, fields_declared_in_block, fields_declared_in_procedure, fields_declared_in_procedures}
+use Rattle.ob0_types_fields.proofs.OwnersByToken.{module-tokens, tokens}
+use Rattle.ob0_types_fields.proofs.WalkedFields.{among-append, declared_in, fields_in_tree-fields, formals-fields, owned_block, owned_module, owned_procedure, owned_procedures, plain, plain-fields, type_section-fields, used_in, variable_section-fields}
 
 abbrev Owned : Type 0
-Owned = List (ℕ × Option ℕ)
+Owned = List (Role × (ℕ × Option ℕ))
 
 -- ---- the first field that is found
 
@@ -69,8 +71,8 @@ module _ (t : ℕ) where
 
   -- ---- no field at the token
 
-  elsewhere : (x k : ℕ) (xs : Owned) → (x ≡ t → ⊥) → at_owned xs ≡ None → at_owned ((x, Some k) ∷ xs) ≡ None
-  elsewhere x k xs other later = one (x == t) refl
+  elsewhere : (r : Role) (x k : ℕ) (xs : Owned) → (x ≡ t → ⊥) → at_owned xs ≡ None → at_owned ((r, (x, Some k)) ∷ xs) ≡ None
+  elsewhere r x k xs other later = one (x == t) refl
     where
       one : (b : Bool) → (x == t) ≡ b → (if b then Some (record { token = x; owner = k }) else at_owned xs) ≡ None
       one true e = absurd (other (eqb-true x t e))
@@ -78,14 +80,14 @@ module _ (t : ℕ) where
 
   none_above : (low high : ℕ) (xs : Owned) → AreAscendingWithin low (tokens xs) high → t < low → at_owned xs ≡ None
   none_above low high [] h less = refl
-  none_above low high ((x, None) ∷ xs) h less = none_above (x + 1) high xs h.1 (omega (arith, h.0, less))
-  none_above low high ((x, Some k) ∷ xs) h less = elsewhere x k xs (λ e. omega (arith, e, h.0, less)) (none_above (x + 1) high xs h.1 (omega (arith, h.0, less)))
+  none_above low high ((_, (x, None)) ∷ xs) h less = none_above (x + 1) high xs h.1 (omega (arith, h.0, less))
+  none_above low high ((r, (x, Some k)) ∷ xs) h less = elsewhere r x k xs (λ e. omega (arith, e, h.0, less)) (none_above (x + 1) high xs h.1 (omega (arith, h.0, less)))
 
   none_below : (low high : ℕ) (xs : Owned) → AreAscendingWithin low (tokens xs) high → high ≤ t → at_owned xs ≡ None
   none_below low high [] h past = refl
-  none_below low high ((x, None) ∷ xs) h past = none_below (x + 1) high xs h.1 past
-  none_below low high ((x, Some k) ∷ xs) h past =
-      let top = ascending_bounds (x + 1) (tokens xs) high h.1 in elsewhere x k xs (λ e. omega (arith, e, top, past)) (none_below (x + 1) high xs h.1 past)
+  none_below low high ((_, (x, None)) ∷ xs) h past = none_below (x + 1) high xs h.1 past
+  none_below low high ((r, (x, Some k)) ∷ xs) h past =
+      let top = ascending_bounds (x + 1) (tokens xs) high h.1 in elsewhere r x k xs (λ e. omega (arith, e, top, past)) (none_below (x + 1) high xs h.1 past)
 
   -- If a later identifier is found, no earlier one is.
   none_before : (low middle high : ℕ) (xs ys : Owned) → AreAscendingWithin low (tokens xs) middle → AreAscendingWithin middle (tokens ys) high → (x : FieldIdentifier) → at_owned ys ≡ Some x → at_owned xs ≡ None
@@ -101,43 +103,43 @@ record Cut (low : ℕ) (xs ys : Owned) (high : ℕ) : Type 0 where
 
 cut : (low : ℕ) (xs ys : Owned) (high : ℕ) → AreAscendingWithin low (tokens (xs ++ ys)) high → Cut low xs ys high
 cut low [] ys high h = record { middle = low; first = (let le : low ≤ low = omega arith in le); last = h }
-cut low (x ∷ xs) ys high h = let c = cut (x.0 + 1) xs ys high h.1 in record { middle = c.middle; first = (h.0, c.first); last = c.last }
+cut low (x ∷ xs) ys high h = let c = cut (x.1.0 + 1) xs ys high h.1 in record { middle = c.middle; first = (h.0, c.first); last = c.last }
 
 -- ---- one body
 
 module _ (t : ℕ) (m : Meanings ℕ Shape Signature) where
-  ends_with : (low closing high : ℕ) (xs ys : Owned) → AreAscendingWithin low (tokens (xs ++ (ys ++ ((closing, None) ∷ [])))) high → AreAscendingWithin low (tokens (xs ++ (ys ++ ((closing, None) ∷ [])))) (closing + 1)
+  ends_with : (low closing high : ℕ) (xs ys : Owned) → AreAscendingWithin low (tokens (xs ++ (ys ++ ((role.ClosingName, (closing, None)) ∷ [])))) high → AreAscendingWithin low (tokens (xs ++ (ys ++ ((role.ClosingName, (closing, None)) ∷ [])))) (closing + 1)
   ends_with low closing high [] [] h = (h.0, (let le : closing + 1 ≤ closing + 1 = omega arith in le))
-  ends_with low closing high [] (y ∷ ys) h = (h.0, ends_with (y.0 + 1) closing high [] ys h.1)
-  ends_with low closing high (x ∷ xs) ys h = (h.0, ends_with (x.0 + 1) closing high xs ys h.1)
+  ends_with low closing high [] (y ∷ ys) h = (h.0, ends_with (y.1.0 + 1) closing high [] ys h.1)
+  ends_with low closing high (x ∷ xs) ys h = (h.0, ends_with (x.1.0 + 1) closing high xs ys h.1)
 
   -- The closing name is the last identifier of a procedure.
-  procedure_ends : (k low high : ℕ) (p : Tree ℕ (item procedure)) → AreAscendingWithin low (tokens (identifier_owners_in_procedure m k p)) high → AreAscendingWithin low (tokens (identifier_owners_in_procedure m k p)) (closing_name p + 1)
+  procedure_ends : (k low high : ℕ) (p : Tree ℕ (item procedure)) → AreAscendingWithin low (tokens (owned_procedure m k p)) high → AreAscendingWithin low (tokens (owned_procedure m k p)) (closing_name p + 1)
   procedure_ends k low high (declares_procedure x fs b closing) h =
-      (h.0, ends_with (x + 1) closing high (identifier_owners_in_formals k fs) (identifier_owners_in_block m (constructor_count_before_procedure_block k (declares_procedure x fs b closing)) b) h.1)
+      (h.0, ends_with (x + 1) closing high (declared_in m.written k fs) (owned_block m (constructor_count_before_procedure_block k (declares_procedure x fs b closing)) b) h.1)
 
-  procedure_closes : (k low high : ℕ) (p : Tree ℕ (item procedure)) → AreAscendingWithin low (tokens (identifier_owners_in_procedure m k p)) high → closing_name p < high
+  procedure_closes : (k low high : ℕ) (p : Tree ℕ (item procedure)) → AreAscendingWithin low (tokens (owned_procedure m k p)) high → closing_name p < high
   procedure_closes k low high (declares_procedure x fs b closing) h =
-      let c = cut (x + 1) (identifier_owners_in_formals k fs) (identifier_owners_in_block m (constructor_count_before_procedure_block k (declares_procedure x fs b closing)) b ++ ((closing, None) ∷ [])) high h.1 in
-      let d = cut c.middle (identifier_owners_in_block m (constructor_count_before_procedure_block k (declares_procedure x fs b closing)) b) ((closing, None) ∷ []) high c.last in
+      let c = cut (x + 1) (declared_in m.written k fs) (owned_block m (constructor_count_before_procedure_block k (declares_procedure x fs b closing)) b ++ ((role.ClosingName, (closing, None)) ∷ [])) high h.1 in
+      let d = cut c.middle (owned_block m (constructor_count_before_procedure_block k (declares_procedure x fs b closing)) b) ((role.ClosingName, (closing, None)) ∷ []) high c.last in
       omega (arith, d.last.1)
 
   -- A procedure that closes before the token is passed over, and any other one contains the token or follows it.
   chosen : (p : Tree ℕ (item procedure)) (k j : ℕ) (rest : Tree ℕ (items procedure)) (statements : Tree ℕ (maybe body))
-      → at_owned t (identifier_owners_in_procedure m k p) ≡ or_else (at t (fields_in_tree m (body_with_token_in_procedure t p))) (at t (fields_declared_in_procedure k p))
-      → at_owned t (identifier_owners_in_procedures m j rest ++ identifier_owners_in_tree m None statements) ≡ or_else (at t (fields_in_tree m (body_with_token_in_procedures t rest statements))) (at t (fields_declared_in_procedures j rest))
+      → at_owned t (owned_procedure m k p) ≡ or_else (at t (fields_in_tree m (body_with_token_in_procedure t p))) (at t (fields_declared_in_procedure k p))
+      → at_owned t (owned_procedures m j rest ++ used_in m None statements) ≡ or_else (at t (fields_in_tree m (body_with_token_in_procedures t rest statements))) (at t (fields_declared_in_procedures j rest))
       → {middle : ℕ} → closing_name p < middle
-      → (closing_name p + 1 ≤ t → at_owned t (identifier_owners_in_procedure m k p) ≡ None)
-      → (t < middle → at_owned t (identifier_owners_in_procedures m j rest ++ identifier_owners_in_tree m None statements) ≡ None)
-      → or_else (at_owned t (identifier_owners_in_procedure m k p)) (at_owned t (identifier_owners_in_procedures m j rest ++ identifier_owners_in_tree m None statements))
+      → (closing_name p + 1 ≤ t → at_owned t (owned_procedure m k p) ≡ None)
+      → (t < middle → at_owned t (owned_procedures m j rest ++ used_in m None statements) ≡ None)
+      → or_else (at_owned t (owned_procedure m k p)) (at_owned t (owned_procedures m j rest ++ used_in m None statements))
       ≡ or_else (at t (fields_in_tree m (body_with_token_in_procedures t (more p rest) statements))) (or_else (at t (fields_declared_in_procedure k p)) (at t (fields_declared_in_procedures j rest)))
   chosen p k j rest statements first later closes passed behind = one (nat_lt (closing_name p) t) refl
     where
       P : Option FieldIdentifier
-      P = at_owned t (identifier_owners_in_procedure m k p)
+      P = at_owned t (owned_procedure m k p)
 
       R : Option FieldIdentifier
-      R = at_owned t (identifier_owners_in_procedures m j rest ++ identifier_owners_in_tree m None statements)
+      R = at_owned t (owned_procedures m j rest ++ used_in m None statements)
 
       one : (b : Bool) → nat_lt (closing_name p) t ≡ b
           → or_else P R ≡ or_else (at t (fields_in_tree m (if b then body_with_token_in_procedures t rest statements else body_with_token_in_procedure t p))) (or_else (at t (fields_declared_in_procedure k p)) (at t (fields_declared_in_procedures j rest)))
@@ -151,16 +153,16 @@ module _ (t : ℕ) (m : Meanings ℕ Shape Signature) where
           ap (or_else P) none ∙ (or_none P ∙ (first ∙ ap (or_else _) (sym (ap (or_else (at t (fields_declared_in_procedure k p))) undeclared ∙ or_none (at t (fields_declared_in_procedure k p))))))
 
   mutual
-    block_field : (k low high : ℕ) (b : Tree ℕ block) → AreAscendingWithin low (tokens (identifier_owners_in_block m k b)) high
-        → at_owned t (identifier_owners_in_block m k b) ≡ or_else (at t (fields_in_tree m (body_with_token_in_block t b))) (at t (fields_declared_in_block k b))
+    block_field : (k low high : ℕ) (b : Tree ℕ block) → AreAscendingWithin low (tokens (owned_block m k b)) high
+        → at_owned t (owned_block m k b) ≡ or_else (at t (fields_in_tree m (body_with_token_in_block t b))) (at t (fields_declared_in_block k b))
     block_field k low high (forms_block (declares cs ts vs ps) statements) h =
         let b : Tree ℕ block = forms_block (declares cs ts vs ps) statements in
-        let C : Owned = identifiers_without_owners cs in
-        let T : Owned = identifier_owners_in_type_section k ts in
-        let V : Owned = identifier_owners_in_variable_section (constructor_count_before_variables k b) vs in
+        let C : Owned = plain m.written cs in
+        let T : Owned = declared_in m.written k ts in
+        let V : Owned = declared_in m.written (constructor_count_before_variables k b) vs in
         let j : ℕ = constructor_count_before_procedures k b in
-        let Q : Owned = identifier_owners_in_procedures m j ps in
-        let S : Owned = identifier_owners_in_tree m None statements in
+        let Q : Owned = owned_procedures m j ps in
+        let S : Owned = used_in m None statements in
         let front : Owned = C ++ (T ++ V) in
         let parts : (C ++ (T ++ (V ++ Q))) ++ S ≡ front ++ (Q ++ S) =
         ap (λ l. (C ++ l) ++ S) (sym (append_assoc T V Q)) ∙ (ap (λ l. l ++ S) (sym (append_assoc C (T ++ V) Q)) ∙ append_assoc front Q S) in
@@ -168,7 +170,7 @@ module _ (t : ℕ) (m : Meanings ℕ Shape Signature) where
         let types : List FieldIdentifier = fields_in_types k (section_types ts) in
         let variables : List FieldIdentifier = fields_in_variables (constructor_count_before_variables k b) (section_variables vs) in
         let declared : fields_with_owners front ≡ types ++ variables =
-        among-append C (T ++ V) ∙ ((λ i. plain-fields cs i ++ fields_with_owners (T ++ V)) ∙ (among-append T V ∙ (λ i. type_section-fields k ts i ++ variable_section-fields (constructor_count_before_variables k b) vs i))) in
+        among-append C (T ++ V) ∙ ((λ i. plain-fields m.written role.DeclaringName cs i ++ fields_with_owners (T ++ V)) ∙ (among-append T V ∙ (λ i. type_section-fields m.written k ts i ++ variable_section-fields m.written (constructor_count_before_variables k b) vs i))) in
         let inner = fields_in_tree m (body_with_token_in_procedures t ps statements) in
         let later = among_field j c.middle high ps statements c.last in
         let found : (x : FieldIdentifier) → at t inner ≡ Some x → at_owned t front ≡ None =
@@ -182,15 +184,15 @@ module _ (t : ℕ) (m : Meanings ℕ Shape Signature) where
         ∙ ap (at t) (append_assoc types variables (fields_declared_in_procedures j ps))))))
 
     among_field : (k low high : ℕ) (ps : Tree ℕ (items procedure)) (statements : Tree ℕ (maybe body))
-        → AreAscendingWithin low (tokens (identifier_owners_in_procedures m k ps ++ identifier_owners_in_tree m None statements)) high
-        → at_owned t (identifier_owners_in_procedures m k ps ++ identifier_owners_in_tree m None statements)
+        → AreAscendingWithin low (tokens (owned_procedures m k ps ++ used_in m None statements)) high
+        → at_owned t (owned_procedures m k ps ++ used_in m None statements)
         ≡ or_else (at t (fields_in_tree m (body_with_token_in_procedures t ps statements))) (at t (fields_declared_in_procedures k ps))
     among_field k low high end statements h = ap (at t) (fields_in_tree-fields m statements) ∙ sym (or_none (at t (fields_in_tree m statements)))
     among_field k low high (more p rest) statements h =
         let j : ℕ = k + procedure_constructor_count p in
-        let P : Owned = identifier_owners_in_procedure m k p in
-        let R : Owned = identifier_owners_in_procedures m j rest in
-        let S : Owned = identifier_owners_in_tree m None statements in
+        let P : Owned = owned_procedure m k p in
+        let R : Owned = owned_procedures m j rest in
+        let S : Owned = used_in m None statements in
         let c = cut low P (R ++ S) high (subst (λ l. AreAscendingWithin low (tokens l) high) (append_assoc P R S) h) in
         let first = procedure_field k low c.middle p c.first in
         let later = among_field j c.middle high rest statements c.last in
@@ -199,14 +201,14 @@ module _ (t : ℕ) (m : Meanings ℕ Shape Signature) where
         (λ past. none_below t low (closing_name p + 1) P (procedure_ends k low c.middle p c.first) past) (λ less. none_above t c.middle high (R ++ S) c.last less)
         ∙ ap (or_else (at t (fields_in_tree m (body_with_token_in_procedures t (more p rest) statements)))) (sym (at_append t (fields_declared_in_procedure k p) (fields_declared_in_procedures j rest))))
 
-    procedure_field : (k low high : ℕ) (p : Tree ℕ (item procedure)) → AreAscendingWithin low (tokens (identifier_owners_in_procedure m k p)) high
-        → at_owned t (identifier_owners_in_procedure m k p) ≡ or_else (at t (fields_in_tree m (body_with_token_in_procedure t p))) (at t (fields_declared_in_procedure k p))
+    procedure_field : (k low high : ℕ) (p : Tree ℕ (item procedure)) → AreAscendingWithin low (tokens (owned_procedure m k p)) high
+        → at_owned t (owned_procedure m k p) ≡ or_else (at t (fields_in_tree m (body_with_token_in_procedure t p))) (at t (fields_declared_in_procedure k p))
     procedure_field k low high (declares_procedure x fs b closing) h =
         let p : Tree ℕ (item procedure) = declares_procedure x fs b closing in
         let j : ℕ = constructor_count_before_procedure_block k p in
-        let A : Owned = identifier_owners_in_formals k fs in
-        let B : Owned = identifier_owners_in_block m j b in
-        let last : Owned = (closing, None) ∷ [] in
+        let A : Owned = declared_in m.written k fs in
+        let B : Owned = owned_block m j b in
+        let last : Owned = (role.ClosingName, (closing, None)) ∷ [] in
         let c = cut (x + 1) A (B ++ last) high h.1 in
         let d = cut c.middle B last high c.last in
         let inner = fields_in_tree m (body_with_token_in_block t b) in
@@ -217,19 +219,19 @@ module _ (t : ℕ) (m : Meanings ℕ Shape Signature) where
         owned_append t A (B ++ last)
         ∙ (ap (or_else (at_owned t A)) (owned_append t B last ∙ (or_none (at_owned t B) ∙ within))
         ∙ (swapped (at_owned t A) (at t inner) (at t (fields_declared_in_block j b)) found
-        ∙ ap (or_else (at t inner)) (ap (λ l. or_else (at t l) (at t (fields_declared_in_block j b))) (formals-fields k fs) ∙ sym (at_append t sections (fields_declared_in_block j b)))))
+        ∙ ap (or_else (at t inner)) (ap (λ l. or_else (at t l) (at t (fields_declared_in_block j b))) (formals-fields m.written k fs) ∙ sym (at_append t sections (fields_declared_in_block j b)))))
 
 pub field_of_one_body : (r : Resolution) (t : ℕ) → TreeMatchesText r.module_read
     → field_at_token t (field_identifiers r)
     ≡ or_else (field_at_token t (fields_in_tree (meanings_by_token (declared_object (named_tree_of r.module_read)) r) (body_with_token_in_block t (module_block (tree_of r.module_read))))) (field_at_token t (declared_fields r.module_read))
 field_of_one_body r t parsed =
     let m = meanings_by_token (declared_object (named_tree_of r.module_read)) r in
-    let ascend = subst (λ ts. AreAscendingWithin 0 ts (length r.module_read.source.tokens)) (sym (module-tokens m (tree_of r.module_read))) (leaves_ascend r.module_read parsed) in
+    let ascend = subst (λ ts. AreAscendingWithin 0 ts (length r.module_read.source.tokens)) (sym (module-tokens r)) (leaves_ascend r.module_read parsed) in
     in_module m (tree_of r.module_read) (length r.module_read.source.tokens) ascend
   where
-    in_module : (m : Meanings ℕ Shape Signature) (tree : Tree ℕ module_text) (high : ℕ) → AreAscendingWithin 0 (tokens (identifier_owners_in_module m tree)) high
-        → at_owned t (identifier_owners_in_module m tree) ≡ or_else (at t (fields_in_tree m (body_with_token_in_block t (module_block tree)))) (at t (fields_declared_in_block 0 (module_block tree)))
+    in_module : (m : Meanings ℕ Shape Signature) (tree : Tree ℕ module_text) (high : ℕ) → AreAscendingWithin 0 (tokens (owned_module m tree)) high
+        → at_owned t (owned_module m tree) ≡ or_else (at t (fields_in_tree m (body_with_token_in_block t (module_block tree)))) (at t (fields_declared_in_block 0 (module_block tree)))
     in_module m (forms_module x b closing) high h =
-        let B : Owned = identifier_owners_in_block m 0 b in
-        let c = cut (x + 1) B ((closing, None) ∷ []) high h.1 in
-        owned_append t B ((closing, None) ∷ []) ∙ (or_none (at_owned t B) ∙ block_field t m 0 (x + 1) c.middle b c.first)
+        let B : Owned = owned_block m 0 b in
+        let c = cut (x + 1) B ((role.ModuleName, (closing, None)) ∷ []) high h.1 in
+        owned_append t B ((role.ModuleName, (closing, None)) ∷ []) ∙ (or_none (at_owned t B) ∙ block_field t m 0 (x + 1) c.middle b c.first)

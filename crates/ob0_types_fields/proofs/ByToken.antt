@@ -5,8 +5,8 @@ use Rattle.ob0_tree.specs.ParsedModule.{named_tree_of, tree_of}
 use Rattle.ob0_tree.specs.TokenIndexLeaves.{token_text_at, token_value_at}
 use Rattle.ob0_language_names.specs.Names.{Name, same_name}
 use Rattle.ob0_scope_table.specs.Resolution.{ordinal_in}
-use Rattle.ob0_language_fields.specs.RenamedFields.{rename_fields_in_module}
 use Rattle.ob0_types_fields.specs.OwnerTables.{RenamingFollowsOwners, renaming_by_record}
+use Rattle.ob0_language_fields.specs.RenamedFields.{rename_fields_in_module}
 use Rattle.ob0_language_fields.specs.SingleFieldRenaming.{single_field_renaming}
 
 -- returns the spelling of a field of the record `k` after one field was renamed

@@ -22,10 +22,10 @@ use Rattle.ob0_language_types.proofs.Proved.{numbering_keeps_type_check-holds}
 use Rattle.ob0_language_types.proofs.TypedElsewhere.{then_some}
 use Rattle.ob0_language_types.proofs.ConstantsDeclared.{block-listed, block-parts}
 use Rattle.ob0_types_fields.proofs.DeclaredInOrder.{Right, at_label, right_split}
-use Rattle.ob0_types_fields.proofs.OwnedModules.{bindings_right, procedure-parts}
 use Rattle.ob0_types_fields.specs.FieldTypes.{first_listed_name}
-use Rattle.ob0_types_fields.specs.IdentifierOwners.{meanings_by_token}
 use Rattle.ob0_language_values.specs.Values.{Shape}
+use Rattle.ob0_types_fields.specs.IdentifierOwners.{meanings_by_token}
+use Rattle.ob0_types_fields.proofs.MarksByToken.{bindings_right, procedure-parts}
 
 abbrev parameter_of : ParameterMode → Shape → Label → TypedParameter Label
 parameter_of m s x = record { name = x; formal = record { mode = m; shape = s } }

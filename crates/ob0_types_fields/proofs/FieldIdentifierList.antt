@@ -6,6 +6,7 @@ use Rattle.std.proofs.Math.ListN.{length-set}
 use Rattle.std.proofs.lemmas.List.{length-map, length-replicate}
 use Rattle.ob0_scan.specs.TextWithTokens.{TextWithTokens}
 use Rattle.ob0_scan.specs.declared.lexeme.Token.{Token}
+use Rattle.ob0_tree.specs.declared.tree.Role.{Role}
 use Rattle.ob0_tree.specs.IdentifierIndexes.{AreIdentifierTokens, AreAscendingWithin, IsIdentifierToken}
 use Rattle.ob0_tree.specs.ParsedModule.{TreeMatchesText, named_tree_of, tree_of}
 use Rattle.ob0_tree.specs.TokenIndexLeaves.{token_text_at, token_value_at}
@@ -21,34 +22,34 @@ use Rattle.ob0_language_types.specs.Bindings.{declared_object}
 use Rattle.ob0_language_types.specs.Declarations.{constructor_count_before_procedure_block, constructor_count_before_procedures, constructor_count_before_variables, procedure_constructor_count}
 use Rattle.ob0_language_types.specs.Expressions.{Meanings}
 use Rattle.ob0_language_values.specs.Values.{Shape}
-use Rattle.ob0_types_fields.specs.FieldIdentifiers.{AreInTextOrder, RenamingChangesFieldTokens, declared_fields, fields_declared_in_block, fields_declared_in_procedure, fields_declared_in_procedures, field_identifiers, field_at_offset, field_tokens_in_module, belongs_to_field, tokens_of_field, token_indexes}
-use Rattle.ob0_types_fields.specs.IdentifierOwners.{fields_in_block, fields_in_parameter_sections, fields_in_procedure, fields_in_procedures, fields_in_tree, fields_in_types, fields_in_variables, fields_with_owners, identifier_owners_in_resolution, meanings_by_token, table_with_owners}
 use Rattle.ob0_types_fields.specs.OwnerTables.{is_token_of_field}
 use Rattle.ob0_types_fields.proofs.ByToken.{renaming_follows_owners-holds}
-use Rattle.ob0_types_fields.proofs.WalkFindsAllFields.{module-fields}
-use Rattle.ob0_types_fields.proofs.OwnedTokens.{module-tokens, table_with_entered_owners_is_owner_table-holds, tokens}
+use Rattle.ob0_types_fields.specs.IdentifierOwners.{fields_in_block, fields_in_parameter_sections, fields_in_procedure, fields_in_procedures, fields_in_tree, fields_in_types, fields_in_variables, fields_with_owners, identifier_owners_in_resolution, meanings_by_token, table_with_owners}
+use Rattle.ob0_types_fields.specs.FieldIdentifiers.{AreInTextOrder, RenamingChangesFieldTokens, belongs_to_field, declared_fields, field_at_offset, field_identifiers, field_tokens_in_module, fields_declared_in_block, fields_declared_in_procedure, fields_declared_in_procedures, token_indexes, tokens_of_field}
+use Rattle.ob0_types_fields.proofs.OwnersByToken.{module-tokens, table_with_entered_owners_is_owner_table-holds, tokens}
+use Rattle.ob0_types_fields.proofs.WalkedFields.{module-fields}
 
 -- ---- fields among identifiers
 
-among_ascend : (xs : List (ℕ × Option ℕ)) (low high : ℕ) → AreAscendingWithin low (tokens xs) high → AreAscendingWithin low (token_indexes (fields_with_owners xs)) high
+among_ascend : (xs : List (Role × (ℕ × Option ℕ))) (low high : ℕ) → AreAscendingWithin low (tokens xs) high → AreAscendingWithin low (token_indexes (fields_with_owners xs)) high
 among_ascend [] low high h = h
-among_ascend ((x, None) ∷ xs) low high h = ascending_lower low (x + 1) (token_indexes (fields_with_owners xs)) high (omega (arith, h.0)) (among_ascend xs (x + 1) high h.1)
-among_ascend ((x, Some k) ∷ xs) low high h = (h.0, among_ascend xs (x + 1) high h.1)
+among_ascend ((_, (x, None)) ∷ xs) low high h = ascending_lower low (x + 1) (token_indexes (fields_with_owners xs)) high (omega (arith, h.0)) (among_ascend xs (x + 1) high h.1)
+among_ascend ((_, (x, Some k)) ∷ xs) low high h = (h.0, among_ascend xs (x + 1) high h.1)
 
-among_are_identifiers : (ts : List Token) (xs : List (ℕ × Option ℕ)) → AreIdentifierTokens ts (tokens xs) → AreIdentifierTokens ts (token_indexes (fields_with_owners xs))
+among_are_identifiers : (ts : List Token) (xs : List (Role × (ℕ × Option ℕ))) → AreIdentifierTokens ts (tokens xs) → AreIdentifierTokens ts (token_indexes (fields_with_owners xs))
 among_are_identifiers ts [] h = tt
-among_are_identifiers ts ((x, None) ∷ xs) h = among_are_identifiers ts xs h.1
-among_are_identifiers ts ((x, Some k) ∷ xs) h = (h.0, among_are_identifiers ts xs h.1)
+among_are_identifiers ts ((_, (x, None)) ∷ xs) h = among_are_identifiers ts xs h.1
+among_are_identifiers ts ((_, (x, Some k)) ∷ xs) h = (h.0, among_are_identifiers ts xs h.1)
 
 pub fields_ascend : (r : Resolution) → TreeMatchesText r.module_read → AreInTextOrder r.module_read.source (field_identifiers r)
 fields_ascend r parsed =
     let n : ℕ = length r.module_read.source.tokens in
-    among_ascend (identifier_owners_in_resolution r) 0 n (subst (λ ts. AreAscendingWithin 0 ts n) (sym (module-tokens _ (tree_of r.module_read))) (leaves_ascend r.module_read parsed))
+    among_ascend (identifier_owners_in_resolution r) 0 n (subst (λ ts. AreAscendingWithin 0 ts n) (sym (module-tokens r)) (leaves_ascend r.module_read parsed))
 
 pub fields_are_identifiers : (r : Resolution) → TreeMatchesText r.module_read → AreIdentifierTokens r.module_read.source.tokens (token_indexes (field_identifiers r))
 fields_are_identifiers r parsed =
     among_are_identifiers r.module_read.source.tokens (identifier_owners_in_resolution r)
-    (subst (AreIdentifierTokens r.module_read.source.tokens) (sym (module-tokens _ (tree_of r.module_read))) (leaves_are_identifiers r.module_read parsed))
+    (subst (AreIdentifierTokens r.module_read.source.tokens) (sym (module-tokens r)) (leaves_are_identifiers r.module_read parsed))
 
 -- ---- the declared fields are among all fields, so there are no more of them than tokens
 

@@ -5,8 +5,8 @@ use Rattle.ob0_language_names.specs.Names.{Name, same_name}
 use Rattle.ob0_language_types.specs.Typing.{named_field_shape}
 use Rattle.ob0_types_table.specs.declared.declaration_table.FieldId.{FieldId}
 use Rattle.ob0_types_table.specs.FieldPlaces.{position_of_field}
-use Rattle.ob0_types_fields.specs.IdentifierOwners.{field_if_owned, owner}
 use Rattle.ob0_language_values.specs.Values.{FieldShapes, Shape, next_field_shape, no_field_shape, record_shape}
+use Rattle.ob0_types_fields.specs.IdentifierOwners.{field_if_owned, owner}
 
 -- returns the ordinal `k` of the record if a field has a position in the record
 abbrev owner_with : ℕ → Option ℕ → Option ℕ
@@ -16,7 +16,7 @@ one_further : (k : ℕ) (o : Option ℕ) → owner_with k (option_map suc o) ≡
 one_further k None = refl
 one_further k (Some i) = refl
 
-owner_at : (k : ℕ) (fs : FieldShapes) (x : Name) → owner (Some (record_shape k fs)) x ≡ option_map (λ _. k) (named_field_shape fs x)
+pub owner_at : (k : ℕ) (fs : FieldShapes) (x : Name) → owner (Some (record_shape k fs)) x ≡ option_map (λ _. k) (named_field_shape fs x)
 owner_at k no_field_shape x = refl
 owner_at k (next_field_shape y s rest) x = by_test (same_name x y) (owner_at k rest x)
   where

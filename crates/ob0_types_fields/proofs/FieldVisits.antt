@@ -11,7 +11,8 @@ use Rattle.ob0_language_types.specs.Expressions.{Meanings}
 use Rattle.ob0_language_types.specs.WellTyped.{Signature}
 use Rattle.ob0_language_values.specs.Values.{Shape}
 use Rattle.ob0_types_fields.specs.declared.field_identifier.FieldIdentifier.{FieldIdentifier}
-use Rattle.ob0_types_fields.specs.IdentifierOwners.{fields_at_tokens, fields_in_path, fields_in_tree, type_after_selector}
+use Rattle.ob0_language_fields.specs.MarkedFields.{type_after_selector}
+use Rattle.ob0_types_fields.specs.IdentifierOwners.{fields_at_tokens, fields_in_path, fields_in_tree}
 use Rattle.ob0_types_fields.specs.FieldWalks.{VisitsDeclarations, fields_in_selector, state_after_fields}
 
 pub visited_append : {S : Type 0} (step : FieldIdentifier → S → S) (xs ys : List FieldIdentifier) (s : S) → state_after_fields step (xs ++ ys) s ≡ state_after_fields step ys (state_after_fields step xs s)

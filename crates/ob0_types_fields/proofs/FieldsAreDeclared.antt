@@ -1,14 +1,13 @@
 -- The field of each identifier in a well-typed module is declared by its record. Otherwise a selected field could have
 -- another name without any change to the module.
+use Rattle.ob0_tree.specs.declared.tree.Role.{Role}
 use Rattle.std.proofs.Common.{◌≡◌, ℕ, suc, ◌==◌, Bool, true, false, ◌&&◌, ◌||◌, not, if◌then◌else◌, List, [], ◌∷◌, map, length, is_some, Some, None, Option, refl, sym, ap, ◌∙◌, arith, true≢false, eq-eqb, eqb-true, All}
 use Rattle.std.proofs.lemmas.List.Elements.{All-cons, All-nil}
 use Rattle.std.proofs.lemmas.Slice.Eq.{bytes_eq-Decides}
 use Rattle.std.specs.List.{list_any}
-use Rattle.std.proofs.lemmas.Bool.{or_parts, or_right}
+use Rattle.std.proofs.lemmas.Bool.{or_right}
 use Rattle.std.proofs.Math.Bool.{and-false}
 use Rattle.ob0_scan.specs.TextWithTokens.{TextWithTokens}
-use Rattle.ob0_tree.specs.declared.tree.Role.TheVariants as role
-use Rattle.ob0_tree.specs.Terminals.{Name}
 use Rattle.ob0_tree.specs.IdentifierIndexes.{identifier_names}
 use Rattle.ob0_tree.specs.ParsedModule.{ParsedModule, named_tree_of, tree_of}
 use Rattle.ob0_tree.specs.TokenIndexLeaves.{token_text_at, token_value_at}
@@ -18,19 +17,17 @@ use Rattle.ob0_language_names.specs.Names as written
 use Rattle.ob0_language_names.specs.Names.{same_name}
 use Rattle.ob0_language_names.proofs.Peeling.{heads}
 use Rattle.ob0_scope_table.specs.Resolution.{IsResolution, Resolution}
-use Rattle.ob0_language_types.specs.Bindings.{declared_object}
 use Rattle.ob0_language_types.specs.WellTyped.{WellTyped}
-use Rattle.ob0_language_fields.specs.SingleFieldRenaming.{RecordFields, is_duplicate_field_name, has_another_field_named, single_field_renaming, records_in_module}
-use Rattle.ob0_language_fields.proofs.AgreeingFields.{NamesAgree, RecordsAgree}
-use Rattle.ob0_language_fields.proofs.AgreeingModules.{module-alike}
-use Rattle.ob0_language_fields.proofs.Bare.{rename_fields_in_module-bare}
-use Rattle.ob0_language_fields.proofs.Bare.{bare}
 use Rattle.ob0_types_fields.specs.declared.field_identifier.FieldIdentifier.{FieldIdentifier}
-use Rattle.ob0_types_fields.specs.FieldIdentifiers.{FieldsAreDeclared, field_declaring_token, field_identifiers, field_tokens_in_module, belongs_to_field, tokens_of_field}
-use Rattle.ob0_types_fields.specs.IdentifierOwners.{fields_with_owners, identifier_owners_in_resolution, meanings_by_token}
 use Rattle.ob0_types_fields.proofs.DuplicateFields.{duplicate_field_name_has_declaring_token-holds}
 use Rattle.ob0_types_fields.proofs.FieldIdentifierList.{renaming_changes_field_tokens-holds}
-use Rattle.ob0_types_fields.proofs.OwnedTokens.{module-tokens, tokens}
+use Rattle.ob0_language_fields.specs.MarkedFields.{UsedName, declares_field, mark_module, marking_declarations, no_field, selects_field, used_names}
+use Rattle.ob0_language_fields.specs.SingleFieldRenaming.{has_another_field_named, is_duplicate_field_name, names_declared_in_record, single_field_renaming}
+use Rattle.ob0_language_fields.proofs.MarkedNames.{EachName, IsDeclaration, bare, module-declares, rename_fields_in_module-bare}
+use Rattle.ob0_language_fields.proofs.KnownFields.{KnownName, RenamedAlike, module-alike}
+use Rattle.ob0_types_fields.specs.IdentifierOwners.{fields_with_owners, identifier_owners_in_resolution}
+use Rattle.ob0_types_fields.specs.FieldIdentifiers.{FieldsAreDeclared, belongs_to_field, field_declaring_token, field_identifiers, field_tokens_in_module, tokens_of_field}
+use Rattle.ob0_types_fields.proofs.OwnersByToken.{module-tokens, tokens}
 
 -- ---- a name that isn't the field's
 
@@ -50,29 +47,24 @@ differs f = one (same_name f (another f)) refl
 -- ---- a field that no record declares may have another name
 
 module _ (k : ℕ) (f : written.Name) where
-  as_it_was : (o : ℕ) (x : written.Name) (a b c rest : Bool) → (a && ((b && not c) || rest)) ≡ false → (b ≡ true → c ≡ false) → (if a && b then another f else x) ≡ x
-  as_it_was o x true true true rest h other = absurd (true≢false (other refl))
-  as_it_was o x true true false rest h other = absurd (true≢false h)
-  as_it_was o x true false c rest h other = refl
-  as_it_was o x false b c rest h other = refl
+  kept_name : (x : written.Name) (b c rest : Bool) → ((b && not c) || rest) ≡ false → (b ≡ true → c ≡ false) → ((if b then another f else x) ≡ x) × (rest ≡ false)
+  kept_name x true true rest h other = absurd (true≢false (other refl))
+  kept_name x true false rest h other = absurd (true≢false h)
+  kept_name x false c rest h other = (refl, h)
 
-  others_left : (a b rest : Bool) → (a && (b || rest)) ≡ false → (a && rest) ≡ false
-  others_left true true rest h = absurd (true≢false h)
-  others_left true false rest h = h
-  others_left false b rest h = refl
-
-  names_kept : (o : ℕ) (xs : List written.Name) → ((o == k) && has_another_field_named xs (another f) f) ≡ false → NamesAgree (single_field_renaming k f (another f)) bare o xs
-  names_kept o [] h = tt
-  names_kept o (x ∷ xs) h = (
-    as_it_was o x (o == k) (same_name x f) (same_name x (another f)) (has_another_field_named xs (another f) f) h (λ e. ap (λ y. same_name y (another f)) ((bytes_eq-Decides x f).0 e) ∙ differs f),
-    names_kept o xs (others_left (o == k) (same_name x f && not (same_name x (another f))) (has_another_field_named xs (another f) f) h),
-  )
-
-  records_kept : (ts : List RecordFields) → list_any (λ t. (t.ordinal == k) && has_another_field_named t.declared (another f) f) ts ≡ false → RecordsAgree (single_field_renaming k f (another f)) bare ts
-  records_kept [] h = tt
-  records_kept (t ∷ ts) h =
-      let parts = or_parts ((t.ordinal == k) && has_another_field_named t.declared (another f) f) (list_any (λ u. (u.ordinal == k) && has_another_field_named u.declared (another f) f) ts) h in
-      (names_kept t.ordinal t.declared parts.0, records_kept ts parts.1)
+  names_kept : (xs : List (Role × UsedName written.Name)) → EachName IsDeclaration xs → has_another_field_named (names_declared_in_record k xs) (another f) f ≡ false → EachName (KnownName (RenamedAlike (single_field_renaming k f (another f)) bare)) xs
+  names_kept [] d h = tt
+  names_kept ((_, (x, no_field)) ∷ xs) d h = (tt, names_kept xs d.1 h)
+  names_kept ((_, (x, declares_field o)) ∷ xs) d h = one (o == k) h (names_kept xs d.1)
+    where
+      one : (a : Bool) → has_another_field_named (if a then x ∷ names_declared_in_record k xs else names_declared_in_record k xs) (another f) f ≡ false
+          → (has_another_field_named (names_declared_in_record k xs) (another f) f ≡ false → EachName (KnownName (RenamedAlike (single_field_renaming k f (another f)) bare)) xs)
+          → ((if a && same_name x f then another f else x) ≡ x) × EachName (KnownName (RenamedAlike (single_field_renaming k f (another f)) bare)) xs
+      one true h later =
+          let kept = kept_name x (same_name x f) (same_name x (another f)) (has_another_field_named (names_declared_in_record k xs) (another f) f) h (λ e. ap (λ y. same_name y (another f)) ((bytes_eq-Decides x f).0 e) ∙ differs f) in
+          (kept.0, later kept.1)
+      one false h later = (refl, later h)
+  names_kept ((_, (x, selects_field s)) ∷ xs) d h = absurd d.0
 
 -- ---- the identifiers of a tree whose names are rewritten
 
@@ -90,10 +82,10 @@ same_at g h i (x ∷ xs) e among = one (i == x) refl among (same_at g h i xs (he
 abbrev same : FieldIdentifier → FieldIdentifier → Bool
 same x y = (x.token == y.token) && (x.owner == y.owner)
 
-among_tokens : (x : FieldIdentifier) (xs : List (ℕ × Option ℕ)) → list_any (same x) (fields_with_owners xs) ≡ true → list_any (λ token. x.token == token) (tokens xs) ≡ true
+among_tokens : (x : FieldIdentifier) (xs : List (Role × (ℕ × Option ℕ))) → list_any (same x) (fields_with_owners xs) ≡ true → list_any (λ token. x.token == token) (tokens xs) ≡ true
 among_tokens x [] h = absurd (true≢false (sym h))
-among_tokens x ((y, None) ∷ xs) h = or_right (x.token == y) (list_any (λ token. x.token == token) (tokens xs)) (among_tokens x xs h)
-among_tokens x ((y, Some k) ∷ xs) h = one (x.token == y) (x.owner == k) h (among_tokens x xs)
+among_tokens x ((_, (y, None)) ∷ xs) h = or_right (x.token == y) (list_any (λ token. x.token == token) (tokens xs)) (among_tokens x xs h)
+among_tokens x ((_, (y, Some k)) ∷ xs) h = one (x.token == y) (x.owner == k) h (among_tokens x xs)
   where
     one : (a b : Bool) → ((a && b) || list_any (same x) (fields_with_owners xs)) ≡ true → (list_any (same x) (fields_with_owners xs) ≡ true → list_any (λ token. x.token == token) (tokens xs) ≡ true) → (a || list_any (λ token. x.token == token) (tokens xs)) ≡ true
     one true b e later = refl
@@ -146,7 +138,7 @@ module _ (r : Resolution) (named : IsResolution r) (fits : WellTyped (named_tree
   writes i = if list_any (λ token. i == token) (field_tokens_in_module r x.owner f) then another f else token_text_at m.source i
 
   among_leaves : list_any (λ token. x.token == token) (identifier_names (tree_of m)) ≡ true
-  among_leaves = ap (list_any (λ token. x.token == token)) (sym (module-tokens (meanings_by_token (declared_object (named_tree_of m)) r) (tree_of m))) ∙ among_tokens x (identifier_owners_in_resolution r) listed
+  among_leaves = ap (list_any (λ token. x.token == token)) (sym (module-tokens r)) ∙ among_tokens x (identifier_owners_in_resolution r) listed
 
   unchanged : is_some (field_declaring_token m x.owner f) ≡ false → named_tree_of m ≡ mapped_tree writes (token_value_at m.source) (tree_of m)
   unfolding WellTyped
@@ -154,7 +146,7 @@ module _ (r : Resolution) (named : IsResolution r) (fits : WellTyped (named_tree
       let free : is_duplicate_field_name (named_tree_of m) x.owner (another f) f ≡ false =
       duplicate_field_name_has_declaring_token-holds m x.owner (another f) f ∙ (ap (λ b. not (same_name f (another f)) && b) none ∙ and-false (not (same_name f (another f)))) in
       sym (rename_fields_in_module-bare (named_tree_of m))
-      ∙ (sym (module-alike (single_field_renaming x.owner f (another f)) bare (named_tree_of m) (records_kept x.owner f (records_in_module (named_tree_of m)) free) fits.1)
+      ∙ (sym (module-alike (single_field_renaming x.owner f (another f)) bare (named_tree_of m) (names_kept x.owner f (used_names (mark_module marking_declarations tt (named_tree_of m))) (module-declares (named_tree_of m)) free) fits.1)
       ∙ renaming_changes_field_tokens-holds r x.owner f (another f) named fits)
 
   is_declared : is_some (field_declaring_token m x.owner f) ≡ true

@@ -9,7 +9,6 @@ use Rattle.ob0_tree.specs.IdentifierIndexes.{names_without_roles}
 use Rattle.ob0_tree.specs.ParsedModule.{ParsedModule, named_tree_of, tree_of}
 use Rattle.ob0_tree.specs.TokenIndexLeaves.{token_text_at, token_value_at}
 use Rattle.ob0_tree.specs.Tree.{Sort, Tree, addend, adds, arguments, array_type, assigns, begins, block, body, branches, calls, compares, constant, constants, declares, declares_constant, declares_const_section, declares_procedure, declares_type, declares_type_section, declares_variable, declares_var_section, designator, else_branch, else_part, elsif_branch, elsif_part, empty, end, expression, factor, field, fields, formals, argument_after_comma, fields_after_semicolon, name_after_comma, section_after_semicolon, statement_after_semicolon, forms_block, identifiers, index, integer, forms_module, item, items, listed, mapped_tree, maybe, module_text, more, multiplier, multiplies, named_type, names, negation, no_arguments, no_fields, no_formals, none, one, parenthesised, procedure, product, record_type, relates, repeat_loop, runs, section, selector, sequence, simple, some_arguments, some_fields, some_formals, statement, sum, term, comma_then_argument, semicolon_then_fields, comma_then_name, semicolon_then_section, semicolon_then_statement, type_definition, type_definitions, value_section, variable, variable_section, variables, while_loop, written_type}
-use Rattle.ob0_language_names.specs.MappedNames.{map_names}
 use Rattle.ob0_language_names.specs.Names.{Name, naming_by_spelling}
 use Rattle.ob0_language_names.specs.BlockParts.{formal_parameter_sections, names_in_list, procedure_formals, procedure_name, section_constants, parameter_section_names, parameter_section_type, section_types, section_variables}
 use Rattle.ob0_language_names.proofs.Peeling.{heads}
@@ -20,20 +19,18 @@ use Rattle.ob0_language_types.specs.Expressions.{Meanings, Object, a_constant, a
 use Rattle.ob0_language_types.specs.Typing.{addition_type, array_length_from_value, negation_type, value_of_constant_object, constant_expression_value, meanings_in_constant_expressions, constructor_count, denoted_type, denoted_group_fields, denoted_further_fields, element_type, outcome_value, group_constructor_count, multiplication_type, type_of_variable_or_constant, relation_type, signed_operand_type, type_after_selectors, type_of_expression, type_after_addends, type_of_factor, type_after_multipliers, type_of_simple_expression, type_of_term, value_type, prepend_fields, type_if_within_limits}
 use Rattle.ob0_language_types.specs.WellTyped.{Signature, TypeEnvironment, TypeMeanings, TypedParameter, WellTyped, bind_names, bind_typed_parameters, block_is_well_typed, declare_typed_variables, passes_type_check, bind_procedure, procedure_is_well_typed, procedures_and_body_are_well_typed, parameter_section_mode, typed_parameters}
 use Rattle.ob0_language_values.specs.Values.{FieldShapes, Shape, Value, array_shape, boolean_shape, elements, integer_shape, members, number, record_shape, truth}
-use Rattle.ob0_language_fields.specs.RenamedFields.{FieldRenaming, shape_after_selector, rename_selected_fields, rename_fields_in_block, rename_fields_in_formals, rename_fields_in_group, rename_fields_in_further_groups, rename_fields_in_procedure, rename_fields_in_procedure_list, rename_fields_in_parameter_section, rename_fields_in_further_parameter_sections, rename_fields_in_type, rename_fields_in_type_section, rename_fields_in_type_definitions, rename_fields_in_variable_section, rename_fields_in_variables, rename_fields_in_module}
 use Rattle.ob0_types_fields.specs.OwnerTables.{renaming_by_record}
-use Rattle.ob0_language_fields.specs.SingleFieldRenaming.{RecordFields, records_in_module}
-use Rattle.ob0_language_fields.proofs.AgreeingFields.{NamesAgree, RecordsAgree}
-use Rattle.ob0_language_fields.proofs.AgreeingModules.{module-alike}
 use Rattle.ob0_language_fields.proofs.MeaningsByName.{parameter_of}
-use Rattle.ob0_language_types.specs.Bindings.{declared_object}
 use Rattle.ob0_language_types.proofs.Conditions.{both_true, hold-true, of_some}
 use Rattle.ob0_language_types.proofs.TypedElsewhere.{then_some}
-use Rattle.ob0_types_fields.specs.FieldIdentifiers.{FieldsMatchGrammar, token_indexes, field_role_tokens}
-use Rattle.ob0_types_fields.specs.IdentifierOwners.{AgreesWithOwnerList, fields_with_owners, identifier_owners_in_resolution, meanings_by_token}
 use Rattle.ob0_tree.proofs.MappedIdentifiers.{beside_role, both, identifiers-mapped_tree}
-use Rattle.ob0_types_fields.proofs.OwnedModules.{agreeing_table_is_owner_table-holds}
-use Rattle.ob0_types_fields.proofs.OwnedTokens.{fields_have-owners, module-tokens, tokens, with_owners}
+use Rattle.ob0_language_fields.specs.MarkedFields.{UsedName, declares_field, mark_all_names, mark_module, marking_declarations, no_field, selects_field, type_after_selector, used_names}
+use Rattle.ob0_language_fields.specs.RenamedFields.{FieldRenaming, rename_declared_fields, rename_fields_in_block, rename_fields_in_module, rename_fields_in_procedure, rename_fields_in_procedure_list, rename_marked_fields, rename_selected_fields}
+use Rattle.ob0_language_fields.proofs.MarkedNames.{IsDeclaration, each_so, module-declares, plain_renamed}
+use Rattle.ob0_language_fields.proofs.KnownFields.{KnownName, RenamedAlike, module-alike}
+use Rattle.ob0_types_fields.specs.IdentifierOwners.{AgreesWithOwnerList, fields_with_owners, identifier_owners_in_resolution}
+use Rattle.ob0_types_fields.specs.FieldIdentifiers.{FieldsMatchGrammar, field_role_tokens, token_indexes}
+use Rattle.ob0_types_fields.proofs.OwnersByToken.{agreeing_table_is_owner_table-holds, fields_have-owners, module-tokens, tokens, with_owners}
 
 -- ---- a name that no field had, used for each field
 
@@ -88,8 +85,8 @@ mutual
 
   path-marked : (m : TypeMeanings Name) (s : Option Shape) (path : Tree Name (items selector)) → ids (rename_selected_fields every m s path) ≡ marked (ids path)
   path-marked m s end = refl
-  path-marked m s (more (field x) rest) = ap (λ z. (role.FieldName, again x) ∷ z) (path-marked m (shape_after_selector s (field x)) rest)
-  path-marked m s (more (index e) rest) = both mark_at (ids e) (ids rest) (expression-marked m e) (path-marked m (shape_after_selector s (index e)) rest)
+  path-marked m s (more (field x) rest) = ap (λ z. (role.FieldName, again x) ∷ z) (path-marked m (type_after_selector m s (field x)) rest)
+  path-marked m s (more (index e) rest) = both mark_at (ids e) (ids rest) (expression-marked m e) (path-marked m (type_after_selector m s (index e)) rest)
 
 further_arguments-marked : (m : TypeMeanings Name) (es : Tree Name (items argument_after_comma)) → ids (rename_selected_fields every m None es) ≡ marked (ids es)
 further_arguments-marked m end = refl
@@ -232,48 +229,48 @@ constant_section-plain env (one (declares_const_section cs)) after h = constants
 
 -- ---- written types: each declared field is rewritten
 
-further-marked : (k : ℕ) (ns : Tree Name (items name_after_comma)) → identifiers role.FieldName (map_names (λ x. x) (every (Some k)) ns) ≡ marked (identifiers role.FieldName ns)
+further-marked : (k : ℕ) (ns : Tree Name (items name_after_comma)) → identifiers role.FieldName (rename_marked_fields every (mark_all_names (declares_field k) ns)) ≡ marked (identifiers role.FieldName ns)
 further-marked k end = refl
 further-marked k (more (comma_then_name x) rest) = ap (λ z. (role.FieldName, again x) ∷ z) (further-marked k rest)
 
-names-marked : (k : ℕ) (ns : Tree Name names) → identifiers role.FieldName (map_names (λ x. x) (every (Some k)) ns) ≡ marked (identifiers role.FieldName ns)
+names-marked : (k : ℕ) (ns : Tree Name names) → identifiers role.FieldName (rename_marked_fields every (mark_all_names (declares_field k) ns)) ≡ marked (identifiers role.FieldName ns)
 names-marked k (listed x rest) = ap (λ z. (role.FieldName, again x) ∷ z) (further-marked k rest)
 
 mutual
   unfolding denoted_type
 
-  type-marked : (m : TypeMeanings Name) (k : ℕ) (t : Tree Name written_type) (s : Shape) → denoted_type m k t ≡ Some s → ids (rename_fields_in_type every k t) ≡ marked (ids t)
+  type-marked : (m : TypeMeanings Name) (k : ℕ) (t : Tree Name written_type) (s : Shape) → denoted_type m k t ≡ Some s → ids (rename_declared_fields every no_field k t) ≡ marked (ids t)
   type-marked m k (named_type x) s h = refl
   type-marked m k (array_type e t) s h =
       let (v, ev, h₁) = then_some (constant_expression_value m e) (λ v. option_and_then (λ n. option_and_then (λ u. type_if_within_limits (array_shape k n u)) (denoted_type m (suc k) t)) (array_length_from_value v)) s h in
       let (n, en, h₂) = then_some (array_length_from_value v) (λ n. option_and_then (λ u. type_if_within_limits (array_shape k n u)) (denoted_type m (suc k) t)) s h₁ in
       let (u, eu, h₃) = then_some (denoted_type m (suc k) t) (λ u. type_if_within_limits (array_shape k n u)) s h₂ in
-      both mark_at (ids e) (ids t) (constant-plain m e v ev) (type-marked m (suc k) t u eu)
+      both mark_at (ids e) (ids t) (ap ids (plain_renamed every e) ∙ constant-plain m e v ev) (type-marked m (suc k) t u eu)
   type-marked m k (record_type g rest) s h =
       let (later, el, h₁) = then_some (denoted_further_fields m (suc k + group_constructor_count g) rest) (λ later. option_and_then (λ fs. type_if_within_limits (record_shape k fs)) (denoted_group_fields m (suc k) later g)) s h in
       let (fs, ef, h₂) = then_some (denoted_group_fields m (suc k) later g) (λ fs. type_if_within_limits (record_shape k fs)) s h₁ in
       both mark_at (ids g) (ids rest) (group-marked m k (suc k) later g fs ef) (groups-marked m k (suc k + group_constructor_count g) rest later el)
 
-  group-marked : (m : TypeMeanings Name) (r k : ℕ) (later : FieldShapes) (g : Tree Name fields) (fs : FieldShapes) → denoted_group_fields m k later g ≡ Some fs → ids (rename_fields_in_group every r k g) ≡ marked (ids g)
+  group-marked : (m : TypeMeanings Name) (r k : ℕ) (later : FieldShapes) (g : Tree Name fields) (fs : FieldShapes) → denoted_group_fields m k later g ≡ Some fs → ids (rename_declared_fields every (declares_field r) k g) ≡ marked (ids g)
   group-marked m r k later no_fields fs h = refl
   group-marked m r k later (some_fields ns t) fs h =
       let (s, es, h₁) = then_some (denoted_type m k t) (λ s. Some (prepend_fields (map m.written (names_in_list ns)) s later)) fs h in
       both mark_at (identifiers role.FieldName ns) (ids t) (names-marked r ns) (type-marked m k t s es)
 
-  groups-marked : (m : TypeMeanings Name) (r k : ℕ) (gs : Tree Name (items fields_after_semicolon)) (fs : FieldShapes) → denoted_further_fields m k gs ≡ Some fs → ids (rename_fields_in_further_groups every r k gs) ≡ marked (ids gs)
+  groups-marked : (m : TypeMeanings Name) (r k : ℕ) (gs : Tree Name (items fields_after_semicolon)) (fs : FieldShapes) → denoted_further_fields m k gs ≡ Some fs → ids (rename_declared_fields every (declares_field r) k gs) ≡ marked (ids gs)
   groups-marked m r k end fs h = refl
   groups-marked m r k (more (semicolon_then_fields g) rest) fs h =
       let (later, el, h₁) = then_some (denoted_further_fields m (k + group_constructor_count g) rest) (λ later. denoted_group_fields m k later g) fs h in
       both mark_at (ids g) (ids rest) (group-marked m r k later g fs h₁) (groups-marked m r (k + group_constructor_count g) rest later el)
 
-types-marked : (env : TypeEnvironment Name) (k : ℕ) (ds : Tree Name (items type_definition)) (after : TypeEnvironment Name) → declare_types naming_by_spelling env k ds ≡ Some after → ids (rename_fields_in_type_definitions every k ds) ≡ marked (ids ds)
+types-marked : (env : TypeEnvironment Name) (k : ℕ) (ds : Tree Name (items type_definition)) (after : TypeEnvironment Name) → declare_types naming_by_spelling env k ds ≡ Some after → ids (rename_declared_fields every no_field k ds) ≡ marked (ids ds)
 unfolding declare_types
 types-marked env k end after h = refl
 types-marked env k (more (declares_type x u) ds) after h =
     let (s, es, h₁) = then_some (denoted_type (meanings naming_by_spelling env) k u) (λ s. declare_types naming_by_spelling ((x, a_type s) ∷ env) (k + constructor_count u) ds) after h in
     both mark_at ((role.DeclaringName, x) ∷ ids u) (ids ds) (ap (λ z. (role.DeclaringName, x) ∷ z) (type-marked (meanings naming_by_spelling env) k u s es)) (types-marked ((x, a_type s) ∷ env) (k + constructor_count u) ds after h₁)
 
-type_section-marked : (env : TypeEnvironment Name) (k : ℕ) (ts : Tree Name (maybe type_definitions)) (after : TypeEnvironment Name) → declare_types naming_by_spelling env k (section_types ts) ≡ Some after → ids (rename_fields_in_type_section every k ts) ≡ marked (ids ts)
+type_section-marked : (env : TypeEnvironment Name) (k : ℕ) (ts : Tree Name (maybe type_definitions)) (after : TypeEnvironment Name) → declare_types naming_by_spelling env k (section_types ts) ≡ Some after → ids (rename_declared_fields every no_field k ts) ≡ marked (ids ts)
 type_section-marked env k none after h = refl
 type_section-marked env k (one (declares_type_section ts)) after h = types-marked env k ts after h
 
@@ -284,23 +281,23 @@ further_declared (more (comma_then_name x) rest) = ap (λ z. (role.DeclaringName
 names_declared : (ns : Tree Name names) → ids ns ≡ marked (ids ns)
 names_declared (listed x rest) = ap (λ z. (role.DeclaringName, x) ∷ z) (further_declared rest)
 
-variables-marked : (env : TypeEnvironment Name) (k : ℕ) (gs : Tree Name (items variable)) (after : TypeEnvironment Name) → declare_typed_variables naming_by_spelling k gs env ≡ Some after → ids (rename_fields_in_variables every k gs) ≡ marked (ids gs)
+variables-marked : (env : TypeEnvironment Name) (k : ℕ) (gs : Tree Name (items variable)) (after : TypeEnvironment Name) → declare_typed_variables naming_by_spelling k gs env ≡ Some after → ids (rename_declared_fields every no_field k gs) ≡ marked (ids gs)
 unfolding declare_typed_variables
 variables-marked env k end after h = refl
 variables-marked env k (more (declares_variable ns u) gs) after h =
     let (s, es, h₁) = then_some (denoted_type (meanings naming_by_spelling env) k u) (λ s. declare_typed_variables naming_by_spelling (k + constructor_count u) gs (bind_names (names_in_list ns) (a_variable s) env)) after h in
-    both mark_at (ids ns ++ ids u) (ids gs) (both mark_at (ids ns) (ids u) (names_declared ns) (type-marked (meanings naming_by_spelling env) k u s es))
+    both mark_at (ids ns ++ ids u) (ids gs) (both mark_at (ids ns) (ids u) (ap ids (plain_renamed every ns) ∙ names_declared ns) (type-marked (meanings naming_by_spelling env) k u s es))
     (variables-marked (bind_names (names_in_list ns) (a_variable s) env) (k + constructor_count u) gs after h₁)
 
-variable_section-marked : (env : TypeEnvironment Name) (k : ℕ) (vs : Tree Name (maybe variables)) (after : TypeEnvironment Name) → declare_typed_variables naming_by_spelling k (section_variables vs) env ≡ Some after → ids (rename_fields_in_variable_section every k vs) ≡ marked (ids vs)
+variable_section-marked : (env : TypeEnvironment Name) (k : ℕ) (vs : Tree Name (maybe variables)) (after : TypeEnvironment Name) → declare_typed_variables naming_by_spelling k (section_variables vs) env ≡ Some after → ids (rename_declared_fields every no_field k vs) ≡ marked (ids vs)
 variable_section-marked env k none after h = refl
 variable_section-marked env k (one (declares_var_section vs)) after h = variables-marked env k vs after h
 
-section-marked : (m : TypeMeanings Name) (k : ℕ) (f : Tree Name section) (s : Shape) → denoted_type m k (parameter_section_type f) ≡ Some s → ids (rename_fields_in_parameter_section every k f) ≡ marked (ids f)
-section-marked m k (value_section ns u) s h = both mark_at (ids ns) (ids u) (names_declared ns) (type-marked m k u s h)
-section-marked m k (variable_section ns u) s h = both mark_at (ids ns) (ids u) (names_declared ns) (type-marked m k u s h)
+section-marked : (m : TypeMeanings Name) (k : ℕ) (f : Tree Name section) (s : Shape) → denoted_type m k (parameter_section_type f) ≡ Some s → ids (rename_declared_fields every no_field k f) ≡ marked (ids f)
+section-marked m k (value_section ns u) s h = both mark_at (ids ns) (ids u) (ap ids (plain_renamed every ns) ∙ names_declared ns) (type-marked m k u s h)
+section-marked m k (variable_section ns u) s h = both mark_at (ids ns) (ids u) (ap ids (plain_renamed every ns) ∙ names_declared ns) (type-marked m k u s h)
 
-sections-marked : (env : TypeEnvironment Name) (k : ℕ) (fs : Tree Name (items section_after_semicolon)) (ps : List (TypedParameter Name)) → typed_parameters naming_by_spelling env k fs ≡ Some ps → ids (rename_fields_in_further_parameter_sections every k fs) ≡ marked (ids fs)
+sections-marked : (env : TypeEnvironment Name) (k : ℕ) (fs : Tree Name (items section_after_semicolon)) (ps : List (TypedParameter Name)) → typed_parameters naming_by_spelling env k fs ≡ Some ps → ids (rename_declared_fields every no_field k fs) ≡ marked (ids fs)
 unfolding typed_parameters
 sections-marked env k end ps h = refl
 sections-marked env k (more (semicolon_then_section f) fs) ps h =
@@ -309,7 +306,7 @@ sections-marked env k (more (semicolon_then_section f) fs) ps h =
     both mark_at (ids f) (ids fs) (section-marked (meanings naming_by_spelling env) k f s es)
     (sections-marked (bind_names (parameter_section_names f) (a_variable s) env) (k + constructor_count (parameter_section_type f)) fs rest er)
 
-formals-marked : (env : TypeEnvironment Name) (k : ℕ) (fs : Tree Name (maybe formals)) (ps : List (TypedParameter Name)) → typed_parameters naming_by_spelling env k (formal_parameter_sections fs) ≡ Some ps → ids (rename_fields_in_formals every k fs) ≡ marked (ids fs)
+formals-marked : (env : TypeEnvironment Name) (k : ℕ) (fs : Tree Name (maybe formals)) (ps : List (TypedParameter Name)) → typed_parameters naming_by_spelling env k (formal_parameter_sections fs) ≡ Some ps → ids (rename_declared_fields every no_field k fs) ≡ marked (ids fs)
 formals-marked env k none ps h = refl
 formals-marked env k (one no_formals) ps h = refl
 formals-marked env k (one (some_formals f fs)) ps h = sections-marked env k (more (semicolon_then_section f) fs) ps h
@@ -327,7 +324,7 @@ mutual
       let (consts, ec, e₄) = then_some (declare_constants naming_by_spelling env (section_constants cs)) (λ env. declare_types naming_by_spelling env k (section_types ts)) first ef in
       let later = subst (λ inner. ids (rename_fields_in_procedure_list every inner (constructor_count_before_procedures k b) ps) ≡ marked (ids ps)) (sym (ap (λ o. unwrap_or o env) e₁)) (procedures-marked inner (constructor_count_before_procedures k b) statements ps e₂) in
       both mark_at (ids cs ++ (ids ts ++ (ids vs ++ ids ps))) (ids statements)
-      (both mark_at (ids cs) (ids ts ++ (ids vs ++ ids ps)) (constant_section-plain env cs consts ec)
+      (both mark_at (ids cs) (ids ts ++ (ids vs ++ ids ps)) (ap ids (plain_renamed every cs) ∙ constant_section-plain env cs consts ec)
       (both mark_at (ids ts) (ids vs ++ ids ps) (type_section-marked consts k ts first e₄)
       (both mark_at (ids vs) (ids ps) (variable_section-marked first (constructor_count_before_variables k b) vs inner e₃) later)))
       (body-marked _ statements)
@@ -357,13 +354,10 @@ module-marked (forms_module x b closing) h = ap (λ z. (role.ModuleName, x) ∷ 
 abbrev by_record : FieldRenaming
 by_record = renaming_by_record (λ k x. again x)
 
-alike-names : (k : ℕ) (xs : List Name) → NamesAgree every by_record k xs
-alike-names k [] = tt
-alike-names k (x ∷ xs) = (refl, alike-names k xs)
-
-alike-records : (ts : List RecordFields) → RecordsAgree every by_record ts
-alike-records [] = tt
-alike-records (t ∷ ts) = (alike-names t.ordinal t.declared, alike-records ts)
+alike-used : (x : UsedName Name) → IsDeclaration x → KnownName (RenamedAlike every by_record) x
+alike-used (x, no_field) h = tt
+alike-used (x, declares_field k) h = refl
+alike-used (x, selects_field s) h = absurd h
 
 -- ---- by token
 
@@ -394,19 +388,19 @@ matched x role.ModuleName (Some k) h = longer x h
 
 -- The identifiers with an owner are exactly the identifiers in the places of fields, if each identifier has an owner
 -- exactly if its role says that it is a field.
-listed_fields : (source : TextWithTokens) (table : ℕ → Option ℕ) (xs : List (ℕ × Option ℕ)) (ys : List (Role × ℕ)) → tokens xs ≡ names_without_roles ys → AgreesWithOwnerList table xs
+listed_fields : (source : TextWithTokens) (table : ℕ → Option ℕ) (xs : List (Role × (ℕ × Option ℕ))) (ys : List (Role × ℕ)) → tokens xs ≡ names_without_roles ys → AgreesWithOwnerList table xs
     → map mark_at (map (beside_role (token_text_at source)) ys) ≡ map (beside_role (owner_writes source table)) ys → token_indexes (fields_with_owners xs) ≡ field_role_tokens ys
 listed_fields source table [] [] e has h = refl
 listed_fields source table [] (y ∷ ys) e has h = absurd (cc)
 listed_fields source table (x ∷ xs) [] e has h = absurd (cc)
-listed_fields source table ((i, o) ∷ xs) ((r, j) ∷ ys) e has h =
+listed_fields source table ((q, (i, o)) ∷ xs) ((r, j) ∷ ys) e has h =
     let same : i ≡ j = (heads e).0 in
     let identifier_owners_in_tree : table j ≡ o = ap table (sym same) ∙ has.0 in
     let written : mark r (token_text_at source j) ≡ owner_writes source table j = ap (λ z. z.1) (heads h).0 in
     by_role r o same (matched (token_text_at source j) r o (written ∙ ap (λ o. renaming_by_record (λ k x. again x) o (token_text_at source j)) identifier_owners_in_tree))
     (listed_fields source table xs ys (heads e).1 has.1 (heads h).1)
   where
-    by_role : (r : Role) (o : Option ℕ) → i ≡ j → Matches r o → token_indexes (fields_with_owners xs) ≡ field_role_tokens ys → token_indexes (fields_with_owners ((i, o) ∷ xs)) ≡ field_role_tokens ((r, j) ∷ ys)
+    by_role : (r : Role) (o : Option ℕ) → i ≡ j → Matches r o → token_indexes (fields_with_owners xs) ≡ field_role_tokens ys → token_indexes (fields_with_owners ((q, (i, o)) ∷ xs)) ≡ field_role_tokens ((r, j) ∷ ys)
     by_role role.FieldName (Some k) same m later = λ z. same z ∷ later z
     by_role role.FieldName None same m later = absurd m
     by_role role.DeclaringName None same m later = later
@@ -426,8 +420,8 @@ fields_match_grammar-holds r named fits =
     let has : AgreesWithOwnerList (ordinal_in owners) (identifier_owners_in_resolution r) = fields_have-owners r named in
     let by_table = agreeing_table_is_owner_table-holds r owners named fits has (λ k x. again x) in
     let written : marked (ids (named_tree_of m)) ≡ ids (mapped_tree (owner_writes m.source (ordinal_in owners)) (token_value_at m.source) (tree_of m)) =
-    sym (module-marked (named_tree_of m) fits.1) ∙ (ap ids (module-alike every by_record (named_tree_of m) (alike-records (records_in_module (named_tree_of m))) fits.1) ∙ ap ids by_table) in
+    sym (module-marked (named_tree_of m) fits.1) ∙ (ap ids (module-alike every by_record (named_tree_of m) (each_so alike-used (used_names (mark_module marking_declarations tt (named_tree_of m))) (module-declares (named_tree_of m))) fits.1) ∙ ap ids by_table) in
     listed_fields m.source (ordinal_in owners) (identifier_owners_in_resolution r) (identifiers role.DeclaringName (tree_of m))
-    (module-tokens (meanings_by_token (declared_object (named_tree_of m)) r) (tree_of m)) has
+    (module-tokens r) has
     (ap marked (sym (identifiers-mapped_tree (token_text_at m.source) (token_value_at m.source) role.DeclaringName (tree_of m)))
     ∙ (written ∙ identifiers-mapped_tree (owner_writes m.source (ordinal_in owners)) (token_value_at m.source) role.DeclaringName (tree_of m)))

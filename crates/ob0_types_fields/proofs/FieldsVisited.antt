@@ -1,5 +1,5 @@
 -- What the visitors of fields have found once they have visited the fields of a list.
-use Rattle.std.proofs.Common.{◌≡◌, ℕ, suc, ◌+◌, ◌-◌, ◌^◌, ◌<◌, ◌≤◌, ◌==◌, ◌&&◌, Bool, true, false, if◌then◌else◌, List, [], ◌∷◌, ◌++◌, length, min, Option, Some, None, is_none, option_map, refl, sym, ap, ◌∙◌, arith, append-nil, append_assoc}
+use Rattle.std.proofs.Common.{◌≡◌, ℕ, ◌+◌, ◌-◌, ◌^◌, ◌<◌, ◌≤◌, ◌==◌, ◌&&◌, Bool, true, false, if◌then◌else◌, List, [], ◌∷◌, ◌++◌, length, min, Option, Some, None, option_map, refl, sym, ap, ◌∙◌, arith, append-nil, append_assoc}
 use Rattle.std.proofs.Math.Nat.{min-eq_left}
 use Rattle.std.specs.List.{position_from}
 use Rattle.ob0_scan.specs.TextWithTokens.{TextWithTokens}
@@ -10,9 +10,9 @@ use Rattle.ob0_types_fields.specs.declared.field_visitors.DeclaredField.{Declare
 use Rattle.ob0_types_fields.specs.declared.field_visitors.DeclaredFieldSearch.{DeclaredFieldSearch}
 use Rattle.ob0_types_fields.specs.declared.field_visitors.FieldSearch.{FieldSearch}
 use Rattle.ob0_types_fields.specs.declared.field_visitors.NamedField.{NamedField}
-use Rattle.ob0_types_fields.specs.FieldIdentifiers.{belongs_to_field, field_at_token, field_tokens_of_record, first_token, tokens_of_field}
-use Rattle.ob0_types_fields.specs.FieldVisitors.{FieldTokenCollection, collection_after_field, declared_index, declared_search_after_field, declared_search_after_token, declared_token, search_after_field}
+use Rattle.ob0_types_fields.specs.FieldVisitors.{collection_after_field, declared_index, declared_search_after_field, declared_search_after_token, declared_token, search_after_field}
 use Rattle.ob0_types_fields.specs.FieldWalks.{state_after_fields}
+use Rattle.ob0_types_fields.specs.FieldIdentifiers.{belongs_to_field, field_at_token, field_tokens_of_record, first_token, tokens_of_field}
 
 -- ---- the search for the field at a token
 

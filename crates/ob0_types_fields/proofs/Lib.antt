@@ -1,13 +1,11 @@
 pub mod ByToken
-pub mod OwnedStatements
-pub mod OwnedTypes
+pub mod MarksMapped
 pub mod DeclaredInOrder
-pub mod Selecting
-pub mod OwnedModules
-pub mod OwnedTokens
+pub mod MarksByToken
 pub mod FieldLookups
+pub mod OwnersByToken
 pub mod SingleFactorFields
-pub mod WalkFindsAllFields
+pub mod WalkedFields
 pub mod FieldIdentifierList
 pub mod DuplicateFields
 pub mod FieldsAreDeclared

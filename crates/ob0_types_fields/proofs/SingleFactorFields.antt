@@ -3,8 +3,8 @@ use Rattle.std.proofs.Common.{◌≡◌, ℕ, ◌==◌, ◌++◌, Bool, true, Li
 use Rattle.ob0_tree.specs.Tree.{Tree, compares, end, factor, none, product, sum}
 use Rattle.ob0_language_types.specs.Expressions.{Meanings}
 use Rattle.ob0_language_types.specs.WellTyped.{Signature}
-use Rattle.ob0_types_fields.specs.IdentifierOwners.{fields_in_tree}
 use Rattle.ob0_language_values.specs.Values.{Shape}
+use Rattle.ob0_types_fields.specs.IdentifierOwners.{fields_in_tree}
 
 -- A list is empty if its length is 0, and not empty otherwise.
 pub is_nothing : {A : Type 0} (xs : List A) (n : ℕ) (b : Bool) → n ≡ length xs → b ≡ (n == 0) → b ≡ true → xs ≡ []

@@ -29,11 +29,11 @@ use Rattle.ob0_types_table.specs.declared.declaration_table.FieldId.{FieldId}
 use Rattle.ob0_language_values.specs.Values.{FieldShapes, Shape, array_shape, integer_shape, next_field_shape, no_field_shape, record_shape}
 use Rattle.ob0_types_fields.specs.FieldTypes.{FieldsHaveTypes, TypedField, constructed_types, typed_field_with_name, first_listed_name, typed_field}
 use Rattle.ob0_types_fields.specs.declared.field_identifier.FieldIdentifier.{FieldIdentifier}
-use Rattle.ob0_types_fields.specs.FieldIdentifiers.{declared_fields, fields_declared_in_block, fields_declared_in_procedure, fields_declared_in_procedures, field_declaring_token, field_identifiers, first_token, belongs_to_field, tokens_of_field}
-use Rattle.ob0_types_fields.specs.IdentifierOwners.{fields_in_group, fields_in_groups, fields_at_tokens, fields_in_parameter_sections, fields_in_type, fields_in_types, fields_in_variables}
 use Rattle.ob0_types_fields.proofs.DeclaredTypes.{BlockIsTyped, Denotes, FormalsAreTyped, ProcedureIsTyped, ProceduresAreTyped, TypesAreTyped, VariablesAreTyped, meaning, module-typed}
 use Rattle.ob0_types_fields.proofs.FieldLabels.{AllWritten, BlockPlain, GroupPlain, GroupsPlain, IsWritten, ProcedurePlain, ProceduresPlain, SectionsPlain, TypePlain, TypesPlain, VariablesPlain, numbered-plain}
 use Rattle.ob0_types_fields.proofs.FieldsAreDeclared.{fields_are_declared-holds}
+use Rattle.ob0_types_fields.specs.IdentifierOwners.{fields_at_tokens, fields_in_group, fields_in_groups, fields_in_parameter_sections, fields_in_type, fields_in_types, fields_in_variables}
+use Rattle.ob0_types_fields.specs.FieldIdentifiers.{belongs_to_field, declared_fields, field_declaring_token, field_identifiers, fields_declared_in_block, fields_declared_in_procedure, fields_declared_in_procedures, first_token, tokens_of_field}
 
 -- ---- the fields of the record itself
 

@@ -17,8 +17,8 @@ use Rattle.ob0_scope_table.specs.Spans.{is_in_span_or_at_end}
 use Rattle.ob0_language_types.specs.Declarations.{constructor_count_before_procedure_block, constructor_count_before_variables, constructor_count_before_procedures, procedure_constructor_count}
 use Rattle.ob0_language_types.specs.WellTyped.{WellTyped}
 use Rattle.ob0_types_fields.specs.declared.field_identifier.FieldIdentifier.{FieldIdentifier}
-use Rattle.ob0_types_fields.specs.IdentifierOwners.{fields_with_owners, fields_in_parameter_sections, fields_in_types, fields_in_variables, identifier_owners_in_resolution}
-use Rattle.ob0_language_fields.specs.SingleFieldRenaming.{module_with_renamed_field, is_duplicate_field_name}
+use Rattle.ob0_language_fields.specs.SingleFieldRenaming.{is_duplicate_field_name, module_with_renamed_field}
+use Rattle.ob0_types_fields.specs.IdentifierOwners.{fields_in_parameter_sections, fields_in_types, fields_in_variables, fields_with_owners, identifier_owners_in_resolution}
 
 -- returns the identifiers in a module that declare or select a field, in text order
 abbrev pub field_identifiers : Resolution → List FieldIdentifier

@@ -17,8 +17,8 @@ use Rattle.ob0_types_table.specs.FieldPlaces.{selected_field}
 use Rattle.ob0_types_table.specs.declared.declaration_table.FieldId.{FieldId}
 use Rattle.ob0_language_values.specs.Values.{Shape, integer_shape}
 use Rattle.ob0_types_fields.specs.declared.field_identifier.FieldIdentifier.{FieldIdentifier}
-use Rattle.ob0_types_fields.specs.FieldIdentifiers.{field_identifiers}
 use Rattle.ob0_types_fields.specs.IdentifierOwners.{meanings_by_token}
+use Rattle.ob0_types_fields.specs.FieldIdentifiers.{field_identifiers}
 
 -- returns the first name of a list of names
 abbrev pub first_listed_name : {N : Type 0} → Tree N names → N

@@ -1,7 +1,7 @@
 -- The states of the visitors of field identifiers: the searches for a field, and the collection of
 -- a field's tokens.
 -- Rule: none; used in contracts of private functions.
-use Rattle.std.specs.Prelude.{ℕ, ◌+◌, ◌-◌, ◌^◌, ◌==◌, ◌&&◌, ◌∷◌, ◌++◌, List, [], Option, Some, is_none, min, if◌then◌else◌}
+use Rattle.std.specs.Prelude.{ℕ, ◌+◌, ◌-◌, ◌^◌, ◌==◌, ◌&&◌, ◌∷◌, ◌++◌, List, [], Some, is_none, min, if◌then◌else◌}
 use Rattle.ob0_scan.specs.TextWithTokens.{TextWithTokens}
 use Rattle.ob0_tree.specs.TokenIndexLeaves.{token_text_at}
 use Rattle.ob0_language_names.specs.Names.{Name, same_name}

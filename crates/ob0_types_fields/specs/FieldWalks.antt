@@ -11,7 +11,7 @@ use Rattle.ob0_language_types.specs.WellTyped.{Signature}
 use Rattle.ob0_language_values.specs.Values.{Shape}
 use Rattle.ob0_types_fields.specs.declared.field_identifier.FieldIdentifier.{FieldIdentifier}
 use Rattle.ob0_types_fields.specs.declared.field_walk.FieldWalk.{FieldWalk}
-use Rattle.ob0_types_fields.specs.IdentifierOwners.{field_if_owned, fields_in_tree, owner, meanings_by_token}
+use Rattle.ob0_types_fields.specs.IdentifierOwners.{field_if_owned, fields_in_tree, meanings_by_token, owner}
 
 -- returns the meanings of names according to the walk's table of declarations; each name is given
 -- by the index of its token

@@ -20,7 +20,8 @@ ghost use Rattle.ob0_types_table.specs.DeclarationTables.{shapes_of};
 ghost use Rattle.ob0_types_table.specs.DeclarationTableView.{type_shape};
 ghost use Rattle.ob0_language_types.specs.Typing.{element_type, field_type, type_of_variable_or_constant};
 ghost use Rattle.ob0_language_values.specs.Values.{integer_shape};
-ghost use Rattle.ob0_types_fields.specs.IdentifierOwners.{field_if_owned, fields_in_tree, fields_in_block, fields_in_module, fields_in_procedure, owner, type_after_selector};
+ghost use Rattle.ob0_language_fields.specs.MarkedFields.{type_after_selector};
+ghost use Rattle.ob0_types_fields.specs.IdentifierOwners.{field_if_owned, fields_in_tree, fields_in_block, fields_in_module, fields_in_procedure, owner};
 ghost use Rattle.ob0_types_fields.specs.FieldWalks.{VisitsDeclarations, fields_in_selector, field_walk_meanings, record_shape_in_walk, state_after_fields};
 
 use crate::field_identifier::FieldIdentifier;

@@ -6,6 +6,7 @@
 use Rattle.std.proofs.Common.{◌≡◌, ◌≢◌, ◌∙◌, ℕ, suc, ◌+◌, ◌<◌, ◌≤◌, Option, Some, None, List, [], ◌∷◌, map, length, replicate, set, refl, sym, ap, subst, arith, le_refl, get_or-set_other, get_or-set_same}
 use Rattle.std.proofs.Math.ListN.{length-set}
 use Rattle.std.proofs.lemmas.List.{get_or-replicate, length-replicate}
+use Rattle.ob0_tree.specs.declared.tree.Role.{Role}
 use Rattle.ob0_tree.specs.declared.tree.Role.TheVariants as role
 use Rattle.ob0_tree.specs.Terminals.{Terminal, Name, Number, WordOrSymbol, EndOfText, mapped_terminal}
 use Rattle.ob0_tree.specs.IdentifierIndexes.{AreAscendingWithin, identifier_names}
@@ -21,30 +22,29 @@ use Rattle.ob0_language_fields.specs.RenamedFields.{rename_fields_in_module}
 use Rattle.ob0_types_fields.specs.OwnerTables.{IsOwnerTable, renaming_by_record}
 use Rattle.ob0_types_fields.specs.FieldIdentifiers.{field_identifiers}
 use Rattle.ob0_types_fields.specs.IdentifierOwners.{AgreesWithOwnerList, fields_with_owners, identifier_owners_in_resolution, table_with_owners}
-use Rattle.ob0_types_fields.proofs.OwnedModules.{agreeing_table_is_owner_table-holds}
-use Rattle.ob0_types_fields.proofs.OwnedTokens.{module-tokens, tokens}
+use Rattle.ob0_types_fields.proofs.OwnersByToken.{agreeing_table_is_owner_table-holds, module-tokens, tokens}
 use Rattle.ob0_world_rules.proofs.OneModule.{Same, one_named_tree}
 
 -- ---- the table of a module's fields
 
 -- Writing fields into a table doesn't change its entries at smaller tokens.
-kept_below : (xs : List (ℕ × Option ℕ)) (table : List (Option ℕ)) (low high i : ℕ) → AreAscendingWithin low (tokens xs) high → i < low → ordinal_in (table_with_owners table (fields_with_owners xs)) i ≡ ordinal_in table i
+kept_below : (xs : List (Role × (ℕ × Option ℕ))) (table : List (Option ℕ)) (low high i : ℕ) → AreAscendingWithin low (tokens xs) high → i < low → ordinal_in (table_with_owners table (fields_with_owners xs)) i ≡ ordinal_in table i
 kept_below [] table low high i ascend below = refl
-kept_below ((x, None) ∷ xs) table low high i ascend below = kept_below xs table (x + 1) high i ascend.1 (omega (arith, ascend.0, below))
-kept_below ((x, Some k) ∷ xs) table low high i ascend below =
+kept_below ((_, (x, None)) ∷ xs) table low high i ascend below = kept_below xs table (x + 1) high i ascend.1 (omega (arith, ascend.0, below))
+kept_below ((_, (x, Some k)) ∷ xs) table low high i ascend below =
     let other : i ≢ x = omega (arith, ascend.0, below) in
     kept_below xs (set table x (Some k)) (x + 1) high i ascend.1 (omega (arith, ascend.0, below)) ∙ get_or-set_other table x i (Some k) None other
 
 -- Writing the fields of ascending tokens into a table that has none of them gives each token its owner.
-has_owners : (xs : List (ℕ × Option ℕ)) (table : List (Option ℕ)) (low high : ℕ) → AreAscendingWithin low (tokens xs) high → high ≤ length table → ((i : ℕ) → low ≤ i → i < high → ordinal_in table i ≡ None)
+has_owners : (xs : List (Role × (ℕ × Option ℕ))) (table : List (Option ℕ)) (low high : ℕ) → AreAscendingWithin low (tokens xs) high → high ≤ length table → ((i : ℕ) → low ≤ i → i < high → ordinal_in table i ≡ None)
     → AgreesWithOwnerList (ordinal_in (table_with_owners table (fields_with_owners xs))) xs
 has_owners [] table low high ascend within vacant = tt
-has_owners ((x, None) ∷ xs) table low high ascend within vacant =
+has_owners ((_, (x, None)) ∷ xs) table low high ascend within vacant =
     let last = ascending_bounds (x + 1) (tokens xs) high ascend.1 in (
       kept_below xs table (x + 1) high x ascend.1 (omega arith) ∙ vacant x ascend.0 (omega (arith, last)),
       has_owners xs table (x + 1) high ascend.1 within (λ i l u. vacant i (omega (arith, l, ascend.0)) u),
     )
-has_owners ((x, Some k) ∷ xs) table low high ascend within vacant =
+has_owners ((_, (x, Some k)) ∷ xs) table low high ascend within vacant =
     let next : List (Option ℕ) = set table x (Some k) in
     let last = ascending_bounds (x + 1) (tokens xs) high ascend.1 in
     let inside : x < length table = omega (arith, last, within) in
@@ -61,7 +61,7 @@ module _ (r : Resolution) (well : IsWellTyped r) where
   table_has =
       let n : ℕ = length r.module_read.source.tokens in
       let nothing : Option ℕ = None in
-      let ascend = subst (λ ts. AreAscendingWithin 0 ts n) (sym (module-tokens _ (tree_of r.module_read))) (leaves_ascend r.module_read well.resolved.parsed) in
+      let ascend = subst (λ ts. AreAscendingWithin 0 ts n) (sym (module-tokens r)) (leaves_ascend r.module_read well.resolved.parsed) in
       has_owners (identifier_owners_in_resolution r) (replicate n nothing) 0 n ascend (subst (λ z. n ≤ z) (sym (length-replicate n nothing)) (le_refl n)) (λ i l u. get_or-replicate n i nothing None u)
 
   table_owns : IsOwnerTable r.module_read (table_of r)
@@ -104,25 +104,29 @@ tail_is h = cc
 abbrev writes : (ℕ → written.Name) → List (Option ℕ) → ℕ → written.Name
 writes text table i = renaming_by_record marked_by (ordinal_in table i) (text i)
 
-same_owned : (text : ℕ → written.Name) (a b : List (Option ℕ)) (xs ys : List (ℕ × Option ℕ)) → AgreesWithOwnerList (ordinal_in a) xs → AgreesWithOwnerList (ordinal_in b) ys → tokens xs ≡ tokens ys
-    → map (writes text a) (tokens xs) ≡ map (writes text b) (tokens ys) → xs ≡ ys
+-- The roles of identifiers don't matter for the fields among them.
+one_more : (q s : Role) (y : ℕ) (o : Option ℕ) (xs ys : List (Role × (ℕ × Option ℕ))) → fields_with_owners xs ≡ fields_with_owners ys → fields_with_owners ((q, (y, o)) ∷ xs) ≡ fields_with_owners ((s, (y, o)) ∷ ys)
+one_more q s y None xs ys h = h
+one_more q s y (Some k) xs ys h = ap (λ z. record { token = y; owner = k } ∷ z) h
+
+same_owned : (text : ℕ → written.Name) (a b : List (Option ℕ)) (xs ys : List (Role × (ℕ × Option ℕ))) → AgreesWithOwnerList (ordinal_in a) xs → AgreesWithOwnerList (ordinal_in b) ys → tokens xs ≡ tokens ys
+    → map (writes text a) (tokens xs) ≡ map (writes text b) (tokens ys) → fields_with_owners xs ≡ fields_with_owners ys
 same_owned text a b [] [] h k same wrote = refl
-same_owned text a b [] ((y, l) ∷ ys) h k same wrote = absurd (cc)
-same_owned text a b ((x, o) ∷ xs) [] h k same wrote = absurd (cc)
-same_owned text a b ((x, o) ∷ xs) ((y, l) ∷ ys) h k same wrote =
+same_owned text a b [] (y ∷ ys) h k same wrote = absurd (cc)
+same_owned text a b (x ∷ xs) [] h k same wrote = absurd (cc)
+same_owned text a b ((q, (x, o)) ∷ xs) ((s, (y, l)) ∷ ys) h k same wrote =
     let token : x ≡ y = head_is same in
     let here : writes text a x ≡ writes text b x = head_is wrote ∙ ap (writes text b) (sym token) in
     let table : ordinal_in a x ≡ ordinal_in b x = one_owner (ordinal_in a x) (ordinal_in b x) (text x) here in
     let owner : o ≡ l = sym h.0 ∙ (table ∙ (ap (ordinal_in b) token ∙ k.0)) in
-    let rest : xs ≡ ys = same_owned text a b xs ys h.1 k.1 (tail_is same) (tail_is wrote) in
-    λ i. (token i, owner i) ∷ rest i
+    (λ i. fields_with_owners ((q, (token i, owner i)) ∷ xs)) ∙ one_more q s y l xs ys (same_owned text a b xs ys h.1 k.1 (tail_is same) (tail_is wrote))
 
 module _ (r q : Resolution) (well : IsWellTyped r) (also : IsWellTyped q) (e : Same r.module_read q.module_read) where
   tokens_of : tokens (identifier_owners_in_resolution r) ≡ identifier_names (tree_of r.module_read)
-  tokens_of = module-tokens _ (tree_of r.module_read)
+  tokens_of = module-tokens r
 
   tokens_too : tokens (identifier_owners_in_resolution q) ≡ identifier_names (tree_of q.module_read)
-  tokens_too = module-tokens _ (tree_of q.module_read)
+  tokens_too = module-tokens q
 
   -- The module with its fields so marked is the same for both readings.
   same_writing : map (writes (token_text_at r.module_read.source) (table_of r)) (identifier_names (tree_of r.module_read)) ≡ map (writes (token_text_at q.module_read.source) (table_of q)) (identifier_names (tree_of q.module_read))
@@ -136,4 +140,4 @@ module _ (r q : Resolution) (well : IsWellTyped r) (also : IsWellTyped q) (e : S
       let text : ℕ → written.Name = token_text_at r.module_read.source in
       let there : map (writes text (table_of r)) (tokens (identifier_owners_in_resolution r)) ≡ map (writes text (table_of q)) (tokens (identifier_owners_in_resolution q)) =
       ap (map (writes text (table_of r))) tokens_of ∙ (same_writing ∙ (ap (λ s. map (writes (token_text_at s) (table_of q)) (identifier_names (tree_of q.module_read))) (sym e.source) ∙ ap (map (writes text (table_of q))) (sym tokens_too))) in
-      ap fields_with_owners (same_owned text (table_of r) (table_of q) (identifier_owners_in_resolution r) (identifier_owners_in_resolution q) (table_has r well) (table_has q also) (tokens_of ∙ (ap identifier_names e.tree ∙ sym tokens_too)) there)
+      same_owned text (table_of r) (table_of q) (identifier_owners_in_resolution r) (identifier_owners_in_resolution q) (table_has r well) (table_has q also) (tokens_of ∙ (ap identifier_names e.tree ∙ sym tokens_too)) there

@@ -5,7 +5,7 @@ use Rattle.ob0_language_types.specs.Bindings.{declared_object}
 use Rattle.ob0_types_fields.specs.FieldIdentifiers.{field_identifiers, field_tokens_in_module, tokens_of_field}
 use Rattle.ob0_types_fields.specs.IdentifierOwners.{fields_in_module, meanings_by_token}
 use Rattle.ob0_types_fields.proofs.FieldIdentifierList.{fields_ascend, fields_are_identifiers, kept_ascend, kept_are_identifiers}
-use Rattle.ob0_types_fields.proofs.WalkFindsAllFields.{module-fields}
+use Rattle.ob0_types_fields.proofs.WalkedFields.{module-fields}
 use Rattle.ob0_types.proofs.fields.field_tokens_in_module.Goals as goal
 
 -- The walk over the module finds all fields: names mean the declared objects, by the table.

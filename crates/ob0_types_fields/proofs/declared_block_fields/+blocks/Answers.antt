@@ -1,12 +1,12 @@
-use Rattle.std.proofs.Common.{◌≡◌, ℕ, ◌+◌, ◌++◌, refl, sym, ap, ◌∙◌}
+use Rattle.std.proofs.Common.{ℕ, ◌+◌, ◌++◌, refl, sym, ap, ◌∙◌}
 use Rattle.ob0_tree.proofs.Viewed.{block_parts, procedure_parts}
 use Rattle.ob0_tree.specs.declared.tree.Block.{out-Block}
 use Rattle.ob0_tree.specs.declared.tree.Procedure.{out-Procedure}
-use Rattle.ob0_tree.specs.View.{block_of, formals_of, items_of, procedure_of, type_section_of, variable_section_of}
-use Rattle.ob0_language_names.specs.BlockParts.{formal_parameter_sections, section_types, section_variables}
-use Rattle.ob0_language_types.specs.Declarations.{block_constructor_count, formals_constructor_count, procedure_constructor_count, procedure_list_constructor_count, types_constructor_count, variables_constructor_count}
+use Rattle.ob0_tree.specs.View.{block_of, items_of, procedure_of, type_section_of, variable_section_of}
+use Rattle.ob0_language_names.specs.BlockParts.{section_types, section_variables}
+use Rattle.ob0_language_types.specs.Declarations.{block_constructor_count, procedure_constructor_count, procedure_list_constructor_count, types_constructor_count, variables_constructor_count}
 use Rattle.ob0_types_fields.specs.FieldIdentifiers.{fields_declared_in_block, fields_declared_in_procedure, fields_declared_in_procedures}
-use Rattle.ob0_types_fields.specs.IdentifierOwners.{fields_in_parameter_sections, fields_in_types, fields_in_variables}
+use Rattle.ob0_types_fields.specs.IdentifierOwners.{fields_in_types, fields_in_variables}
 use Rattle.ob0_types_fields.proofs.FieldVisits.{declaration_visited, declarations_visited, on_ok, visits_as, visits_both}
 use Rattle.ob0_types_fields.proofs.declared_block_fields.+blocks.Goals as goal
 

@@ -1,4 +1,4 @@
-use Rattle.std.proofs.Common.{ℕ, List, ◌++◌, [], ap, ◌∙◌}
+use Rattle.std.proofs.Common.{ℕ, List, [], ap, ◌∙◌}
 use Rattle.ob0_tree.specs.ParsedModule.{tree_of}
 use Rattle.ob0_types_table.specs.DeclarationTables.{declared_object_in}
 use Rattle.ob0_types_fields.specs.FieldVisitors.{FieldTokenCollection, collection_after_field}

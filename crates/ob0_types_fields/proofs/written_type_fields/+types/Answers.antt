@@ -1,4 +1,4 @@
-use Rattle.std.proofs.Common.{◌≡◌, ℕ, suc, List, [], ◌∷◌, OnOk, refl, sym, ap, ◌∙◌, subst}
+use Rattle.std.proofs.Common.{◌≡◌, ℕ, suc, List, [], ◌∷◌, refl, sym, ap, ◌∙◌}
 use Rattle.ob0_tree.proofs.Viewed.{made_record_type}
 use Rattle.ob0_tree.specs.declared.tree.FieldGroup.{FieldGroup}
 use Rattle.ob0_tree.specs.declared.tree.OptionalFieldGroup.{OptionalFieldGroup}
@@ -7,7 +7,6 @@ use Rattle.ob0_tree.specs.View.{field_group_after_semicolon_of, items_of, names_
 use Rattle.ob0_language_names.specs.BlockParts.{names_in_list}
 use Rattle.ob0_language_types.specs.Typing.{constructor_count, group_constructor_count, later_groups_constructor_count}
 use Rattle.ob0_types_fields.specs.IdentifierOwners.{fields_at_tokens, fields_in_group, fields_in_groups, fields_in_type}
-use Rattle.ob0_types_fields.specs.FieldWalks.{VisitsDeclarations}
 use Rattle.ob0_types_fields.proofs.FieldVisits.{declaration_visited, declarations_visited, on_ok, visits_as, visits_before, visits_nothing, visits_word}
 use Rattle.ob0_types_fields.proofs.written_type_fields.+types.Goals as goal
 

@@ -1,4 +1,4 @@
-use Rattle.std.proofs.Common.{◌∷◌, get_or, sym, ap, ◌∙◌}
+use Rattle.std.proofs.Common.{get_or, sym, ◌∙◌}
 use Rattle.std.proofs.lemmas.List.{get_or_default}
 use Rattle.ob0_types_fields.specs.IdentifierOwners.{fields_at_tokens}
 use Rattle.ob0_types_fields.specs.FieldWalks.{state_after_fields}

@@ -1,6 +1,6 @@
-use Rattle.std.proofs.Common.{◌≡◌, ℕ, List, [], ◌∷◌, ◌++◌, ◌+◌, Bool, true, false, if◌then◌else◌, refl, sym, ap, ◌∙◌}
+use Rattle.std.proofs.Common.{◌≡◌, List, [], ◌∷◌, ◌++◌, ◌+◌, true, false, if◌then◌else◌, refl, sym, ap, ◌∙◌}
 use Rattle.ob0_tree.specs.declared.tree.ParameterSection.{ParameterSection}
-use Rattle.ob0_tree.specs.Tree.{Tree, items, more, section, section_after_semicolon, value_section, variable_section}
+use Rattle.ob0_tree.specs.Tree.{value_section, variable_section}
 use Rattle.ob0_tree.specs.View.{formals_of, formals_of_list, items_of, names_of, parameter_section_after_semicolon_of, parameter_section_of, type_of}
 use Rattle.ob0_language_names.specs.BlockParts.{formal_parameter_sections, parameter_section_type}
 use Rattle.ob0_language_types.specs.Declarations.{formals_constructor_count}

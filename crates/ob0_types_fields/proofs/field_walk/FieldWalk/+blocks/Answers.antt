@@ -1,9 +1,9 @@
-use Rattle.std.proofs.Common.{◌≡◌, ℕ, ◌+◌, ◌≤◌, List, length, ◌++◌, refl, sym, ap, ◌∙◌}
+use Rattle.std.proofs.Common.{◌≡◌, ℕ, ◌+◌, ◌≤◌, List, length, ◌++◌, refl, sym, ap}
 use Rattle.ob0_tree.proofs.Viewed.{block_parts, procedure_parts}
 use Rattle.ob0_tree.specs.declared.tree.Block.{Block, out-Block}
 use Rattle.ob0_tree.specs.declared.tree.Procedure.{Procedure, out-Procedure}
-use Rattle.ob0_tree.specs.View.{block_of, body_of, formals_of, items_of, procedure_of, type_section_of, variable_section_of}
-use Rattle.ob0_language_names.specs.BlockParts.{formal_parameter_sections, section_types, section_variables}
+use Rattle.ob0_tree.specs.View.{block_of, body_of, items_of, procedure_of, type_section_of, variable_section_of}
+use Rattle.ob0_language_names.specs.BlockParts.{section_types, section_variables}
 use Rattle.ob0_language_types.specs.Declarations.{block_constructor_count, procedure_constructor_count, procedure_list_constructor_count, types_constructor_count, variables_constructor_count}
 use Rattle.ob0_language_types.specs.Expressions.{Meanings}
 use Rattle.ob0_language_types.specs.WellTyped.{Signature}

@@ -1,4 +1,4 @@
-use Rattle.std.proofs.Common.{◌≡◌, ◌++◌, OnOk, [], sym, ap, ◌∙◌, subst}
+use Rattle.std.proofs.Common.{◌≡◌, OnOk, [], sym, ap, ◌∙◌, subst}
 use Rattle.std.specs.Vec.{vec_len}
 use Rattle.ob0_tree.proofs.Viewed.{addend_parts, comparison_made, compound_parts, designator_made, simple_parts, term_parts}
 use Rattle.ob0_tree.specs.declared.tree.Comparison.{Comparison, out-Comparison, roll-out-Comparison}

@@ -1,4 +1,4 @@
-use Rattle.std.proofs.Common.{◌≡◌, ℕ, ◌++◌, OnOk, List, [], ◌∷◌, refl, sym, ap, ◌∙◌, subst}
+use Rattle.std.proofs.Common.{◌≡◌, ℕ, OnOk, List, [], ◌∷◌, refl, sym, ap, ◌∙◌, subst}
 use Rattle.ob0_tree.proofs.Viewed.{if_parts, repeat_read, while_read}
 use Rattle.ob0_tree.specs.declared.tree.If.{out-If}
 use Rattle.ob0_tree.specs.declared.tree.Statement.{Statement}

@@ -1,18 +1,18 @@
--- Rewriting the fields of a module is the same as rewriting each token according to a table of owners. The reason is
--- that at each place, the environment gives a name the object of its declaration. The proof is one induction over
--- blocks and procedures, which takes a list of names with their ordinals and objects. That list represents the
--- environment by name, the environment by ordinal and the scope. The induction shows that the bindings of the part have
--- descending ordinals (`Descends`). It also gives the part with its fields rewritten, if each binding has the object of
--- its ordinal (`Right`). In descending bindings each binding is found at its ordinal (`bound_right`), so the bindings
--- of the whole module are `Right`. Splitting the lists gives the same for each part.
+-- The tokens of a well-typed module are used as their spellings are in the named module. The reason is that at each
+-- place, the environment gives a name the object of its declaration. The proof is one induction over blocks and
+-- procedures, which takes a list of names with their ordinals and objects. That list represents the environment by
+-- name, the environment by ordinal and the scope. The induction shows that the bindings of the part have descending
+-- ordinals (`Descends`). It also gives the marks of the part, if each binding has the object of its ordinal (`Right`). In
+-- descending bindings each binding is found at its ordinal (`bound_right`), so the bindings of the whole module are
+-- `Right`. Splitting the lists gives the same for each part.
 use Rattle.std.proofs.Common.{◌≡◌, ℕ, suc, ◌+◌, true, false, List, [], ◌∷◌, ◌++◌, map, Some, None, Option, option_map, option_and_then, unwrap_or, refl, sym, ap, ◌∙◌, subst, arith, le_refl, le_of_lt, append-nil}
-use Rattle.ob0_tree.specs.Tree.{Tree, block, body, constants, declares, declares_procedure, end, formals, forms_block, forms_module, item, items, GrammarItem, mapped_tree, maybe, more, occurrences, procedure, type_definitions, variables}
+use Rattle.ob0_tree.specs.Tree.{Sort, Tree, block, body, constants, declares, declares_procedure, end, formals, forms_block, forms_module, item, items, GrammarItem, mapped_tree, maybe, more, occurrences, procedure, type_definitions, variables}
 use Rattle.ob0_tree.specs.ParsedModule.{ParsedModule, named_tree_of, tree_of}
 use Rattle.ob0_tree.specs.TokenIndexLeaves.{token_text_at, token_value_at}
 use Rattle.ob0_language_names.specs.Names.{Label, Name, naming_by_label, naming_by_spelling, declared, same_name}
 use Rattle.ob0_language_names.specs.Occurrences.{label_ordinal}
 use Rattle.ob0_language_names.specs.BlockParts.{block_procedures, block_statements, block_variables, formal_parameter_names, formal_parameter_sections, module_block, procedure_block, section_types, section_variables}
-use Rattle.ob0_scope_table.specs.Resolution.{Resolution, ordinal_in}
+use Rattle.ob0_scope_table.specs.Resolution.{IsResolution, Resolution, ordinal_in}
 use Rattle.ob0_scope_table.proofs.Bound.{label_back}
 use Rattle.ob0_language_names.specs.Scopes.{Scope, ordinal_after_block, ordinal_after_names, ordinal_after_procedure, ordinal_after_procedure_list, label_from_ordinal, declare_names, declare_procedure_names, first_procedure_ordinal, first_type_ordinal, first_variable_ordinal, numbered, ordinal_in_scope, scope_before_procedures, relabel_block, relabel_formals, relabel_procedure_list, relabel_parameter_section_list, relabel_uses, scope_before_types, scope_before_variables, label_in_scope}
 use Rattle.ob0_language_names.proofs.OccurrencesMapped.{occurrences-mapped}
@@ -25,24 +25,20 @@ use Rattle.ob0_language_types.specs.Declarations.{constructor_count_before_proce
 use Rattle.ob0_language_types.specs.Environments.{suffix_from_newest_binding, meanings, newest_object, outermost_environment}
 use Rattle.ob0_language_types.specs.Expressions.{Meanings, Object, a_procedure}
 use Rattle.ob0_language_types.specs.Typing.{type_of_variable_or_constant}
-use Rattle.ob0_language_types.specs.WellTyped.{Signature, TypeEnvironment, TypeMeanings, TypedParameter, WellTyped, bind_typed_parameters, block_is_well_typed, body_is_well_typed, declare_typed_variables, passes_type_check, bind_procedure, procedures_and_body_are_well_typed, typed_parameters}
+use Rattle.ob0_language_types.specs.WellTyped.{Signature, TypeEnvironment, TypedParameter, WellTyped, bind_typed_parameters, block_is_well_typed, body_is_well_typed, declare_typed_variables, passes_type_check, bind_procedure, procedures_and_body_are_well_typed, typed_parameters}
 use Rattle.ob0_language_values.specs.Values.{Shape}
 use Rattle.ob0_language_types.proofs.Agreeing.{Agree, HoldsOf}
 use Rattle.ob0_language_types.proofs.Constructors.{formals_constructor_count-relabel, procedure_constructor_count-relabel, types_constructor_count-relabel, variables_constructor_count-relabel}
 use Rattle.ob0_language_types.proofs.Bound.{added_bindings-append, bind_typed_parameters-append}
 use Rattle.ob0_language_types.proofs.Literals.{some_inverse}
 use Rattle.ob0_language_types.proofs.Proved.{numbering_keeps_type_check-holds}
-use Rattle.ob0_language_types.proofs.TypesByOrdinal.{TypeNoted, TypedBelow, TypedBelow-weaken, TypedWithin, bind_typed_parameters-by_name, bind_typed_parameters-by_ordinal, body_is_well_typed-agrees, declarations_typed, label_typed, label_typed-formals, noted_parameters, noted_parameters-within, parameters_typed, typed_by_name, typed_by_ordinal, typed_names, typed_outermost, typed_scope}
+use Rattle.ob0_language_types.proofs.TypesByOrdinal.{TypeNoted, TypedBelow, TypedBelow-weaken, TypedWithin, bind_typed_parameters-by_name, bind_typed_parameters-by_ordinal, declarations_typed, label_typed, label_typed-formals, noted_parameters, noted_parameters-within, parameters_typed, typed_by_name, typed_by_ordinal, typed_names, typed_outermost, typed_scope}
 use Rattle.ob0_language_types.proofs.ConstantsDeclared as blocks
 use Rattle.ob0_language_types.proofs.ConstantsDeclared.{block-listed, block-parts, predeclared-below}
-use Rattle.ob0_language_fields.specs.RenamedFields.{environment_after_heading, environment_after_procedures, environment_after_variables, typed_parameters_of_procedure, rename_selected_fields, rename_fields_in_block, rename_fields_in_procedure_list, rename_fields_in_variable_section}
-use Rattle.ob0_types_fields.specs.OwnerTables.{renaming_by_record}
-use Rattle.ob0_types_fields.specs.IdentifierOwners.{AgreesWithOwnerList, AgreeingTableIsOwnerTable, identifier_owners_in_tree, identifier_owners_in_block, identifier_owners_in_formals, identifier_owners_in_procedure, identifier_owners_in_procedures, identifier_owners_in_type_section, identifier_owners_in_variable_section, meanings_by_token, identifiers_without_owners}
-use Rattle.ob0_types_fields.proofs.OwnedStatements.{Alike, SameTypes, identifier_owners_in_tree-alike, owners_split, recorded, recorded-alike, recorded-mapped_tree, identifiers_without_owners-all}
-use Rattle.ob0_types_fields.proofs.OwnedTypes.{counted_formals_section, counted_procedure, counted_type_section, counted_variable_section, formals-identifier_owners_in_tree, type_section-identifier_owners_in_tree, variable_section-identifier_owners_in_tree}
-use Rattle.ob0_language_fields.proofs.MeaningsByName.{object_in}
-use Rattle.ob0_types_fields.proofs.Selecting.{body-selects, here}
 use Rattle.ob0_types_fields.proofs.DeclaredInOrder.{Descends, Grown, Right, block_grows, bound_right, descends_join, heading_grows, right_join, right_split}
+use Rattle.ob0_language_fields.specs.MarkedFields.{UsedName, environment_after_heading, environment_after_procedures, environment_after_variables, mark_block, mark_declared_fields, mark_procedures, mark_selected_fields, marked_module, marking_by_environment, marking_by_meanings, no_field, typed_parameters_of_procedure}
+use Rattle.ob0_types_fields.specs.IdentifierOwners.{marks_in_resolution}
+use Rattle.ob0_types_fields.proofs.MarksMapped.{Alike, counted_formals_section, counted_procedure, counted_type_section, counted_variable_section, declared_mapped, plain_mapped, selected_mapped, with_text}
 
 found : {X Y Z : Type 0} (p : X → Y) (q : X → Z) (P : X → Type 0) (r : Option Y) (s : Option Z) → Agree p q P r s → (z : Z) → s ≡ Some z → (x : X) × (r ≡ Some (p x)) × (q x ≡ z) × P x
 found {X} {Y} {Z} p q P r s (a, e, e', holds) z h = go a e holds (sym e' ∙ h)
@@ -149,7 +145,7 @@ inside_is : (noted : TypeNoted Name) (k : ℕ) (x : Name) (listed : List (TypedP
     → typed_by_ordinal (inside_of noted k x listed) ≡ bind_typed_parameters (label_typed (suc k) listed) (bind_procedure (declared k) (label_typed (suc k) listed) (typed_by_ordinal noted))
 inside_is noted k x listed = sym (bind_typed_parameters-by_ordinal (suc k) listed (own_of noted k x listed)) ∙ ap (bind_typed_parameters (label_typed (suc k) listed)) (own_is noted k x listed)
 
-module _ (l : ℕ → Name → Name) (at : ℕ → Option ℕ) (text : ℕ → Name) (value : ℕ → ℕ) (ordinal : ℕ → Option ℕ) (objects : ℕ → Option (Object Shape Signature)) where
+module _ (text : ℕ → Name) (value : ℕ → ℕ) (ordinal : ℕ → Option ℕ) (objects : ℕ → Option (Object Shape Signature)) where
   abbrev label : ℕ → Label
   label i = label_from_ordinal naming_by_spelling (ordinal i) (text i)
 
@@ -172,15 +168,21 @@ module _ (l : ℕ → Name → Name) (at : ℕ → Option ℕ) (text : ℕ → N
       alike-listed noted right (occurrences st)
       (ap (map look) (sym (occurrences-mapped text text value st)) ∙ (sym (occurrences-mapped look (label_from_ordinal naming_by_spelling None) (λ n. n) (mapped_tree text value st)) ∙ (ap occurrences e ∙ occurrences-mapped label label value st)))
 
-  same-types : (meaning : TypeMeanings Name) (xs : List ℕ) → Alike meaning by_token xs → SameTypes (here meaning.object_for text value) by_token xs
-  same-types meaning [] h = tt
-  same-types meaning (x ∷ xs) h = (h.0, same-types meaning xs h.1)
+  -- returns the marks of a block, of procedures and of statements by the meanings of tokens, with the tokens' spellings
+  abbrev spelled : {s : Sort} → Tree (UsedName ℕ) s → Tree (UsedName Name) s
+  spelled marks = mapped_tree (with_text text) value marks
+
+  abbrev block_marks : ℕ → Tree ℕ block → Tree (UsedName ℕ) block
+  block_marks k b = mark_block (marking_by_meanings by_token) tt k b
+
+  abbrev procedures_marks : ℕ → Tree ℕ (items procedure) → Tree (UsedName ℕ) (items procedure)
+  procedures_marks k ps = mark_procedures (marking_by_meanings by_token) tt k ps
 
   record BlockHeld (noted : TypeNoted Name) (j k : ℕ) (b : Tree ℕ block) : Type 0 where
     pub descends : Descends (ordinal_after_block k (mapped_tree text value b)) (block_bindings naming_by_label (typed_by_ordinal noted) j (relabel_block naming_by_spelling (label_from_ordinal naming_by_spelling) (typed_scope noted) k (mapped_tree text value b))) k
     pub written : Right objects (typed_by_ordinal noted) → Right objects (block_bindings naming_by_label (typed_by_ordinal noted) j (relabel_block naming_by_spelling (label_from_ordinal naming_by_spelling) (typed_scope noted) k (mapped_tree text value b)))
-        → relabel_block naming_by_spelling (label_from_ordinal naming_by_spelling) (typed_scope noted) k (mapped_tree text value b) ≡ mapped_tree label value b → AgreesWithOwnerList at (identifier_owners_in_block by_token j b)
-        → rename_fields_in_block (renaming_by_record l) (typed_by_name noted) j (mapped_tree text value b) ≡ mapped_tree (λ i. renaming_by_record l (at i) (text i)) value b
+        → relabel_block naming_by_spelling (label_from_ordinal naming_by_spelling) (typed_scope noted) k (mapped_tree text value b) ≡ mapped_tree label value b
+        → mark_block marking_by_environment (typed_by_name noted) j (mapped_tree text value b) ≡ spelled (block_marks j b)
 
   record ProceduresHeld (noted : TypeNoted Name) (j k : ℕ) (statements : Tree Label (maybe body)) (ps : Tree ℕ (items procedure)) : Type 0 where
     pub descends : Descends (ordinal_after_procedure_list k (mapped_tree text value ps)) (procedure_list_bindings naming_by_label (typed_by_ordinal noted) j (relabel_procedure_list naming_by_spelling (label_from_ordinal naming_by_spelling) (typed_scope noted) k (mapped_tree text value ps))) k
@@ -190,12 +192,12 @@ module _ (l : ℕ → Name → Name) (at : ℕ → Option ℕ) (text : ℕ → N
     pub fits : body_is_well_typed naming_by_label (typed_by_ordinal last) statements ≡ true
     pub scoped : typed_scope last ≡ declare_procedure_names k (mapped_tree text value ps) (typed_scope noted)
     pub written : Right objects (typed_by_ordinal noted) → Right objects (procedure_list_bindings naming_by_label (typed_by_ordinal noted) j (relabel_procedure_list naming_by_spelling (label_from_ordinal naming_by_spelling) (typed_scope noted) k (mapped_tree text value ps)))
-        → relabel_procedure_list naming_by_spelling (label_from_ordinal naming_by_spelling) (typed_scope noted) k (mapped_tree text value ps) ≡ mapped_tree label value ps → AgreesWithOwnerList at (identifier_owners_in_procedures by_token j ps)
-        → (rename_fields_in_procedure_list (renaming_by_record l) (typed_by_name noted) j (mapped_tree text value ps) ≡ mapped_tree (λ i. renaming_by_record l (at i) (text i)) value ps) × Right objects (typed_by_ordinal last)
+        → relabel_procedure_list naming_by_spelling (label_from_ordinal naming_by_spelling) (typed_scope noted) k (mapped_tree text value ps) ≡ mapped_tree label value ps
+        → (mark_procedures marking_by_environment (typed_by_name noted) j (mapped_tree text value ps) ≡ spelled (procedures_marks j ps)) × Right objects (typed_by_ordinal last)
 
   no-procedures : (noted : TypeNoted Name) (j k : ℕ) → TypedBelow k noted → (statements : Tree Label (maybe body)) → procedures_and_body_are_well_typed naming_by_label (typed_by_ordinal noted) j statements end ≡ true → ProceduresHeld noted j k statements end
   unfolding block_bindings block_is_well_typed
-  no-procedures noted j k below statements h = record { descends = le_refl k; last = noted; following = refl; below = below; fits = h; scoped = refl; written = λ right all e has. (refl, right) }
+  no-procedures noted j k below statements h = record { descends = le_refl k; last = noted; following = refl; below = below; fits = h; scoped = refl; written = λ right all e. (refl, right) }
 
   -- A block has its fields rewritten according to the table if its procedures and statements have.
   named_count : (j : ℕ) (cs : Tree ℕ (maybe constants)) (ts : Tree ℕ (maybe type_definitions)) (vs : Tree ℕ (maybe variables)) (ps : Tree ℕ (items procedure)) (st : Tree ℕ (maybe body))
@@ -208,18 +210,12 @@ module _ (l : ℕ → Name → Name) (at : ℕ → Option ℕ) (text : ℕ → N
       λ i. j + (ap types_constructor_count (types-section naming_by_spelling (label_from_ordinal naming_by_spelling) (scope_before_types k b scope) (first_type_ordinal k b) ts) ∙ types_constructor_count-relabel naming_by_spelling (label_from_ordinal naming_by_spelling) (scope_before_types k b scope) (first_type_ordinal k b) (section_types ts)) i
       + (ap variables_constructor_count (variables-section naming_by_spelling (label_from_ordinal naming_by_spelling) (scope_before_variables k b scope) (first_variable_ordinal k b) vs) ∙ variables_constructor_count-relabel naming_by_spelling (label_from_ordinal naming_by_spelling) (scope_before_variables k b scope) (first_variable_ordinal k b) (section_variables vs)) i
 
-  statements-written : (noted last : TypeNoted Name) (n : ℕ) → TypedBelow n last → Right objects (typed_by_ordinal last) → (scope : Scope Name) → typed_scope last ≡ scope → (st : Tree ℕ (maybe body))
-      → body_is_well_typed naming_by_label (typed_by_ordinal last) (relabel_uses naming_by_spelling (label_from_ordinal naming_by_spelling) scope (mapped_tree text value st)) ≡ true → relabel_uses naming_by_spelling (label_from_ordinal naming_by_spelling) scope (mapped_tree text value st) ≡ mapped_tree label value st
-      → AgreesWithOwnerList at (identifier_owners_in_tree by_token None st) → rename_selected_fields (renaming_by_record l) (meanings naming_by_spelling (typed_by_name last)) None (mapped_tree text value st) ≡ mapped_tree (λ i. renaming_by_record l (at i) (text i)) value st
-  statements-written noted last n below right scope scoped st fits numbered has =
-      let alike = body-alike last right st (ap (λ s. relabel_uses naming_by_spelling (label_from_ordinal naming_by_spelling) s (mapped_tree text value st)) scoped ∙ numbered) in
-      let fitting : body_is_well_typed naming_by_spelling (typed_by_name last) (mapped_tree text value st) ≡ true =
-      sym (body_is_well_typed-agrees naming_by_spelling n last below (mapped_tree text value st)) ∙ ((λ i. body_is_well_typed naming_by_label (typed_by_ordinal last) (relabel_uses naming_by_spelling (label_from_ordinal naming_by_spelling) (scoped i) (mapped_tree text value st))) ∙ fits) in
-      let by_name : Meanings ℕ Shape Signature = here (object_in (typed_by_name last)) text value in
-      let types = same-types (meanings naming_by_spelling (typed_by_name last)) (occurrences st) alike in
-      let selecting : identifier_owners_in_tree by_token None st ≡ recorded by_token None st =
-      sym (identifier_owners_in_tree-alike by_name by_token (λ x. refl) None st types) ∙ (body-selects (typed_by_name last) text value st fitting ∙ recorded-alike by_name by_token (λ x. refl) None st types) in
-      recorded-mapped_tree l at (meanings naming_by_spelling (typed_by_name last)) by_token value None st (subst (AgreesWithOwnerList at) selecting has) alike
+  statements-written : (last : TypeNoted Name) → Right objects (typed_by_ordinal last) → (scope : Scope Name) → typed_scope last ≡ scope → (st : Tree ℕ (maybe body))
+      → relabel_uses naming_by_spelling (label_from_ordinal naming_by_spelling) scope (mapped_tree text value st) ≡ mapped_tree label value st
+      → mark_selected_fields (meanings naming_by_spelling (typed_by_name last)) None (mapped_tree text value st) ≡ spelled (mark_selected_fields by_token None st)
+  statements-written last right scope scoped st numbered =
+      selected_mapped (meanings naming_by_spelling (typed_by_name last)) by_token (λ x. refl) value None st
+      (body-alike last right st (ap (λ s. relabel_uses naming_by_spelling (label_from_ordinal naming_by_spelling) s (mapped_tree text value st)) scoped ∙ numbered))
 
   block-joined : (noted : TypeNoted Name) (j k : ℕ) (cs : Tree ℕ (maybe constants)) (ts : Tree ℕ (maybe type_definitions)) (vs : Tree ℕ (maybe variables)) (ps : Tree ℕ (items procedure)) (st : Tree ℕ (maybe body))
       → (o : Opened noted j k (mapped_tree text value (forms_block (declares cs ts vs ps) st)))
@@ -239,26 +235,20 @@ module _ (l : ℕ → Name → Name) (at : ℕ → Option ℕ) (text : ℕ → N
       o.listed ∙ (λ i. procedure_list_bindings naming_by_label (typed_by_ordinal o.last) (count i) (relabel_procedure_list naming_by_spelling (label_from_ordinal naming_by_spelling) (sym o.within.0 i) kp nps) ++ o.grown.bound) in
       record {
         descends = subst (λ e. Descends (ordinal_after_block k nb) e k) (sym all_listed) (descends_join (ordinal_after_block k nb) kp k P o.grown.bound q.descends o.grown.descends);
-        written = λ right all numbered has.
+        written = λ right all numbered.
             let two = right_split objects P o.grown.bound (subst (Right objects) all_listed all) in
             let right_last : Right objects (typed_by_ordinal o.last) = subst (Right objects) (sym o.grown.is) (right_join objects o.grown.bound (typed_by_ordinal noted) two.1 right) in
-            let B : List (ℕ × Option ℕ) = identifier_owners_in_variable_section (constructor_count_before_variables j b) vs in
-            let C : List (ℕ × Option ℕ) = identifier_owners_in_procedures by_token (constructor_count_before_procedures j b) ps in
-            let s0 = owners_split at (identifiers_without_owners cs ++ (identifier_owners_in_type_section j ts ++ (B ++ C))) (identifier_owners_in_tree by_token None st) has in
-            let s1 = owners_split at (identifiers_without_owners cs) (identifier_owners_in_type_section j ts ++ (B ++ C)) s0.0 in
-            let s2 = owners_split at (identifier_owners_in_type_section j ts) (B ++ C) s1.1 in
-            let s3 = owners_split at B C s2.1 in
-            let r = q.written right_last two.0 (ap (λ s. relabel_procedure_list naming_by_spelling (label_from_ordinal naming_by_spelling) s kp nps) o.within.0 ∙ ap block_procedures numbered) s3.1 in
+            let r = q.written right_last two.0 (ap (λ s. relabel_procedure_list naming_by_spelling (label_from_ordinal naming_by_spelling) s kp nps) o.within.0 ∙ ap block_procedures numbered) in
             let following_all : typed_scope q.last ≡ declare_procedure_names kp nps (scope_before_procedures k nb scope) = q.scoped ∙ ap (declare_procedure_names kp nps) o.within.0 in
-            let variables-written : rename_fields_in_variable_section (renaming_by_record l) (constructor_count_before_variables j nb) (mapped_tree text value vs) ≡ mapped_tree (λ i. renaming_by_record l (at i) (text i)) value vs =
-            (λ i. rename_fields_in_variable_section (renaming_by_record l) (j + counted_type_section text value ts i) (mapped_tree text value vs)) ∙ variable_section-identifier_owners_in_tree l at text value (constructor_count_before_variables j b) vs s3.0 in
-            let procedures-written : rename_fields_in_procedure_list (renaming_by_record l) (environment_after_variables (typed_by_name noted) j nb) (constructor_count_before_procedures j nb) nps ≡ mapped_tree (λ i. renaming_by_record l (at i) (text i)) value ps =
-            (λ i. rename_fields_in_procedure_list (renaming_by_record l) (o.named i) (counted i) nps) ∙ r.0 in
+            let variables-written : mark_declared_fields no_field (constructor_count_before_variables j nb) (mapped_tree text value vs) ≡ spelled (mark_declared_fields no_field (constructor_count_before_variables j b) vs) =
+            (λ i. mark_declared_fields no_field (j + counted_type_section text value ts i) (mapped_tree text value vs)) ∙ declared_mapped text value no_field (constructor_count_before_variables j b) vs in
+            let procedures-written : mark_procedures marking_by_environment (environment_after_variables (typed_by_name noted) j nb) (constructor_count_before_procedures j nb) nps ≡ spelled (procedures_marks (constructor_count_before_procedures j b) ps) =
+            (λ i. mark_procedures marking_by_environment (o.named i) (counted i) nps) ∙ r.0 in
             let environment : environment_after_procedures (environment_after_variables (typed_by_name noted) j nb) (constructor_count_before_procedures j nb) nps ≡ typed_by_name q.last = (λ i. environment_after_procedures (o.named i) (counted i) nps) ∙ q.following in
-            let body-written : rename_selected_fields (renaming_by_record l) (meanings naming_by_spelling (environment_after_procedures (environment_after_variables (typed_by_name noted) j nb) (constructor_count_before_procedures j nb) nps)) None (mapped_tree text value st) ≡ mapped_tree (λ i. renaming_by_record l (at i) (text i)) value st =
-            ap (λ e. rename_selected_fields (renaming_by_record l) (meanings naming_by_spelling e) None (mapped_tree text value st)) environment
-            ∙ statements-written noted q.last (ordinal_after_procedure_list kp nps) q.below r.1 (declare_procedure_names kp nps (scope_before_procedures k nb scope)) following_all st q.fits (ap block_statements numbered) s0.1 in
-            λ i. forms_block (declares (identifiers_without_owners-all l at text value cs s1.0 i) (type_section-identifier_owners_in_tree l at text value j ts s2.0 i) (variables-written i) (procedures-written i)) (body-written i);
+            let body-written : mark_selected_fields (meanings naming_by_spelling (environment_after_procedures (environment_after_variables (typed_by_name noted) j nb) (constructor_count_before_procedures j nb) nps)) None (mapped_tree text value st) ≡ spelled (mark_selected_fields by_token None st) =
+            ap (λ e. mark_selected_fields (meanings naming_by_spelling e) None (mapped_tree text value st)) environment
+            ∙ statements-written q.last r.1 (declare_procedure_names kp nps (scope_before_procedures k nb scope)) following_all st (ap block_statements numbered) in
+            λ i. forms_block (declares (plain_mapped text value no_field cs i) (declared_mapped text value no_field j ts i) (variables-written i) (procedures-written i)) (body-written i);
       }
 
   -- the facts about a procedure that are needed for its block and for the later procedures
@@ -340,23 +330,20 @@ module _ (l : ℕ → Name → Name) (at : ℕ → Option ℕ) (text : ℕ → N
         below = later.below;
         fits = later.fits;
         scoped = later.scoped;
-        written = λ right all numbered has.
+        written = λ right all numbered.
             let two = right_split objects R (B ++ H) (subst (Right objects) t.all_listed all) in
             let three = right_split objects B H two.1 in
             let parts = right_split objects (bind_typed_parameters qs []) (bind_procedure (declared k) qs []) (subst (Right objects) (bind_typed_parameters-append qs [] (bind_procedure (declared k) qs [])) three.1) in
             let right_own : Right objects (typed_by_ordinal own) = subst (Right objects) (sym (own_is noted k (text x) t.listed)) (parts.1.0, right) in
             let right_inner : Right objects (typed_by_ordinal inner) = subst (Right objects) (sym (inside_is noted k (text x) t.listed ∙ bind_typed_parameters-append qs (bind_procedure (declared k) qs []) env)) (right_join objects H env three.1 right) in
-            let s0 = owners_split at (identifier_owners_in_procedure by_token j p) (identifier_owners_in_procedures by_token (j + procedure_constructor_count p) rest) has in
-            let s1 = owners_split at (identifier_owners_in_formals j fs) (identifier_owners_in_block by_token (constructor_count_before_procedure_block j p) b ++ ((closing, None) ∷ [])) s0.0.1 in
-            let s2 = owners_split at (identifier_owners_in_block by_token (constructor_count_before_procedure_block j p) b) ((closing, None) ∷ []) s1.1 in
-            let w = later.written right_own two.0 (ap rest_items numbered) s0.1 in
-            let block-written : rename_fields_in_block (renaming_by_record l) (bind_typed_parameters (typed_parameters_of_procedure (typed_by_name noted) j np) (environment_after_heading (typed_by_name noted) j np)) (constructor_count_before_procedure_block j np) nb ≡ mapped_tree (λ i. renaming_by_record l (at i) (text i)) value b =
-            (λ i. rename_fields_in_block (renaming_by_record l) (bind_typed_parameters (t.pars i) (bind_procedure (text x) (t.pars i) (typed_by_name noted))) (j + counted_formals_section text value fs i) nb)
-            ∙ (ap (λ z. rename_fields_in_block (renaming_by_record l) z (constructor_count_before_procedure_block j p) nb) (bind_typed_parameters-by_name (suc k) t.listed own)
-            ∙ inside.written right_inner three.0 (ap (λ s. relabel_block naming_by_spelling (label_from_ordinal naming_by_spelling) s m nb) t.inner_scope ∙ ap (λ z. procedure_block (first_item (mapped_tree label value p) z)) numbered) s2.0) in
-            let rest-written : rename_fields_in_procedure_list (renaming_by_record l) (environment_after_heading (typed_by_name noted) j np) (j + procedure_constructor_count np) nrest ≡ mapped_tree (λ i. renaming_by_record l (at i) (text i)) value rest =
-            (λ i. rename_fields_in_procedure_list (renaming_by_record l) (bind_procedure (text x) (t.pars i) (typed_by_name noted)) (j + counted_procedure text value p i) nrest) ∙ w.0 in (
-              λ i. more (declares_procedure (renaming_by_record l (sym s0.0.0 i) (text x)) (formals-identifier_owners_in_tree l at text value j fs s1.0 i) (block-written i) (renaming_by_record l (sym s2.1.0 i) (text closing))) (rest-written i),
+            let w = later.written right_own two.0 (ap rest_items numbered) in
+            let block-written : mark_block marking_by_environment (bind_typed_parameters (typed_parameters_of_procedure (typed_by_name noted) j np) (environment_after_heading (typed_by_name noted) j np)) (constructor_count_before_procedure_block j np) nb ≡ spelled (block_marks (constructor_count_before_procedure_block j p) b) =
+            (λ i. mark_block marking_by_environment (bind_typed_parameters (t.pars i) (bind_procedure (text x) (t.pars i) (typed_by_name noted))) (j + counted_formals_section text value fs i) nb)
+            ∙ (ap (λ z. mark_block marking_by_environment z (constructor_count_before_procedure_block j p) nb) (bind_typed_parameters-by_name (suc k) t.listed own)
+            ∙ inside.written right_inner three.0 (ap (λ s. relabel_block naming_by_spelling (label_from_ordinal naming_by_spelling) s m nb) t.inner_scope ∙ ap (λ z. procedure_block (first_item (mapped_tree label value p) z)) numbered)) in
+            let rest-written : mark_procedures marking_by_environment (environment_after_heading (typed_by_name noted) j np) (j + procedure_constructor_count np) nrest ≡ spelled (procedures_marks (j + procedure_constructor_count p) rest) =
+            (λ i. mark_procedures marking_by_environment (bind_procedure (text x) (t.pars i) (typed_by_name noted)) (j + counted_procedure text value p i) nrest) ∙ w.0 in (
+              λ i. more (declares_procedure (text x, no_field) (declared_mapped text value no_field j fs i) (block-written i) (text closing, no_field)) (rest-written i),
               w.1,
             );
       }
@@ -393,12 +380,14 @@ bindings_right r fits =
     let p : ParsedModule = r.module_read in
     let b : Tree ℕ block = module_block (tree_of p) in
     let all : TypeEnvironment Label = block_bindings naming_by_label (outermost_environment naming_by_label) 0 (relabel_block naming_by_spelling (label_from_ordinal naming_by_spelling) (typed_scope (typed_outermost naming_by_spelling)) 7 (mapped_tree (token_text_at p.source) (token_value_at p.source) b)) in
-    let held = block-held (λ k x. x) (ordinal_in []) (token_text_at p.source) (token_value_at p.source) (ordinal_in r.ordinals) (declared_object (named_tree_of p)) (typed_outermost naming_by_spelling) 0 7 predeclared-below b (sym (numbering_keeps_type_check-holds (named_tree_of p)) ∙ fits.1) in
+    let held = block-held (token_text_at p.source) (token_value_at p.source) (ordinal_in r.ordinals) (declared_object (named_tree_of p)) (typed_outermost naming_by_spelling) 0 7 predeclared-below b (sym (numbering_keeps_type_check-holds (named_tree_of p)) ∙ fits.1) in
     bound_right (ordinal_after_block 7 (mapped_tree (token_text_at p.source) (token_value_at p.source) b)) (all ++ outermost_environment naming_by_label) (descends_join (ordinal_after_block 7 (mapped_tree (token_text_at p.source) (token_value_at p.source) b)) 7 0 all (outermost_environment naming_by_label) held.descends outermost-descends)
 
-pub agreeing_table_is_owner_table-holds : AgreeingTableIsOwnerTable
+-- In a well-typed module each token is used as its spelling is in the named module.
+pub marks_by_token : (r : Resolution) → IsResolution r → WellTyped (named_tree_of r.module_read)
+    → marked_module (named_tree_of r.module_read) ≡ mapped_tree (with_text (token_text_at r.module_read.source)) (token_value_at r.module_read.source) (marks_in_resolution r)
 unfolding WellTyped passes_type_check
-agreeing_table_is_owner_table-holds r owners named fits has = λ l.
+marks_by_token r named fits =
     let p : ParsedModule = r.module_read in
     let text : ℕ → Name = token_text_at p.source in
     let value : ℕ → ℕ = token_value_at p.source in
@@ -406,10 +395,9 @@ agreeing_table_is_owner_table-holds r owners named fits has = λ l.
     let objects : ℕ → Option (Object Shape Signature) = declared_object (named_tree_of p) in
     let noted : TypeNoted Name = typed_outermost naming_by_spelling in
     let all : TypeEnvironment Label = block_bindings naming_by_label (outermost_environment naming_by_label) 0 (relabel_block naming_by_spelling (label_from_ordinal naming_by_spelling) (typed_scope noted) 7 (mapped_tree text value b)) in
-    let held = block-held l (ordinal_in owners) text value (ordinal_in r.ordinals) objects noted 0 7 predeclared-below b (sym (numbering_keeps_type_check-holds (named_tree_of p)) ∙ fits.1) in
+    let held = block-held text value (ordinal_in r.ordinals) objects noted 0 7 predeclared-below b (sym (numbering_keeps_type_check-holds (named_tree_of p)) ∙ fits.1) in
     let n : ℕ = ordinal_after_block 7 (mapped_tree text value b) in
     let right : Right objects (all ++ outermost_environment naming_by_label) = bound_right n (all ++ outermost_environment naming_by_label) (descends_join n 7 0 all (outermost_environment naming_by_label) held.descends outermost-descends) in
     let two = right_split objects all (outermost_environment naming_by_label) right in
-    let s = owners_split (ordinal_in owners) (identifier_owners_in_block (meanings_by_token objects r) 0 b) ((p.closing, None) ∷ []) has.1 in
-    let block-written = held.written two.1 two.0 (ap module_block named.numbering) s.0 in
-    λ i. forms_module (renaming_by_record l (sym has.0 i) (text p.name)) (block-written i) (renaming_by_record l (sym s.1.0 i) (text p.closing))
+    let block-written = held.written two.1 two.0 (ap module_block named.numbering) in
+    λ i. forms_module (text p.name, no_field) (block-written i) (text p.closing, no_field)
