@@ -1,32 +1,39 @@
-# What a fresh machine with the toolchain needs:
-#   make demo              plays a conversation with the server: with bin/ob0 where that is proved and up to date, else with
-#                          the program compiled without its proofs, in one to three minutes
-#   make build             proves and builds the program, bin/ob0
-#   make package           packs the proved program: a Debian package, a .tar.gz with the same tree, the .vsix if it can be made, and
-#                          their SHA256SUMS, in bin/
-#   make vsix              packs the extension for VS Code, in bin/; needs the modules that `make editors RELEASE=trixie` gets
-#   make install PREFIX=.. copies that tree to PREFIX: the program, manual page, completions, editor files, pages and examples
-#   make uninstall PREFIX=.. removes what was installed there
-#   make test              the gate (every proof; the kit keeps what passed before on this machine), some mutants and the end-to-end tests
-#   make test ANEW=1       the same, and every proof from nothing
-#   make help              prints these lines, as `make` alone does
-# (where bin/ob0 is there and up to date, build, package, install and demo need no toolchain)
-# and beside them:
-#   make editors           installs the editors and tools that the end-to-end tests want, by apt-get
-#   make editors RELEASE=trixie  runs the tests of editors on those of another release of Debian, in a root of its own, as root; WORDS=".." names some
-#   make check             proves all crates and their tests over what earlier checks kept, links and runs nothing, and says how much was
-#                          proved again: some minutes after a change of a function. It isn't the gate
-#   make try               the tables of check, run and rename, with the program compiled without its proofs, in two to four minutes
-#   make end-to-end        the end-to-end tests alone, on bin/ob0
-#   make faults            what takes longer: each allocation fails in turn, two long conversations, many random changes, texts and runs; WORDS=".." names some
-#   make wrong-bodies      tries the mutants that weren't refused yet in their present form, over what `make check` keeps; ALL=1: all; CRATE="NAME.." names some
-#   make surface           the public functions and their mutants: docs/SURFACE.md, and how many mutants: README.md
-#   make statement         what the headline says: docs/STATEMENT.md, and all other definitions that it needs: bin/DEFINITIONS.md
-#   make bench             times the program, and writes docs/PERFORMANCE.md with its plots; nothing fails by time
-#   make pictures          makes README's picture of an editor and those of docs/ARCHITECTURE.md
+# The program (if bin/ob0 is up to date, demo, build, package and install need no toolchain):
+#
+#   make demo           plays a conversation with the server: with bin/ob0 if that is up to date,
+#                       otherwise with the program compiled without its proofs (1 to 3 minutes)
+#   make build          proves and builds the program, bin/ob0
+#   make test           the gate (every proof), some mutants, and the end-to-end tests; the kit
+#                       reuses what passed before on this machine. ANEW=1: proves from scratch
+#   make package        packs the proved program into bin/: a Debian package, an archive, the .vsix
+#                       if it can be made, and their SHA256SUMS
+#   make vsix           packs the extension for VS Code into bin/; needs the modules that
+#                       `make editors RELEASE=trixie` gets
+#   make install        copies the program, manual pages, completions, editor files, pages and
+#                       examples to PREFIX (/usr/local)
+#   make uninstall      removes from PREFIX what was installed there
+#   make help           prints these lines, as `make` does
+#
+# For a change:
+#
+#   make check          proves all crates and their tests, reusing what earlier checks proved;
+#                       links and runs nothing. It isn't the gate
+#   make try            runs the tables of check, run and rename on the program compiled without
+#                       its proofs (2 to 4 minutes). WORDS=".." selects some
+#   make end-to-end     runs only the end-to-end tests, on bin/ob0
+#   make wrong-bodies   tries the mutants that weren't yet refused in their present form.
+#                       ALL=1: all of them; CRATE="NAME.." selects some
+#   make faults         runs the tests that take longer: each allocation fails once; long
+#                       conversations; random changes, texts and runs. WORDS=".." selects some
+#   make bench          measures the program, and writes docs/PERFORMANCE.md with its plots
+#   make surface        writes bin/SURFACE.md (crates, functions, mutants), and counts in README.md
+#   make statement      writes docs/STATEMENT.md, and bin/DEFINITIONS.md with all other definitions
+#   make pictures       draws README's picture of an editor, and those of docs/ARCHITECTURE.md
+#   make editors        installs the editors and tools of the end-to-end tests, by apt-get.
+#                       RELEASE=trixie runs the editors' tests on another Debian, as root
 PREFIX ?= /usr/local
 PYTHON ?= python3
-# (a recipe reads these from the environment, so that a shell takes nothing out of them)
+# A recipe reads these from the environment, so that no shell expands them.
 export PREFIX DESTDIR
 
 .PHONY: help demo test build check editors try end-to-end faults wrong-bodies surface statement bench pictures package vsix install uninstall python

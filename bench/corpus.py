@@ -18,7 +18,7 @@ KINDS = ("int", "bool", "array", "record")
 
 
 class Scope:
-    """The names that are visible, by what they are."""
+    """The visible names, by their kind."""
 
     def __init__(self, outer: Scope | None = None) -> None:
         self.names: dict[str, list[str]] = {it: list(outer.names[it]) if outer else [] for it in (*KINDS, "const")}
@@ -37,7 +37,7 @@ class Maker:
         return f"{letter}{self.made}"
 
     def pick(self, scope: Scope, kind: str) -> str:
-        # (mostly the newest names, as people write)
+        # (usually the newest names, as people write)
         names = scope.names[kind]
         return names[max(0, len(names) - 1 - int(self.chance.expovariate(0.15)))]
 

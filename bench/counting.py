@@ -12,12 +12,12 @@ from common import match_of
 
 
 def lacks(command: str) -> Optional[str]:
-    """What is said of a command that isn't here, or None."""
+    """Returns a text about a missing command, or None."""
     return None if shutil.which(command) else f"{command} is missing (on Debian: apt-get install {command})"
 
 
 def instructions(words: List[str], given: IO[bytes]) -> int:
-    """How many instructions a command takes on this input. (Python orders sets by a seed.)"""
+    """Returns how many instructions a command takes on this input. (Python orders sets by a seed.)"""
     callgrind = ["valgrind", "--tool=callgrind", "--callgrind-out-file=/dev/null", *words]
     own = {**os.environ, "PYTHONHASHSEED": "0", "LC_ALL": "C.UTF-8"}
     done = subprocess.run(callgrind, stdin=given, stdout=subprocess.DEVNULL, stderr=subprocess.PIPE, env=own, check=False)
@@ -25,7 +25,7 @@ def instructions(words: List[str], given: IO[bytes]) -> int:
 
 
 def instructions_by_function(words: List[str], given: IO[bytes]) -> Dict[str, int]:
-    """How many instructions a command takes on this input in each of its functions, without the functions that these call."""
+    """Returns how many instructions a command takes on this input in each of its functions, without the functions that these call."""
     with tempfile.TemporaryDirectory() as room:
         out = os.path.join(room, "out")
         callgrind = ["valgrind", "--tool=callgrind", f"--callgrind-out-file={out}", *words]
@@ -39,7 +39,7 @@ def instructions_by_function(words: List[str], given: IO[bytes]) -> Dict[str, in
 
 
 def instructions_of_conversation(program: str, given: bytes) -> int:
-    """How many instructions a conversation takes."""
+    """Returns how many instructions a conversation takes."""
     with tempfile.TemporaryFile() as file:
         file.write(given)
         file.seek(0)
@@ -47,7 +47,7 @@ def instructions_of_conversation(program: str, given: bytes) -> int:
 
 
 def instructions_on_file(words: List[str], text: str) -> int:
-    """How many instructions a command takes on a file with this text, and no input."""
+    """Returns how many instructions a command takes on a file with this text, and no input."""
     with tempfile.TemporaryDirectory() as room:
         path = os.path.join(room, "program")
         with open(path, "w", encoding="utf-8") as out:

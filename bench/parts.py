@@ -1,5 +1,5 @@
 #!/usr/bin/env python3
-"""Counts where the instructions of a change go: in each part of the server, for changes in the middle of a text of 1 MB.
+"""Counts the instructions of a change in each part of the server, for changes in the middle of a text of 1 MB.
 
   bench/parts.py    counts on bin/ob0 (or on the program that the variable OB0 names)
 
@@ -16,7 +16,7 @@ sys.dont_write_bytecode = True
 HERE = os.path.dirname(os.path.abspath(__file__))
 sys.path[:0] = [HERE, os.path.join(os.path.dirname(HERE), "tests", "lib")]
 
-from harness import BINARY, frames  # noqa: E402 (it says where the scripts are)
+from harness import BINARY, frames  # noqa: E402 (it knows the folders of the scripts)
 
 import common  # noqa: E402
 import corpus  # noqa: E402

@@ -24,7 +24,7 @@ Rows = List[Tuple[str, List[float]]]
 
 
 def region(heading: str) -> re.Pattern[str]:
-    """What is under a heading: a paragraph, and then the plot and the table, or a line that says that they aren't there."""
+    """Returns the text under a heading: a paragraph, and then the plot and the table, or a line that says that they are missing."""
     return re.compile(rf"(## {re.escape(heading)}\n\n(?:[^\n]+\n)+\n)(Not counted yet[^\n]*\n|!\[[^\n]*\n\n(?:\|[^\n]*\n)+)")
 
 
@@ -44,7 +44,7 @@ def in_words(value: float) -> str:
 
 
 def scale(low: float, high: float, first: float, last: float) -> Callable[[float], float]:
-    """Where a number is between two places, which are those of two powers of ten."""
+    """Returns the place of a number between the places of two powers of ten."""
     return lambda value: first + (math.log10(value) - low) / (high - low) * (last - first)
 
 

@@ -646,7 +646,7 @@ END Many.
 
 
 def open_calls(depth: int, turns: int) -> str:
-    """A program that has this many calls open at a time, this often, each with 16,384 cells of its own, and writes how many it made."""
+    """A program that has this many calls open at a time, this often, each with 16,384 cells, and writes how many it made."""
     return f"""MODULE Deep;
 VAR i, made: INTEGER;
 PROCEDURE Down(n: INTEGER; VAR made: INTEGER);

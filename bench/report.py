@@ -120,9 +120,8 @@ def counted_with() -> str:
     """A list of what the figures were counted with."""
     is_proved = os.path.abspath(BINARY) == common.BINARY and common.is_current()
     kind = "the proved program" if is_proved else "**not the proved program** of these sources"
-    commit = version_of(["git", "-C", TOP, "log", "-1", "--format=%H"], r"(\w+)")
     lines = {
-        "ob0": f"{kind}; the commit is `{commit}`",
+        "ob0": f"{kind}; the sum of its sources is `{common.sum_of(common.sources(common.below('ob0')))}`",
         "the machine": f"x86-64 Linux, {processor()}",
         "valgrind": version_of(["valgrind", "--version"], r"valgrind-(\S+)"),
         "Lua": version_of([BESIDE["Lua"], "-v"], r"Lua (\S+)"),

@@ -5,8 +5,8 @@
 
 The peak memory that docs/ROBUSTNESS.md has goes into tools/figures.txt, with which a test compares that page.
 
-The variable BESIDE may name another program with the same commands: runs, keys and the largest messages are then measured in it
-too."""
+The variable BESIDE may name another program with the same commands. Then runs, keys and the largest messages are also measured
+with that one."""
 from __future__ import annotations
 
 import ctypes
@@ -58,7 +58,7 @@ def megabytes(count: float) -> str:
 
 
 def memory_of(pid: int, kind: str) -> int:
-    """The memory of a process of this kind, as /proc names it. 0 if it has none any more."""
+    """Returns the memory of a process that /proc lists under this name, or 0 if the process has ended."""
     try:
         with open(f"/proc/{pid}/status", encoding="ascii", errors="replace") as file:
             found = re.search(kind + r":\s+(\d+)", file.read())
@@ -78,7 +78,7 @@ def peak_until_now(pid: int) -> int:
 
 
 def watch(pid: int, peak: list[int]) -> None:
-    """Keeps the peak memory of a process, which it looks at each millisecond (its parent's would be counted by wait4)."""
+    """Keeps the peak memory of a process, which it reads each millisecond (wait4 would also count its parent's)."""
     while found := peak_until_now(pid):
         peak[0] = found
         time.sleep(0.001)
@@ -93,7 +93,7 @@ def trace(what: int, pid: int = 0, given: int = 0) -> None:
 
 
 def peak_of(words: list[str], given: IO[bytes], cwd: str | None) -> int:
-    """The peak memory of a run, stopped at its end and looked at there: for runs that are too short to be watched. 0 where
+    """The peak memory of a run that is stopped at its end and read there: for runs that are too short to watch. 0 if
     this system lets nobody stop a process."""
     given.seek(0)
     how: dict[str, Any] = {"stdin": given, "stdout": subprocess.DEVNULL, "stderr": subprocess.DEVNULL, "cwd": cwd}
@@ -112,7 +112,7 @@ def peak_of(words: list[str], given: IO[bytes], cwd: str | None) -> int:
 
 
 class Timed:
-    """A run of a command on bytes as its standard input: seconds, those of them on a processor, peak memory in bytes,
+    """A run of a command on bytes as its standard input: seconds, seconds on a processor, peak memory in bytes,
     what it wrote."""
 
     def __init__(self, words: list[str], given: bytes, cwd: str | None = None) -> None:
@@ -138,7 +138,7 @@ class Timed:
 
 
 def best(count: int, run: Callable[[], Timed]) -> Timed:
-    """The quickest of some runs, by their time on a processor: others may run here too."""
+    """Returns the quickest of some runs, by the time on a processor, because other programs may run here."""
     return min((run() for _ in range(count)), key=Timed.on_processor)
 
 
@@ -149,7 +149,7 @@ def conversed(messages: list[Message], program: str = BINARY) -> Timed:
 
 
 def place_in_the_middle(text: str) -> tuple[int, int]:
-    """The line and the column of a place in the middle of a text where a blank changes nothing."""
+    """Returns the line and column of a place in the middle of a text at which a blank changes nothing."""
     middle = text.index("(", len(text) // 2)
     return text.count("\n", 0, middle), middle - (text.rfind("\n", 0, middle) + 1)
 
@@ -196,10 +196,10 @@ def opened(text: str, times: int) -> Cost:
 
 def ratios(what: str, rows: list[tuple[int, float, int]]) -> None:
     """Prints how time on a processor and peak memory grew between the last two of some rows of a text's length, seconds and
-    memory (from 100 KB to 1 MiB, where these are the sizes), and both by the growth of the length."""
+    memory (from 100 KB to 1 MiB, if these are the sizes), and both by the growth of the length."""
     (small, first, low), (large, last, high) = rows[-2:]
     grew = large / small
-    said(f"{what}: time grew by {last / first:.1f} where the text grew by {grew:.1f}", f"ratio {last / first / grew:.2f}")
+    said(f"{what}: time grew by {last / first:.1f}, and the text by {grew:.1f}", f"ratio {last / first / grew:.2f}")
     if low:
         said(f"{what}: peak memory grew by {high / low:.1f} there", f"ratio {high / low / grew:.2f}")
     else:
@@ -252,7 +252,7 @@ def faulty() -> None:
 
 
 class Talk:
-    """A server in conversation, one message at a time; what comes back is awaited and not read as JSON."""
+    """A server in conversation, one message at a time; replies are awaited and not read as JSON."""
 
     def __init__(self, text: str, **capabilities: Any) -> None:
         self.process = subprocess.Popen([BINARY, "serve"], stdin=subprocess.PIPE, stdout=subprocess.PIPE, bufsize=0)
@@ -291,7 +291,7 @@ class Talk:
         return content
 
     def after(self, message: Message) -> tuple[float, bytes]:
-        """The seconds from a message's first byte to the last one of what comes then, and that."""
+        """Returns the reply to a message, and the seconds from the message's first byte to the reply's last one."""
         given = frame(message)
         start = time.monotonic()
         self.send(given)
@@ -333,11 +333,11 @@ def on_file(words: list[str], text: str, given: bytes = b"", times: int = 3) -> 
         return best(times, lambda: Timed([BINARY, words[0], "m.mod", *words[1:]], given, cwd=room))
 
 
-@measure("parse: a module that ends too early, beside one with a bad character at its end")
+@measure("parse: a module that ends too early, compared with one that has a bad character at its end")
 def parsed() -> None:
-    """What comes after the parser isn't begun where a module ends too early, and the parser isn't where the scanner reports a fault."""
+    """If a module ends too early, nothing after the parser begins; if the scanner reports a fault, the parser doesn't begin."""
 
-    def beside(sizes: list[int], **how: Any) -> None:
+    def compare(sizes: list[int], **how: Any) -> None:
         rows = []
         for size in sizes:
             text = corpus.module(size, **how)
@@ -348,11 +348,11 @@ def parsed() -> None:
                 said("NOTE: a fault was expected of each", f"status {scanned.status}, {both.status}")
             seconds = max(both.processor - scanned.processor, 1e-4)
             rows.append((len(text), seconds, both.memory))
-            said(f"{len(text):,} bytes, {'on one line' if how else 'on many lines'}", f"parse {len(text) / seconds / 1e6:.1f} MB/s; scan and parse {both.processor * 1000:.1f} ms, {megabytes(both.memory)}; scan alone {scanned.processor * 1000:.1f} ms, {megabytes(scanned.memory)}")
+            said(f"{len(text):,} bytes, {'on one line' if how else 'on many lines'}", f"parse {len(text) / seconds / 1e6:.1f} MB/s; scan and parse {both.processor * 1000:.1f} ms, {megabytes(both.memory)}; only scan {scanned.processor * 1000:.1f} ms, {megabytes(scanned.memory)}")
         ratios("parse", rows)
 
-    beside([10000, 100000, MIB - 1000])
-    beside([100000, MIB - 1000], on_line=True)
+    compare([10000, 100000, MIB - 1000])
+    compare([100000, MIB - 1000], on_line=True)
 
 
 @measure("check: corpora, a large block, deep procedures")
@@ -381,7 +381,7 @@ def large_block() -> None:
 
 
 def cost_of_query(text: str, method: str, params: Message, expected: bytes, count: int, **capabilities: Any) -> Cost:
-    """What a request costs through `serve` beside the opening alone: time on a processor, and the peak memory. The answer
+    """Returns the cost of a request through `serve` without the opening: time on a processor, and the peak memory. The answer
     must hold the expected bytes so often."""
     question = request(5, f"textDocument/{method}", {"textDocument": {"uri": "file:///m"}, **params})
     start = [initialize(**capabilities), did_open(text)]
@@ -396,9 +396,9 @@ USES = (("on many lines", False), ("on one line", True))
 COUNTS, OF_A_FIELD = [17000, 170000], [12500, 125000]
 
 
-@measure("large: the largest that is taken, beside half of it")
+@measure("large: the largest input, compared with half of it")
 def largest() -> None:
-    """A ratio of 1 is a cost that grows with the size; the start of the program is taken away."""
+    """A ratio of 1 is a cost that grows with the size. The program's start is subtracted."""
     import largest_inputs
 
     nothing = best(3, lambda: Timed([BINARY, "serve"], frames([initialize(), SHUTDOWN, EXIT]))).processor
@@ -425,7 +425,7 @@ def place_of(text: str, at: int) -> Message:
 
 
 def middle_name(text: str) -> int:
-    """Where a number is assigned to a variable, after the middle of a text, in a statement of a line of its own."""
+    """Returns the place, after the middle of a text, of a number that a statement on its own line assigns to a variable."""
     middle = len(text) // 2
     return middle + match_of(r"(?<=[\n ])v[0-9]+ := [^;\n]*;", text[middle:]).start()
 
@@ -455,7 +455,7 @@ def questions_in_the_middle() -> None:
         text = corpus.module(size)
         start = [initialize(**ABLE), did_open(text)]
         counts = lacks("valgrind") is None
-        alone = instructions_of_conversation(BINARY, frames([*start, SHUTDOWN, EXIT])) if counts else 0
+        opening = instructions_of_conversation(BINARY, frames([*start, SHUTDOWN, EXIT])) if counts else 0
         for name, (method, params) in questions_at(text).items():
             one = request(5, f"textDocument/{method}", params)
             with Talk(text, **ABLE) as talk:
@@ -467,7 +467,7 @@ def questions_in_the_middle() -> None:
             if b'"error"' in answer:
                 said("NOTE: another answer was expected", answer[:200].decode(errors="replace"))
             counted = instructions_of_conversation(BINARY, frames([*start, *[one] * few, SHUTDOWN, EXIT])) if counts else 0
-            steps = f"{(counted - alone) / few:,.0f} instructions" if counts else lacks("valgrind")
+            steps = f"{(counted - opening) / few:,.0f} instructions" if counts else lacks("valgrind")
             said(f"{name}, {len(text):,} bytes", f"{taken:.3f} ms  {steps}  {len(answer):,} bytes answered")
 
 
@@ -501,7 +501,7 @@ def typed() -> None:
         said(f"{len(text):,} bytes: a key, the slowest by the clock", f"{taken:.2f} ms, {slowest:.2f} ms  peak memory {megabytes(memory)}")
 
 
-@measure("typing: changes that leave a text ill-typed, beside changes that don't")
+@measure("typing: changes that leave a text ill-typed, compared with changes that don't")
 def left_ill_typed() -> None:
     """What makes a number a truth value is put in and taken out again, and so is what leaves it a number."""
     for size in (10_000, 100_000, MIB - 1000):
@@ -518,7 +518,7 @@ def left_ill_typed() -> None:
                     if number == 0 and (b'"code"' in content) != (new == "TRUE & "):
                         said("NOTE: other diagnostics were expected", content[:200].decode(errors="replace"))
                 faulty.append((talk.used() - before) / 20)
-        said(f"{len(text):,} bytes: ill-typed in turn, well-typed", f"{faulty[0]:.2f} ms, {faulty[1]:.2f} ms  ratio {faulty[0] / faulty[1]:.2f}")
+        said(f"{len(text):,} bytes: ill-typed every other time, well-typed", f"{faulty[0]:.2f} ms, {faulty[1]:.2f} ms  ratio {faulty[0] / faulty[1]:.2f}")
 
 
 @measure("serve: 1,000 open documents of 10 KB")
@@ -530,7 +530,7 @@ def many_documents() -> None:
         said("peak memory", megabytes(peak_until_now(talk.process.pid)))
 
 
-@measure("questions: a hover in each of some documents of 1 MB in turn")
+@measure("questions: hovers in several documents of 1 MB, one after another")
 def questions_in_turn() -> None:
     """Four of the longest are kept: with one more each question reads a whole text again."""
     text = corpus.module(MIB - 1000)
@@ -548,7 +548,7 @@ def questions_in_turn() -> None:
 
 @measure("serve: documents of 1 MB that become a comment that isn't closed")
 def commented_out() -> None:
-    """What is kept of a text without lexemes is bounded by what it counts for: both lines are about the same."""
+    """A text without lexemes keeps at most as much as it counts for: both lines are about the same."""
     text = corpus.module(MIB - 1000)
     with Talk(text) as talk:
         talk.after(did_change("(*"))
@@ -562,7 +562,7 @@ def commented_out() -> None:
 
 @measure("serve: documents that each become one character: of 8 KB a bad one, of 100 KB a name")
 def one_character() -> None:
-    """What is kept of the text before counts too, or is nothing: the lines of each are about the same."""
+    """The parts kept for the text before also count, or there are none: the lines of each are about the same."""
     for letter, size, counts in (("$", 8_000, (500, 1000, 2000)), ("x", 100_000, (100, 200, 400))):
         text = corpus.module(size)
         with Talk(text) as talk:
@@ -614,14 +614,14 @@ def renamed() -> None:
 
 
 def halves(what: str, cost: Callable[[int, int], Cost], first: int, second: int) -> None:
-    """Prints what a pair of sizes costs, and its ratio from half of either: 1 is a cost that grows with that size alone, 0.5 one
+    """Prints what a pair of sizes costs, and its ratio from half of either: 1 is a cost that grows with only that size, 0.5 one
     that doesn't grow with it. A product of both sizes would be 1 each way."""
     whole, memory = cost(first, second)
     by_first, by_second = cost(first // 2, second)[0], cost(first, second // 2)[0]
     said(f"{what}, {first:,} and {second:,}", f"{whole:7.3f} s, ratios {whole / by_first / 2:.2f} and {whole / by_second / 2:.2f}; {megabytes(memory)}")
 
 
-@measure("rename: a long name for one that is used all over 1 MB, beside half of the uses and half of the name")
+@measure("rename: a long name for one that is used all over 1 MB, compared with half of the uses and half of the name")
 def renamed_to_a_long_name() -> None:
     def cost(uses: int, letters: int) -> Cost:
         ask = {"newName": "y" * letters, "position": place(0, 17)}
@@ -631,7 +631,7 @@ def renamed_to_a_long_name() -> None:
 
 
 def cost_of_changes(changes: int, lines: int, line_of: Callable[[int], int], program: str = BINARY) -> Cost:
-    """What one notification takes beside an open alone: change number `at` is in line `line_of(at)` of this many."""
+    """Returns the cost of one notification without the opening: change number `at` is in line `line_of(at)` of this many."""
     text = "MODULE M; VAR x: INTEGER; BEGIN\n" + "x:=x+1;\n" * lines + "END M.\n"
     replaced = [{"range": extent(f"{1 + line_of(at)}:0-{1 + line_of(at)}:1"), "text": "x"} for at in range(changes)]
     start = [initialize(), did_open(text)]
@@ -639,26 +639,26 @@ def cost_of_changes(changes: int, lines: int, line_of: Callable[[int], int], pro
     return max(found.processor - opening.processor, 1e-4), found.memory
 
 
-@measure("serve: a change on each line in one note, beside half of the changes and half of the lines")
+@measure("serve: a change on each line in one notification, compared with half of the changes and half of the lines")
 def changed_on_each_line() -> None:
-    # (from the first line on, and at the first again after the last)
+    # the changes begin at the first line, and begin there again after the last
     halves("changes and lines", lambda changes, lines: cost_of_changes(changes, lines, lambda at: at % lines), 128_000, 128_000)
 
 
-@measure("serve: changes of the first line and the last in turn in one note, beside half of the changes and half of the lines")
+@measure("serve: changes that alternate between the first line and the last in one notification, compared with half of both")
 def changed_at_both_ends() -> None:
-    """Each moves the starts of all lines between. Where BESIDE names another program, the time by its own."""
+    """Each moves the starts of all lines between. If BESIDE names another program, its time is also printed."""
 
     def cost(changes: int, lines: int, program: str = BINARY) -> Cost:
         return cost_of_changes(changes, lines, lambda at: at % 2 * (lines - 1), program)
 
-    halves("changes in turn and lines", cost, 16_000, 128_000)
+    halves("alternating changes, and lines", cost, 16_000, 128_000)
     if os.environ.get("BESIDE"):
         seconds, _ = cost(16_000, 128_000, os.environ["BESIDE"])
-        said("changes in turn, beside", f"{seconds:7.3f} s, ratio {cost(16_000, 128_000)[0] / seconds:.2f}")
+        said("alternating changes, other program", f"{seconds:7.3f} s, ratio {cost(16_000, 128_000)[0] / seconds:.2f}")
 
 
-@measure("serve: a replace-all in one long line in one note, beside half of the changes and half of the line")
+@measure("serve: a replace-all in one long line in one notification, compared with half of the changes and half of the line")
 def replaced_in_one_line() -> None:
     """Each place is counted from the one before it, in either order."""
 
@@ -670,13 +670,13 @@ def replaced_in_one_line() -> None:
         found, opening = conversed([*start, did_change(replaced, version=2)]), conversed(start)
         return max(found.processor - opening.processor, 1e-4), found.memory
 
-    halves("changes from the first on, and the line", lambda changes, size: cost(changes, size, False), 64_000, 128_000)
-    halves("changes from the last on, and the line", lambda changes, size: cost(changes, size, True), 64_000, 128_000)
+    halves("changes, first to last, and the line", lambda changes, size: cost(changes, size, False), 64_000, 128_000)
+    halves("changes, last to first, and the line", lambda changes, size: cost(changes, size, True), 64_000, 128_000)
 
 
-@measure("serve: one message of 16 MiB, beside one of 8")
+@measure("serve: one message of 16 MiB, compared with one of 8")
 def largest_message() -> None:
-    """Where BESIDE names another program, the time and the peak memory by its own."""
+    """If BESIDE names another program, its time and its peak memory are also printed."""
 
     def each(one: bytes, size: int, program: str = BINARY) -> Cost:
         content = b"[" + (one + b",") * ((size - 3) // (len(one) + 1)) + b"0]"
@@ -692,7 +692,7 @@ def largest_message() -> None:
         peaks[f"one message: {name}"] = f"16 MiB of {name} | {high / MIB:,.0f} MiB"
         if os.environ.get("BESIDE"):
             seconds, memory = each(one, 16 * MIB - 64, os.environ["BESIDE"])
-            said(f"a message of {name}, beside", f"{seconds:7.3f} s  {megabytes(memory)}  ratios {whole / seconds:.2f} and {high / memory:.2f}")
+            said(f"a message of {name}, other program", f"{seconds:7.3f} s  {megabytes(memory)}  ratios {whole / seconds:.2f} and {high / memory:.2f}")
     figures.keep(peaks, BINARY)
 
 
@@ -761,7 +761,7 @@ def laid_out() -> None:
 
 @measure("keys: what an editor does while one types: instructions, and time on a processor")
 def keys_typed() -> None:
-    """Where BESIDE names another program, its instructions come after."""
+    """If BESIDE names another program, its instructions are printed after ours."""
 
     programs = [it for it in (BINARY, os.environ.get("BESIDE")) if it]
     counts = lacks("valgrind") is None
@@ -786,7 +786,7 @@ def grown_and_shrunk() -> None:
 
 
 def instructions(words: list[str], file: str) -> str:
-    """How many instructions a command on a file has, as valgrind counts them; what is said where it can't."""
+    """Returns how many instructions a command on a file takes, as valgrind counts them, or why it can't."""
     if missing := lacks("valgrind"):
         return f"skipped: {missing}"
     counted = ["valgrind", "--tool=callgrind", "--callgrind-out-file=/dev/null", *words, file]
@@ -799,7 +799,7 @@ def instructions(words: list[str], file: str) -> str:
 def ran() -> None:
     import programs
 
-    beside = os.environ.get("BESIDE")
+    compared = os.environ.get("BESIDE")
     missing = {command: lacks(command) for command in ("lua5.4", "python3")}
     for name, (text, lua, python) in programs.PROGRAMS.items():
         found = on_file(["run"], text)
@@ -810,7 +810,7 @@ def ran() -> None:
                 it.write(text)
             said(f"{name}: ob0, counted", instructions([BINARY, "run"], file))
         others = [(["lua5.4"], lua), (["python3"], python)]
-        for words, other in [([beside, "run"], text), *others] if beside else others:
+        for words, other in [([compared, "run"], text), *others] if compared else others:
             command = os.path.basename(words[0])
             if missing.get(command):
                 said(f"{name}: {command}", f"skipped: {missing[command]}")

@@ -3,7 +3,7 @@
 
   bench/whole_modules.py [CHANGES]    this many changes, 10,000 by default, in conversations of 100
 
-The conversations are those of the test of random changes. Callgrind counts the calls of the functions that scan a changed text, parse
+The conversations are the same as in the test of random changes. Callgrind counts the calls of the functions that scan a changed text, parse
 it, bind all its names and check its types. These functions must not be inlined. The script fails if all types are checked again
 after a quarter of the changes. It needs valgrind."""
 from __future__ import annotations
@@ -25,7 +25,7 @@ from counting import lacks  # noqa: E402
 
 # The functions whose calls are counted, and what a call does.
 COUNTED = {
-    "rescan_in_place": "scanned from the change on",
+    "rescan_in_place": "scanned after the change",
     "reparse_tree": "parsed",
     "bindings_of": "bound as a whole",
     "check_result_from_report": "checked",
@@ -35,7 +35,7 @@ CALLED = re.compile(r"cfn=(.*)|calls=(\d+)")
 
 
 def wrapper(room: str) -> str:
-    """The path of a script that runs the program under callgrind. The counts of each run are in a file of its own."""
+    """The path of a script that runs the program under callgrind. The counts of each run are in a separate file."""
     program = os.path.abspath(os.environ.get("OB0") or os.path.join(TOP, "bin", "ob0"))
     callgrind = f"valgrind --quiet --tool=callgrind --compress-strings=no --callgrind-out-file='{room}/%p.calls'"
     path = os.path.join(room, "counted")
@@ -46,7 +46,7 @@ def wrapper(room: str) -> str:
 
 
 def calls_in(path: str) -> Counter[str]:
-    """How often each of the counted functions was called in a run."""
+    """Returns how often each of the counted functions was called in a run."""
     found: Counter[str] = collections.Counter()
     name = ""
     with open(path, encoding="utf-8", errors="replace") as lines:

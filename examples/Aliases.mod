@@ -1,4 +1,4 @@
-MODULE Aliases; (* two names for one variable: what VAR parameters can do that others can't *)
+MODULE Aliases; (* VAR parameters can make two names for one variable *)
 VAR
   x, y: INTEGER;
   a: ARRAY 3 OF INTEGER;

@@ -1,4 +1,4 @@
-MODULE Collatz; (* n is halved or tripled and one added, until it is 1 *)
+MODULE Collatz; (* halves n if it is even, otherwise makes it 3n + 1, until it is 1 *)
 VAR
   n, steps: INTEGER;
 BEGIN

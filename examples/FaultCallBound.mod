@@ -1,4 +1,4 @@
-MODULE FaultCallBound; (* a recursion without an end: at most 64 calls may be open *)
+MODULE FaultCallBound; (* a recursion that doesn't end: at most 64 calls may be open *)
 VAR
   depth: INTEGER;
   PROCEDURE Down;

@@ -1,4 +1,4 @@
-MODULE FaultDivisor; (* a divisor has to be 1 at least *)
+MODULE FaultDivisor; (* a divisor must be at least 1 *)
 VAR
   d: INTEGER;
 BEGIN

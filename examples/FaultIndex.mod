@@ -1,4 +1,4 @@
-MODULE FaultIndex; (* an index that isn't in its array: the last numbers written say how far it came *)
+MODULE FaultIndex; (* an index outside its array; the last numbers written show how far the loop got *)
 CONST
   N = 5;
 VAR

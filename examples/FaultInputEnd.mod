@@ -1,4 +1,4 @@
-MODULE FaultInputEnd; (* reads four numbers of an input that has three *)
+MODULE FaultInputEnd; (* reads four numbers, but the input has only three *)
 VAR
   n, sum, i: INTEGER;
 BEGIN

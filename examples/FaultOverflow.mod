@@ -1,4 +1,4 @@
-MODULE FaultOverflow; (* powers of 10 until one has no 32 bits *)
+MODULE FaultOverflow; (* powers of 10, until one doesn't fit in 32 bits *)
 VAR
   n: INTEGER;
 BEGIN

@@ -1,4 +1,4 @@
-MODULE FaultTurnBound; (* a loop without an end: each makes at most 100,000 iterations *)
+MODULE FaultTurnBound; (* a loop that doesn't end: a loop may make at most 100,000 iterations *)
 VAR
   i: INTEGER;
 BEGIN

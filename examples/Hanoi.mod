@@ -1,4 +1,4 @@
-MODULE Hanoi; (* the Towers of Hanoi by recursion: from which peg to which each disk goes *)
+MODULE Hanoi; (* the Towers of Hanoi by recursion: writes from which peg to which peg each disk moves *)
 VAR
   disks: INTEGER;
   PROCEDURE Move(disks, from, to, over: INTEGER);

@@ -1,4 +1,4 @@
-MODULE HanoiRepeat; (* the same moves by REPEAT: move m takes the disk that m's trailing zero bits tell *)
+MODULE HanoiRepeat; (* the same moves by REPEAT: the trailing zero bits of m give the disk that move m takes *)
 VAR
   disks, m, moves, disk, rest, from, step: INTEGER;
   place: ARRAY 11 OF INTEGER;

@@ -1,4 +1,4 @@
-MODULE InsertionSort; (* reads how many numbers follow, and then these, and writes them in order *)
+MODULE InsertionSort; (* reads a count and then as many numbers, and writes them in order *)
 CONST
   Most = 100;
 TYPE
@@ -14,7 +14,7 @@ VAR
     WHILE i < count DO
       x := a[i];
       k := i;
-      (* (where k is 0 the right side of & isn't evaluated) *)
+      (* if k is 0, the right side of & isn't evaluated *)
       WHILE (k > 0) & (a[k - 1] > x) DO
         a[k] := a[k - 1];
         k := k - 1

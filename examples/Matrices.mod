@@ -58,7 +58,7 @@ BEGIN
   Get(b);
   Multiply(a, b, c);
   Put(c);
-  (* a is copied before c, which is a here, is written *)
+  (* the value parameters are copies, so writing c, which is a here, doesn't change them *)
   Multiply(a, a, a);
   Put(a)
 END Matrices.

@@ -1,4 +1,4 @@
-MODULE Search; (* binary search in a sorted array; -1 where the number isn't there *)
+MODULE Search; (* binary search in a sorted array; -1 if it doesn't contain the number *)
 CONST
   N = 10;
 VAR
@@ -18,7 +18,7 @@ VAR
         high := middle
       END
     END;
-    (* (low is N where all numbers are smaller: a[low] is then not evaluated) *)
+    (* low is N if all numbers are smaller; a[low] isn't evaluated then *)
     IF (low < N) & (a[low] = x) THEN
       at := low
     ELSE

@@ -1,6 +1,6 @@
-# Completion of ob0, ob0-format and ob0-watch for bash.
+# Completion of ob0 and its scripts for bash.
 
-# Completes the word at the cursor to the modules and folders that it can become.
+# Completes the word at the cursor to modules and folders.
 _ob0_modules() {
     compopt -o filenames 2>/dev/null
     mapfile -t COMPREPLY < <(compgen -f -X '!*.@(ob0|mod|Mod)' -- "$1"; compgen -d -- "$1")
@@ -16,7 +16,7 @@ _ob0() {
             *) if [[ -z $command ]]; then command=${COMP_WORDS[at]}; else place=$((place + 1)); fi ;;
         esac
     done
-    # (a file after a redirection, and what this function finds nothing for where a file is wanted, are completed as usual)
+    # (a file after a redirection is completed as usual, and so is a file for which this function finds nothing)
     case $before in
         *[\<\>]) return ;;
     esac
@@ -41,18 +41,24 @@ _ob0() {
     fi
 }
 
-_ob0_format() {
+# Completes the word at the cursor to one of these options, or else to a module.
+_ob0_options_or_modules() {
     local word=${COMP_WORDS[COMP_CWORD]}
     COMPREPLY=()
     case ${COMP_WORDS[COMP_CWORD - 1]} in
         *[\<\>]) return ;;
     esac
     if [[ $word == -* ]]; then
-        mapfile -t COMPREPLY < <(compgen -W "--check -h --help -V --version" -- "$word")
+        mapfile -t COMPREPLY < <(compgen -W "$* -h --help -V --version" -- "$word")
     else
         _ob0_modules "$word"
     fi
 }
+
+_ob0_check() { _ob0_options_or_modules --hints --github --json; }
+_ob0_format() { _ob0_options_or_modules --check --diff; }
+_ob0_trace() { _ob0_options_or_modules --calls --program --turns; }
+_ob0_rename() { _ob0_options_or_modules -i --in-place; }
 
 _ob0_watch() {
     local word=${COMP_WORDS[COMP_CWORD]} first=1
@@ -64,7 +70,7 @@ _ob0_watch() {
         return # (the report's file is completed as usual)
     elif ((COMP_CWORD == first)) && [[ $word == -* ]]; then
         local options="--"
-        ((first == 1)) && options="-- --report -h --help"
+        ((first == 1)) && options="-- --report -h --help -V --version"
         mapfile -t COMPREPLY < <(compgen -W "$options" -- "$word")
     elif ((COMP_CWORD > first)) && [[ ${COMP_WORDS[first]} == -- ]]; then
         # (the words of another server are completed as usual)
@@ -78,5 +84,8 @@ _ob0_watch() {
 
 shopt -s extglob
 complete -o bashdefault -o default -F _ob0 ob0
+complete -o bashdefault -o default -F _ob0_check ob0-check
 complete -o bashdefault -o default -F _ob0_format ob0-format
+complete -o bashdefault -o default -F _ob0_rename ob0-rename
+complete -o bashdefault -o default -F _ob0_trace ob0-trace
 complete -o bashdefault -o default -F _ob0_watch ob0-watch

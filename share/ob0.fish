@@ -1,11 +1,11 @@
-# Completion of ob0, ob0-format and ob0-watch for fish.
+# Completion of ob0 and its scripts for fish.
 
 # The modules and folders that the word at the cursor can become: fish's own completion of files knows ~, variables and quotes.
 function __ob0_modules
     complete -C "'' "(commandline -ct) | string match -r -- '.*(?:\.ob0|\.mod|\.Mod|/)(?:\t.*)?$'
 end
 
-# Whether the command is one of these and has no file yet.
+# Whether the command is one of these and still needs its file.
 function __ob0_wants_file
     set -l words (commandline -opc)
     set -l plain
@@ -24,7 +24,7 @@ end
 
 complete -c ob0 -f
 complete -c ob0 -n __fish_use_subcommand -a serve -d 'Serve one conversation with an editor over standard input and output'
-complete -c ob0 -n __fish_use_subcommand -a check -d 'Print what is wrong with a module'
+complete -c ob0 -n __fish_use_subcommand -a check -d 'Print the errors of a module'
 complete -c ob0 -n __fish_use_subcommand -a run -d 'Run a module on the numbers of standard input'
 complete -c ob0 -n __fish_use_subcommand -a rename -d 'Print a module with another name for one of its names'
 complete -c ob0 -n __fish_use_subcommand -a help -d 'Print how ob0 or one of its commands is used'
@@ -37,13 +37,22 @@ complete -c ob0 -n '__fish_seen_subcommand_from serve' -l clientProcessId -x -d 
 complete -c ob0 -s h -l help -d 'Print help'
 complete -c ob0 -n __fish_use_subcommand -s V -l version -d 'Print the version'
 
-complete -c ob0-format -f
-complete -c ob0-format -a '(__ob0_modules)'
-complete -c ob0-format -l check -d 'Change nothing, and print the names of the files that are not formatted'
-complete -c ob0-format -s h -l help -d 'Print help'
-complete -c ob0-format -s V -l version -d 'Print the version'
+for script in ob0-check ob0-format ob0-rename ob0-trace
+    complete -c $script -f -a '(__ob0_modules)'
+    complete -c $script -s h -l help -d 'Print help'
+    complete -c $script -s V -l version -d 'Print the version'
+end
+complete -c ob0-check -l hints -d 'Print under an error what was probably meant'
+complete -c ob0-check -l github -d 'Print commands that mark the lines in a GitHub job'
+complete -c ob0-check -l json -d "Print JSON in the form of GitLab's code quality reports"
+complete -c ob0-format -l check -d 'Change nothing; list the files that are not formatted'
+complete -c ob0-format -l diff -d 'Change nothing, and print what would change'
+complete -c ob0-rename -s i -l in-place -d 'Replace the file'
+complete -c ob0-trace -l calls -x -d 'How many calls may be open at a time, 0 to 64'
+complete -c ob0-trace -l turns -x -d 'How many iterations a loop may make, 0 to 100000'
+complete -c ob0-trace -l program -r -F -d 'The program ob0'
 
-# The words before the cursor, after ob0-watch and its report.
+# Prints the words before the cursor that follow ob0-watch and its report.
 function __ob0_watch_words
     set -l words (commandline -opc)
     set -e words[1]
@@ -53,13 +62,13 @@ function __ob0_watch_words
     string join \n -- $words
 end
 
-# Whether the command line has no word but the option for a report.
+# Whether the command line contains only the option for a report.
 function __ob0_watch_begins
     set -l words (commandline -opc)
     test (count $words) = 1; or test "$words[2..-1]" = --report
 end
 
-# What ob0, or the server after --, has for the word at the cursor.
+# Completes the word at the cursor as ob0 does, or as the server after -- does.
 function __ob0_watch_rest
     set -l words (__ob0_watch_words)
     if test "$words[1]" = --
@@ -76,3 +85,4 @@ complete -c ob0-watch -n 'test (count (__ob0_watch_words)) = 0' -a -- -d 'Run an
 complete -c ob0-watch -n 'test (count (__ob0_watch_words)) != 0' -a '(__ob0_watch_rest)'
 complete -c ob0-watch -n __ob0_watch_begins -l report -r -F -d 'Write the report to a file'
 complete -c ob0-watch -n __ob0_watch_begins -s h -l help -d 'Print help'
+complete -c ob0-watch -n __ob0_watch_begins -s V -l version -d 'Print the version'

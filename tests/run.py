@@ -7,10 +7,11 @@
   tests/run.py --list     their names
 
 A test of an editor or a tool that is missing is left out, by name. In `make test` (the variable OB0_WHOLE) every other reason fails;
-otherwise so is a test that runs the program if there is none. A test that drives an editor and fails is run three more times, one
-after another, when all others have ended: at two failures of four it has failed. The run may take OB0_MINUTES (45) in all. With
-OB0_WHOLE bin/results gets a line for each test. The last line is 'N passed, M failed', and ', K skipped' if tests were left out; a
-run of no test fails."""
+otherwise so is a test that runs the program if there is none. (If OB0_MAY_LACK lists tools, a test of another missing tool fails
+there.) A test that drives an editor and fails is run three more times, one after another, when all others have ended: at two
+failures of four it has failed, and at one its name is in the line 'N failed once: ..'. The run may take OB0_MINUTES (45) in all.
+With OB0_WHOLE bin/results gets a line for each test, and those that passed aren't printed. The last line is 'N passed, M failed',
+and ', K skipped' if tests were left out; a run of no test fails."""
 from __future__ import annotations
 
 import glob
@@ -33,6 +34,7 @@ HERE = os.path.dirname(os.path.abspath(__file__))
 sys.path.insert(0, os.path.join(HERE, "lib"))
 
 import harness  # noqa: E402 (it says where the scripts are)
+import common  # noqa: E402
 import editors  # noqa: E402
 import processes  # noqa: E402
 
@@ -41,6 +43,7 @@ LONGEST = 1200  # seconds that a test may take
 IN_ALL = 60 * int(os.environ.get("OB0_MINUTES", "45"))  # seconds that a run of tests may take
 MORE = 3  # how many more times a test that drives an editor is run after a failure
 FAILURES = 2  # and how many failures of all those times count as one
+STEP = 50  # of so many tests that end the whole test prints a line
 RESULTS = os.path.join(harness.TOP, "bin", "results")
 
 
@@ -174,7 +177,7 @@ def played(places: list[int], end: float) -> Iterator[tuple[int, Outcome, str]]:
     for at, found in all_tried(places, len(os.sched_getaffinity(0)), end):
         if found.passed is False and found.drives:
             again.append((at, found))
-            print(f"again    {harness.TESTS[at][0]}: it failed while others ran beside it:\n    {found.said}", flush=True)
+            print(f"again    {harness.TESTS[at][0]}: it failed while other tests ran:\n    {found.said}", flush=True)
         else:
             yield at, found, ""
     for at, first in again:
@@ -197,14 +200,21 @@ class Counts:
         self.failed += passed is False
         self.skipped += passed is None
 
+    @property
+    def all(self) -> int:
+        return self.passed + self.failed + self.skipped
+
     def __str__(self) -> str:
         return f"{self.passed} passed, {self.failed} failed" + (f", {self.skipped} skipped" if self.skipped else "")
 
 
 def keep(name: str, found: Outcome, how: str) -> None:
-    """Keeps a line on a test in bin/results."""
+    """Keeps a line on a test in bin/results; the last cell of one that failed, if only once, is its message."""
+    cells = [found.word, f"{found.seconds:.1f} s", name]
+    if how or found.passed is False:
+        cells += [how, found.said.replace("\\", "\\\\").replace("\n", "\\n").replace("\t", "\\t")]
     with open(RESULTS, "a", encoding="utf-8") as file:
-        file.write("\t".join([found.word, f"{found.seconds:.1f} s", name, *([how] if how else [])]) + "\n")
+        file.write("\t".join(cells) + "\n")
 
 
 def kept() -> set[str]:
@@ -221,6 +231,7 @@ def counted(places: list[int], is_first: bool = False) -> Counts:
     is_whole, counts, later = bool(os.environ.get("OB0_WHOLE")), Counts(), 0
     missing: set[str] = set()
     again: List[str] = []
+    once: List[str] = []
     for at, found, how in played(places, time.monotonic() + IN_ALL):
         if found.needs_program and is_first:
             later += 1
@@ -228,10 +239,14 @@ def counted(places: list[int], is_first: bool = False) -> Counts:
         if found.needs_program and is_whole:
             found = Outcome(False, "there is no program to run")
         name = harness.TESTS[at][0]
-        print(found.line(name), flush=True)
         missing.update(found.missing)
         counts.take(found.passed)
+        if not (is_whole and found.passed):
+            print(found.line(name), flush=True)
+        elif counts.all % STEP == 0:
+            print(f"{counts.all} tests have ended, {counts.failed} of them failed", flush=True)
         again += [f"{name} {how}"] if how else []
+        once += [name] if how and found.passed else []
         if is_whole:
             keep(name, found, how)
     if counts.skipped:
@@ -241,6 +256,8 @@ def counted(places: list[int], is_first: bool = False) -> Counts:
         print("\n    ".join([f"{len(again)} run {MORE} more times, one after another:", *again]))
     if later:
         print(f"{later} wait for a program to run")
+    if once:
+        print(f"{len(once)} failed once: {', '.join(once)}")
     return counts
 
 
@@ -251,6 +268,16 @@ def chosen_by(words: list[str]) -> list[int]:
     return [at for at, (name, _) in enumerate(harness.TESTS) if name not in done and (not given or any(it in name for it in given))]
 
 
+def settle() -> None:
+    """Gives each test the same surroundings, whatever the user's are. The tests' configuration of git replaces the user's,
+    which may sign commits or refuse the repository of another user. The flags of a `make` that runs tests aren't theirs."""
+    common.settle()
+    common.choose_temporary()
+    for name in [it for it in os.environ if it.startswith(("MAKE", "MFLAGS"))]:
+        del os.environ[name]
+    os.environ.update(GIT_CONFIG_NOSYSTEM="1", GIT_CONFIG_GLOBAL=os.path.join(HERE, "lib", "gitconfig"))
+
+
 def end_by_signal() -> None:
     """Has SIGTERM end the tests that run, as Ctrl-C does."""
     signal.signal(signal.SIGTERM, lambda number, _: sys.exit(128 + number))
@@ -258,6 +285,7 @@ def end_by_signal() -> None:
 
 def main(words: list[str]) -> int:
     end_by_signal()
+    settle()
     if isinstance(sys.stdout, io.TextIOWrapper):
         sys.stdout.reconfigure(errors="backslashreplace")
     is_first = "--first" in words
@@ -275,7 +303,7 @@ def main(words: list[str]) -> int:
             print("0 passed, 1 failed")
             return 1
     if len(chosen) > 50:
-        # (looked for once, and not by each test that wants it)
+        # (searched for once, and not by each test that needs it)
         for tool in editors.TOOLS:
             editors.is_here(tool)
     counts = counted(chosen, is_first)

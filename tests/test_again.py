@@ -59,14 +59,15 @@ def gone(path: str, name: str) -> None:
 def whole(is_whole: bool) -> Iterator[None]:
     """Has tests run as `make test` runs them, or not."""
     with mock.patch.dict(os.environ):
-        os.environ.pop("OB0_WHOLE", None)
+        for name in ("OB0_WHOLE", "OB0_MAY_LACK"):
+            os.environ.pop(name, None)
         if is_whole:
             os.environ["OB0_WHOLE"] = "1"
         yield
 
 
 def counted(tests: Dict[str, harness.Test], lacks: Tuple[str, ...] = (), is_whole: bool = False, is_first: bool = False) -> Tuple[str, str, str]:
-    """The counts of these tests, what is printed, and what is kept, on a machine that lacks some tools."""
+    """Returns the counts of these tests, the output and the kept lines, on a machine that lacks some tools."""
     with tempfile.TemporaryDirectory() as room, whole(is_whole):
         results = os.path.join(room, "results")
         note(results, "")
@@ -91,12 +92,16 @@ def three_more_times() -> None:
     same(counts, "3 passed, 1 failed", said)
     same((sorted(order[:3]), order[3], sorted(order[4:])), (["never", "once", "twice"], "last", ["once"] * 3 + ["twice"] * 3), "the order")
     for it, count in (("once", 1), ("twice", 2)):
-        holds(f"again    {it}: it failed while others ran beside it:\n    {it} fails, time 1\n" in said, said)
+        holds(f"again    {it}: it failed while other tests ran:\n    {it} fails, time 1\n" in said, said)
         holds(f"again    {it}: failed {count} of 4 times\n" in said, said)
-    for line in ("ok       once\n", "FAILED   twice\n    it failed 2 of 4 times; the last: twice fails, time 4\n", "2 run 3 more times"):
+    for line in ("FAILED   twice\n    it failed 2 of 4 times; the last: twice fails, time 4\n", "2 run 3 more times"):
         holds(line in said, f"no {line!r} in {said}")
+    same(said.splitlines()[-1], "1 failed once: once", "the last line")
+    holds("ok       " not in said, f"a line for a test that passed: {said}")
     rows = {row[2]: (row[0], *row[3:]) for row in (line.split("\t") for line in kept.splitlines())}
-    wanted = {"once": ("ok", "failed 1 of 4 times"), "twice": ("FAILED", "failed 2 of 4 times"), "never": ("ok",), "last": ("ok",)}
+    wanted = {"once": ("ok", "failed 1 of 4 times", "it failed 1 of 4 times; the last: once fails, time 1"), "never": ("ok",)}
+    wanted["twice"] = ("FAILED", "failed 2 of 4 times", "it failed 2 of 4 times; the last: twice fails, time 4")
+    wanted["last"] = ("ok",)
     same(rows, wanted, "what is kept")
 
 
@@ -109,7 +114,7 @@ def not_once_more() -> None:
         counts, said, _ = counted({**tests, **tools})
         same((counts, sorted(note(path, ""))), ("0 passed, 6 failed", ["alone", "cc", "gone", "lintian", "mandoc", "mypy"]), said)
     lines = ["FAILED   gone", "    its process ended with 3", *(line for it in ("alone", *tools) for line in (f"FAILED   {it}", f"    {it} fails"))]
-    same(sorted(said.splitlines()), sorted(lines), "what is said")
+    same(sorted(said.splitlines()), sorted(lines), "the output")
 
 
 @test("again: in the whole test a test is left out for a missing editor or desktop tool only, by name, and is counted")
@@ -137,6 +142,9 @@ def left_out() -> None:
     same(counts, "0 passed, 6 failed, 2 skipped", said)
     same(sorted(it.split("\t")[2] for it in kept.splitlines() if it.startswith("left out")), ["editor", "tool"], "those that are left out")
     holds("2 left out, each named above. Missing: Kate (kate), mandoc (mandoc)." in said, said)
+    for listed, lacking in (("", []), ("Kate", ["Kate"]), ("mandoc, Kate,cc", ["Kate", "mandoc"])):
+        with whole(True), mock.patch.dict(os.environ, {"OB0_MAY_LACK": listed}):
+            same([it for it in lacks if editors.may_lack(it)], lacking, f"what may lack with {listed!r}")
 
 
 @test("again: before there is a program the tests that run it wait, and are run later")
@@ -180,7 +188,7 @@ def leaves_a_child(path: str) -> None:
     time.sleep(600)
 
 
-@test("again: a test that takes too long is ended with all that it has started, and none is started when the time for all is over")
+@test("again: a test that takes too long is ended with everything that it started, and no test starts when the time for all is over")
 def ended_in_time() -> None:
     with tempfile.TemporaryDirectory() as room:
         path = os.path.join(room, "child")
@@ -190,7 +198,7 @@ def ended_in_time() -> None:
             counts, said, _ = counted({"long": lambda: leaves_a_child(path)})
         same((counts, "it had not ended after" in said), ("0 passed, 1 failed", True), said)
         child = int(harness.text_of(path))
-        holds(child not in processes.parents(), f"process {child} goes on")
+        holds(child not in processes.parents(), f"process {child} still runs")
     with mock.patch.object(run, "LONGEST", 1):
         counts, said, _ = counted({"long": lambda: time.sleep(600)})
     same((counts, "it had not ended after" in said), ("0 passed, 1 failed", True), said)
@@ -211,7 +219,7 @@ def ends_with_it() -> None:
                 time.sleep(0.01)
 
         same(counted({"starts": starts})[0], "1 passed, 0 failed", "the count")
-        holds(int(harness.text_of(path)) not in processes.parents(), "its process goes on")
+        holds(int(harness.text_of(path)) not in processes.parents(), "its process still runs")
 
 
 @test("again: a failed comparison shows where two texts or lists differ first")
@@ -254,4 +262,4 @@ def interrupted() -> None:
                 pass
             else:
                 raise Failed("the run went on")
-            holds(int(harness.text_of(path)) not in processes.parents(), "a process goes on")
+            holds(int(harness.text_of(path)) not in processes.parents(), "a process still runs")

@@ -4,7 +4,6 @@ from __future__ import annotations
 
 import contextlib
 import os
-import shutil
 import signal
 import subprocess
 import sys
@@ -12,7 +11,7 @@ import time
 from typing import Any
 
 from harness import TOP, holds, same, test, text_of
-from homes import temporary, write
+from homes import copy, temporary, write
 
 # what proves a crate: a process with one below it, as `rt` has its provers, for as long as it isn't ended
 PROVER = """#!/bin/sh
@@ -42,7 +41,7 @@ def waits(seconds: float, holds_now: Any, what: str) -> None:
 
 def is_ended_by(number: int, *, ignored: bool = False) -> None:
     with temporary() as room:
-        shutil.copytree(os.path.join(TOP, "tools"), os.path.join(room, "tools"), ignore=shutil.ignore_patterns("__pycache__"))
+        copy(os.path.join(TOP, "tools"), os.path.join(room, "tools"))
         write(os.path.join(room, "crates.txt"), "low:\nob0: low\n")
         for it in ("HANDLES", "crates/low/src/lib.rt", "crates/ob0/src/main.rt"):
             write(os.path.join(room, it), "")
@@ -77,7 +76,7 @@ def ended() -> None:
         is_ended_by(number)
 
 
-@test("build: it goes on in a terminal that is closed if that signal is ignored, as `nohup` has it")
+@test("build: it continues after its terminal is closed if that signal is ignored, as `nohup` does")
 def ignored() -> None:
     is_ended_by(signal.SIGHUP, ignored=True)
 
@@ -92,10 +91,10 @@ echo "crate $name: modules loaded=0 checked=1"
 """
 
 
-@test("build: `make check` goes on with the crates that don't rest on one that isn't proved, and names it; a build ends there")
+@test("build: `make check` continues with the crates that don't rest on one that isn't proved, and names that; a build ends there")
 def others_are_proved() -> None:
     with temporary() as room:
-        shutil.copytree(os.path.join(TOP, "tools"), os.path.join(room, "tools"), ignore=shutil.ignore_patterns("__pycache__"))
+        copy(os.path.join(TOP, "tools"), os.path.join(room, "tools"))
         write(os.path.join(room, "crates.txt"), "bad:\nlow:\nmiddle: low\nover: bad\nob0: over middle\n")
         for it in ("HANDLES", *(f"crates/{it}/src/lib.rt" for it in ("bad", "low", "middle", "over", "ob0"))):
             write(os.path.join(room, it), "")

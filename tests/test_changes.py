@@ -21,7 +21,7 @@ class Edited:
         self.text, self.utf8 = text, utf8
 
     def starts(self) -> list[int]:
-        """Where the lines start."""
+        """Returns the starts of the lines."""
         found, at = [0], 0
         while at < len(self.text):
             ending = next((it for it in ENDS if self.text.startswith(it, at)), "")
@@ -44,7 +44,7 @@ class Edited:
 
 
 def faults(edited: Edited) -> list[Message]:
-    """What is reported of a text of white space, letters, comments that are closed, and bad characters `$`, `é` and `😀`."""
+    """Returns the faults of a text of white space, letters, closed comments, and bad characters `$`, `é` and `😀`."""
     found, depth, at, text = [], 0, 0, edited.text
     while at < len(text):
         pair = text[at : at + 2]
@@ -64,12 +64,12 @@ def is_between(text: str, at: int) -> bool:
 
 
 def scanned(diagnostics: list[Message]) -> list[Message]:
-    """The faults of scanning among what is reported."""
+    """Returns the faults of scanning among these diagnostics."""
     return [it for it in diagnostics if it["code"] == "BadChar"]
 
 
 def session(seed: int, utf8: bool, steps: int) -> None:
-    """A random editing session; after each step the diagnostics show where the server has each bad character."""
+    """Plays a random editing session; after each step the diagnostics show the place of each bad character in the server's text."""
     chance = random.Random(seed)
     offer: Message = {"capabilities": {"general": {"positionEncodings": ["utf-8", "utf-16"] if utf8 else ["utf-16"]}}}
     edited = Edited("$ a\r\n$ (* 😀 *) b\r$\n", utf8)
@@ -84,7 +84,7 @@ def session(seed: int, utf8: bool, steps: int) -> None:
                 places = [it for it in range(len(edited.text) + 1) if not is_between(edited.text, it)]
                 start = chance.randrange(len(places))
                 end = min(len(places) - 1, start + chance.choice([0, 0, 1, 2, 5]))
-                # (a text past 60 characters shrinks again)
+                # (a text of more than 60 characters shrinks again)
                 new = "" if len(edited.text) > 60 else chance.choice(pieces)
                 changes.append(edited.change(places[start], places[end], new))
             if edited.text.count("(*") != edited.text.count("*)"):
@@ -97,7 +97,7 @@ def session(seed: int, utf8: bool, steps: int) -> None:
         same(server.end(), 0, "the status")
 
 
-@test("changes: 1,000 random changes in UTF-16 units, with CR, CR LF and characters past U+FFFF")
+@test("changes: 1,000 random changes in UTF-16 units, with CR, CR LF and characters above U+FFFF")
 def utf16() -> None:
     session(1, False, 1000)
 
@@ -108,7 +108,7 @@ def utf8_units() -> None:
 
 
 def changed(text: str, *changes: tuple[str | None, str], encodings: list[Any] | str | None = None) -> list[Message]:
-    """What is reported once a text with these changes, pairs of a range and a new text, is open."""
+    """Returns the diagnostics of an open text after these changes, pairs of a range and a new text."""
     capabilities = {"general": {"positionEncodings": encodings}} if encodings else {}
     with Server(capabilities=capabilities) as server:
         server.notify(did_open(text))
@@ -117,7 +117,7 @@ def changed(text: str, *changes: tuple[str | None, str], encodings: list[Any] | 
 
 
 def at_end(text: str, *changes: tuple[str | None, str], encodings: list[Any] | str | None = None) -> Message:
-    """Where a bad character is that is put after all of the changed text."""
+    """Returns the place of a bad character that is inserted at the end of the changed text."""
     end = ("18446744073709551615:0-18446744073709551615:0", "$")
     found = changed(text, *changes, end, encodings=encodings)
     start: Message = found[-1]["range"]["start"]
@@ -132,8 +132,8 @@ def lines() -> None:
     same(at_end("a\rb", ("1:0-1:0", "\n"), ("1:1-1:1", "\nc"), ("2:0-2:1", "d")), place(2, 1), "CR and LF become one ending")
     same(at_end("a\r\nb", ("0:1-1:0", "")), place(0, 2), "an ending taken away")
     same(at_end("ab\ncd", ("1:1-0:1", "x")), place(0, 3), "a range that is swapped")
-    same(at_end("ab\ncd", ("0:99-1:0", "")), place(0, 4), "a character past the line's length")
-    same(at_end("ab\ncd", ("7:3-9:9", "e")), place(1, 3), "a line past the last")
+    same(at_end("ab\ncd", ("0:99-1:0", "")), place(0, 4), "a character after the line's end")
+    same(at_end("ab\ncd", ("7:3-9:9", "e")), place(1, 3), "a line after the last")
     same(at_end("ab", ("0:0-0:1", ""), (None, "xyz"), ("0:1-0:2", "")), place(0, 2), "a whole text between ranges")
 
 
@@ -179,7 +179,7 @@ def behind_utf8() -> None:
 
 
 def all_at_once(text: str, *changes: tuple[str, str]) -> list[str]:
-    """What is published of a text, and of what these changes in one notification make of it, which are all ranged."""
+    """Returns what is published of a text, and of what these changes in one notification make of it, which are all ranged."""
     given = [{"range": extent(where), "text": new} for where, new in changes]
     return serve([initialize(), did_open(text), did_change(given, version=2)]).contents()[1:]
 
@@ -221,7 +221,7 @@ def utf8_lines() -> None:
     same(at_end(text, ("0:5-0:5", "!"), encodings=both), place(0, 19), "inside a character: before it")
 
 
-@test("changes: utf-8 is announced where it is offered, and UTF-16 is taken else")
+@test("changes: utf-8 is announced if it is offered, and UTF-16 is used otherwise")
 def announced() -> None:
     for encodings, wanted in ((["utf-8"], True), ([7, "utf-8"], True), (["utf-16"], False), ([], False), ("utf-8", False)):
         with Server(capabilities={"general": {"positionEncodings": encodings}}) as server:

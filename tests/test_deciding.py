@@ -1,4 +1,4 @@
-"""What the scripts beside `make test` decide: tools/editors.py, editors_of.py, faults.py, roots.py and try_cases.py."""
+"""Decisions of the scripts that `make test` doesn't run: tools/editors_of.py, faults.py, roots.py, try_cases.py; and editors.py."""
 from __future__ import annotations
 
 import contextlib
@@ -15,12 +15,12 @@ from homes import temporary, write
 
 
 def tool(name: str) -> Any:
-    """A script of tools/. (It may import tests, so it is imported once all of these are loaded.)"""
+    """Imports a script of tools/. (It may import tests, so this happens after all of these are loaded.)"""
     return importlib.import_module(name)
 
 
 def printed(function: Callable[[], object]) -> Tuple[object, List[str]]:
-    """What a function returns, or the status that it ends the script with, and the lines that it prints."""
+    """Returns what a function returns, or the status that it ends the script with, and the lines that it prints."""
     with contextlib.redirect_stdout(io.StringIO()) as said, contextlib.redirect_stderr(said):
         try:
             found = function()
@@ -57,7 +57,7 @@ def faults_count() -> None:
             same((found, said[-1]), (status, last), f"with {words}")
 
 
-@test("deciding: make try fails if a test fails or none is run, and names those that are left out")
+@test("deciding: make try fails if a test fails or none is run, and lists the tests that are left out")
 def tries_judged() -> None:
     try_cases = tool("try_cases")
     good: Tuple[str, harness.Test] = ("good", lambda: None)
@@ -73,7 +73,7 @@ def tries_judged() -> None:
     for chosen, status, last in rows:
         found, said = printed(lambda: try_cases.judge(chosen, unknown))  # pylint: disable=cell-var-from-loop
         same((found, said[-1]), (status, last), str([name for name, _ in chosen]))
-        same("left out long: it wants a long file" in said, long in chosen, "the name of the test that is left out")
+        same("left out long: it needs a long file" in said, long in chosen, "the name of the test that is left out")
 
 
 @test("deciding: make try takes what `rt try` prints of each case, and a case that didn't end has no status")
@@ -85,7 +85,7 @@ def tries_taken() -> None:
     err = b"a warning\ncase=case0000 run=ended status=0 ms=1\ncase=case0001 run=stopped ms=9\n"
     cases.take(out, err, {"case0000": one, "case0001": other})
     found = {it: (ended.out, ended.status) for it, ended in cases.found.items()}
-    same(found, {one: (b"", 0), other: (b"", None)}, "what is taken")
+    same(found, {one: (b"", 0), other: (b"", None)}, "the accepted results")
     same(cases.found[one].err, b"a warning\n", "what is on standard error")
 
 
@@ -130,7 +130,7 @@ def editors_of_release() -> None:
         same(printed(lambda: editors_of.main("sid"))[0], 2, "the status for a user who isn't root")
 
 
-@test("deciding: a root that isn't as it was stops the trial of packages, by a path, a mode or a byte; what a system keeps for itself doesn't")
+@test("deciding: a root that changed in a path, a mode or a byte stops the trial of packages; files that a system keeps for itself don't")
 def roots_compared() -> None:
     roots = tool("roots")
     changes: Dict[str, Tuple[Callable[[str], object], bool]] = {
@@ -169,7 +169,7 @@ for it in good better; do case "$*" in *$it*) touch "ROOM/has-$it" ;; esac; done
         with mock.patch.object(editors, "TOOLS", table):
             editors.is_here.cache_clear()
             found, said = printed(lambda: editors.main([]))
-            same((found, said[-1]), (0, "missing: bad, none; `make test` names the tests that want them"), str(said))
+            same((found, said[-1]), (0, "missing: bad, none; `make test` lists the tests that need them"), str(said))
             with mock.patch.object(editors, "LONGEST", -1):
                 editors.is_here.cache_clear()
                 called = len(harness.text_of(room, "called").splitlines())

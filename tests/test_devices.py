@@ -1,4 +1,4 @@
-"""What the program does where memory runs out, or where a reader or writer fails, at each byte of the first conversation."""
+"""The program runs out of memory, or a reader or writer fails, at each byte of the first conversation."""
 from __future__ import annotations
 
 import os
@@ -42,7 +42,7 @@ def memory() -> None:
             ends["done"] += 1
         else:
             same((status, err), (5, b"fault: Memory\n"), where)
-            holds(out in fronts, f"{where}: what was written is not a front of the messages")
+            holds(out in fronts, f"{where}: the output is not a prefix of the messages")
             ends["refused"] += 1
     holds(ends["refused"] and ends["done"], f"the limits showed only one end: {ends}")
 
@@ -56,7 +56,7 @@ SERVE = [harness.BINARY, "serve"]
 
 @test("devices: a reader that fails at each byte of the first conversation")
 def failing_reader() -> None:
-    # (the exit is taken with its last byte: the call after it is never made)
+    # (the exit ends with its last byte: the call after it is never made)
     for found in failing.walk(SERVE, INPUT, None, "reads", range(1, len(INPUT) + 1)):
         fewest, most = (len([it for it in BORDERS[1:] if it < at]) for at in (found.numbers[0], found.numbers[-1]))
         same(fewest, most, "how much is answered in runs that end alike")
@@ -77,7 +77,7 @@ def failing_writer() -> None:
 def failing_printer() -> None:
     for name, status in (("check a text with two faults", 1), ("run a module", 0), ("rename a variable", 0)):
         words, given, text, _ = conversations.SHORT[name]
-        with failing.beside(text) as room:
+        with failing.folder_with_module(text) as room:
             command = [harness.BINARY, *words]
             plain = failing.undisturbed(command, given, room)
             holds(plain.out and plain.status == status, f"{name}: {plain.out!r}, status {plain.status}")
@@ -108,7 +108,7 @@ def pieces() -> None:
 @test("devices: an input that fails at each byte of what a run reads")
 def failing_input() -> None:
     words, _, text, _ = conversations.SHORT["run a module"]
-    with failing.beside(text) as room:
+    with failing.folder_with_module(text) as room:
         for found in failing.walk([harness.BINARY, *words], b"1 2", room, "reads", range(1, 5)):
             ended(found, b"", 4, b"fault: Input\n", f"call {found.numbers[0]} fails")
 
@@ -117,7 +117,7 @@ def failing_input() -> None:
 def failing_file() -> None:
     text = "MODULE M; END M."
     for words in (["check", "m.mod"], ["run", "m.mod"], ["rename", "m.mod", "0", "7", "x"]):
-        with failing.beside(text) as room:
+        with failing.folder_with_module(text) as room:
             for found in failing.walk([harness.BINARY, *words], b"", room, "file", range(1, len(text) + 2)):
                 ended(found, b"", 4, b"fault: File\n", f"{words[0]}: call {found.numbers[0]} fails")
 

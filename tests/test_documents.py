@@ -13,13 +13,13 @@ LIMIT = 1048576
 
 
 def of(text: str, **named: Any) -> list[Message]:
-    """What is published where a text is opened."""
+    """Returns what is published when a text is opened."""
     with Server() as server:
         return server.notify(did_open(text, **named))
 
 
 def talk(*contents: Content) -> list[str]:
-    """What is sent after the first answer."""
+    """Returns what is sent after the first answer."""
     found = serve([initialize(), *contents])
     same((found.err, found.status), (b"", 1), "the end")
     same(found.contents()[0], FIRST, "the first answer")
@@ -36,10 +36,10 @@ def two_faults() -> None:
         b'"range":{"end":{"character":6,"line":0},"start":{"character":5,"line":0}},"severity":1}],'
         b'"uri":"file:///m","version":1}}'
     )
-    same(found.out, frames([FIRST]) + wanted, "what was written")
+    same(found.out, frames([FIRST]) + wanted, "the output")
 
 
-# text: what is reported of it
+# text: its diagnostics
 FAULTS = {
     "(* (* *)": [diagnostic("OpenComment", "comment not closed", "0:0-0:2")],
     "x (* (* *) (*": [diagnostic("OpenComment", "comment not closed", "0:2-0:4")],
@@ -93,14 +93,14 @@ def many_faults() -> None:
     same(found, [diagnostic("BadChar", "bad character", f"0:{at}-0:{at + 1}") for at in range(100)], "of 1,001 faults")
 
 
-@test("documents: a text of 1,048,576 bytes is taken, one byte more is too long")
+@test("documents: a text of 1,048,576 bytes is accepted, one byte more is too long")
 def lengths() -> None:
     too_long = [diagnostic("TooLong", "text too long", "0:0-0:0")]
     with Server() as server:
         same(server.notify(did_open(MODULE.ljust(LIMIT))), [], "at the limit")
-        same(server.notify(did_open(MODULE.ljust(LIMIT + 1))), too_long, "past the limit")
-        same(server.notify(did_open("$" * (LIMIT + 1))), too_long, "other faults past the limit")
-        same(server.notify(did_open("é" * (LIMIT // 2 + 1))), too_long, "in bytes past the limit, in characters not")
+        same(server.notify(did_open(MODULE.ljust(LIMIT + 1))), too_long, "over the limit")
+        same(server.notify(did_open("$" * (LIMIT + 1))), too_long, "other faults over the limit")
+        same(server.notify(did_open("é" * (LIMIT // 2 + 1))), too_long, "over the limit in bytes, but not in characters")
 
 
 @test("documents: a change of the whole text")
@@ -184,7 +184,7 @@ def hover_out_of_step() -> None:
 def hover_unopened() -> None:
     hover = request("h", "textDocument/hover", AT_START)
     same(talk(hover), [error("h", -32803, "unopened")])
-    same(talk(did_open(MODULE, uri="file:///n"), hover)[1:], [error("h", -32803, "unopened")], "beside another one")
+    same(talk(did_open(MODULE, uri="file:///n"), hover)[1:], [error("h", -32803, "unopened")], "next to another one")
 
 
 @test("documents: a close of one out of step takes the diagnostics back")
@@ -205,7 +205,7 @@ def opened_anew() -> None:
     same(talk(did_open("$"), did_open(MODULE, version=1)), [published([diagnostic("BadChar", "bad character", "0:0-0:1")]), published([])])
 
 
-@test("documents: several beside one another, by their uri as a text")
+@test("documents: several at a time, by their uri as a text")
 def several() -> None:
     found = talk(
         did_open("$", uri="a"),

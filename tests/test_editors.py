@@ -70,10 +70,14 @@ def play(
     return [(it["step"], it["found"]) for it in found]
 
 
-def in_neovim(steps: str, text: str, **given: Any) -> Steps:
+def in_neovim(steps: str, text: str, breaks: str = "", **given: Any) -> Steps:
     want("Neovim")
     words = ["nvim", "--headless", "-n", "-i", "NONE", "-S", os.path.join(EDITORS, "neovim.lua")]
-    set_up = lambda room: write(os.path.join(room, ".config", "nvim", "init.lua"), "\n".join(snippets("neovim", "lua")))
+
+    def set_up(room: str) -> None:
+        write(os.path.join(room, ".config", "nvim", "init.lua"), "\n".join(snippets("neovim", "lua")))
+        write(os.path.join(room, "breaks"), breaks)
+
     return play("neovim", words, steps, text, given, set_up)
 
 
@@ -83,7 +87,12 @@ def in_emacs_by(client: str, steps: str, text: str, given: dict[str, Any]) -> St
     lines = snippets("emacs", "elisp")["eglot lsp-mode".split().index(client)]
     init = os.path.join(".emacs.d", "init.el")
     words = ["emacs", "--batch", "--eval", f'(progn (package-initialize) (load "~/{init}"))', "-l", os.path.join(EDITORS, f"{client}.el")]
-    return play("emacs", words, steps, text, given, lambda room: write(os.path.join(room, init), lines))
+
+    def set_up(room: str) -> None:
+        write(os.path.join(room, init), lines)
+        write(os.path.join(room, "breaks"), given.get("breaks", ""))
+
+    return play("emacs", words, steps, text, given, set_up)
 
 
 def in_emacs(steps: str, text: str, **given: Any) -> Steps:
@@ -102,7 +111,7 @@ def in_vim(steps: str, text: str, **given: Any) -> Steps:
 
 
 # what pages of editors say in the same words
-ONLY_SHOWN = "**not applicable**: ob0 makes no edits in this editor"
+ONLY_SHOWN = "**not applicable**: the server makes no edits in this editor"
 UNKNOWN = "save before each edit, and compare afterwards"
 WRONG_EDIT = "If an edit goes wrong: undo it, save, close the file and open it again."
 LONE_CR = "Remove each CR that no LF follows: edits after it may be wrong."
@@ -235,22 +244,22 @@ def as_emacs_shows() -> list[Any]:
     return found
 
 
-@test("Neovim: the diagnostics of a faulty module, and none of the mended one")
+@test("Neovim: the diagnostics of an invalid module, and none after it is fixed")
 def neovim_types() -> None:
     same(in_neovim("mending", FAULTY, mended=MENDED), [("opened", as_neovim_shows()), ("mended", []), ("ended", ENDED)])
 
 
-@test("Emacs: the diagnostics of a faulty module, and none of the mended one")
+@test("Emacs: the diagnostics of an invalid module, and none after it is fixed")
 def emacs_types() -> None:
     same(in_emacs("mending", FAULTY, mended=MENDED), [("opened", as_emacs_shows()), ("mended", []), ("ended", 0)])
 
 
-@test("lsp-mode: the diagnostics of a faulty module, and none of the mended one")
+@test("lsp-mode: the diagnostics of an invalid module, and none after it is fixed")
 def lsp_mode_types() -> None:
     same(in_lsp_mode("mending", FAULTY, mended=MENDED), [("opened", as_neovim_shows()), ("mended", [])])
 
 
-@test("Vim: the diagnostics of a faulty module, and none of the mended one")
+@test("Vim: the diagnostics of an invalid module, and none after it is fixed")
 def vim_types() -> None:
     same(in_vim("mending", FAULTY, mended=MENDED), [("opened", as_neovim_shows()), ("mended", [])])
 
@@ -284,7 +293,7 @@ def emacs_questions() -> None:
     same(in_emacs("questions", CALLS), [*ANSWERED, ("ended", 0)])
 
 
-# places to look at, each with its hover text, the places that are listed, and where its name is declared
+# places, each with its hover text, the listed places, and the declaration of its name
 CALLS_SEEN = [
     ([3, 6], "PROCEDURE F(n: INTEGER)", [[1, 10], [2, 30], [2, 47], [3, 6]], [1, 10]),
     ([2, 47], "PROCEDURE F(n: INTEGER)", [[1, 10], [2, 30], [2, 47], [3, 6]], [1, 10]),
@@ -314,7 +323,7 @@ def neovim_looking() -> None:
         same(in_neovim("looking", text, places=[it[0] for it in seen]), [*looked(seen), ("ended", ENDED)])
 
 
-@test("Neovim: a program that isn't there is said in one line")
+@test("Neovim: one line reports a missing program")
 def neovim_without() -> None:
     want("Neovim")
     with temporary() as room:
@@ -322,7 +331,7 @@ def neovim_without() -> None:
         write(file, GOOD)
         words = ["nvim", "--headless", "-n", "-i", "NONE", "--cmd", "let g:ob0_program = 'no-such-program'", file, "+qall!"]
         status, said = run_plainly(words, own, room)
-    same((status, said.strip()), (0, "There is no program no-such-program; vim.g.ob0_program names another"))
+    same((status, said.strip()), (0, "There is no program no-such-program: set vim.g.ob0_program to its path"))
 
 
 @test("Neovim: a text that is typed after the buffer was empty has the end of its last line in the server too")
@@ -330,15 +339,140 @@ def neovim_emptied() -> None:
     same(in_neovim("emptied", CALLS), [("opened", []), *[("left to do", [])] * 3, ("ended", ENDED)])
 
 
-@test("Neovim: a refused rename is told with the line that Neovim shows, and a format of a module with an error says so")
+REFUSING = """MODULE M;
+VAR x, y: INTEGER;
+  PROCEDURE P(z: INTEGER);
+  BEGIN (* \u00e4\U0001f600 *) x := z + y
+  END P;
+BEGIN Write(1)
+END M.
+"""
+ILL_TYPED = "the module has an error: fix the first one that is marked"
+# renames of REFUSING that are refused: a place, the new name, and what an editor shows
+REFUSED_RENAMES = [
+    ([1, 4], "y", "`y` is declared in line 2 already"),
+    ([1, 4], "z", "with the new name, `x` in line 4 would refer to another declaration"),
+    ([1, 4], "END", "a name has letters and digits, a letter first, and isn't a reserved word"),
+    (
+        [0, 7],
+        "other",
+        "no name here can be renamed: predeclared ones and the module's can't",
+    ),
+]
+
+
+@test("Neovim: a refused rename is told in words, and so is what finds nothing while the module has an error")
 def neovim_refused() -> None:
-    text = "MODULE M;\nVAR x, y: INTEGER;\n  PROCEDURE P(z: INTEGER);\n  BEGIN (* \u00e4\U0001f600 *) x := z + y\n  END P;\nBEGIN P(1)\nEND M.\n"
-    steps = [("y", "line 2: `y` is declared there already (Duplicate)"), ("z", "line 4: `x` would mean another declaration (Captures)"), ("END", "BadName")]
-    told = ("format", "ob0: the module has an error: fix the first one that is marked (ill-typed)")
-    same(in_neovim("refused", text, place=[1, 4], names=["y", "z", "END"]), [("opened", []), *steps, told, ("ended", ENDED)])
+    steps = [(name, f"ob0: {words}") for _, name, words in REFUSED_RENAMES]
+    told = [(it, f"ob0: {ILL_TYPED}") for it in ("rename", "hover", "definition", "format")]
+    found = in_neovim("refused", REFUSING, renames=[it[:2] for it in REFUSED_RENAMES])
+    same(found, [("opened", []), *steps, *told, ("ended", ENDED)])
 
 
-@test("Neovim: where it shows no messages with diagnostics, ob0's files do, unless the user has them not")
+@test("Neovim: a text that the server can't read is closed and opened again once, and after that at the next change")
+def neovim_unread() -> None:
+    text = "MODULE M;\n\nBEGIN Write(1) END M.\n"
+    again = "ob0: the server can't read m.mod: it is opened again (not JSON)"
+    closed = "ob0: the server can't read m.mod: it stays closed until it is changed (not JSON)"
+    steps = [
+        (" a  ", ["didChange didClose didOpen didClose", f"{again} | {closed}"]),
+        (" b  ", ["didOpen didClose", ""]),
+        ("", ["didOpen", ""]),
+        ("read", [[1, 0, 1, 1, "BadChar", "bad character"]]),
+    ]
+    same(in_neovim("unread", text, breaks="readable"), [("opened", []), *steps, ("ended", ENDED)])
+
+
+# texts, whether formatting changes each, and the file that is saved then
+LINES_ENDED = [
+    ("MODULE M;\nBEGIN Write(1) END M.", True, "MODULE M;\nBEGIN\n  Write(1)\nEND M.\n"),
+    ("MODULE M;\nBEGIN\n  Write(1)\nEND M.", False, "MODULE M;\nBEGIN\n  Write(1)\nEND M.\n"),
+    ("MODULE M;\r\nBEGIN Write(1) END M.\r\n", True, "MODULE M;\r\nBEGIN\r\n  Write(1)\r\nEND M.\r\n"),
+    ("MODULE M;\r\nBEGIN\r\n  Write(1)\r\nEND M.\r\n", False, "MODULE M;\r\nBEGIN\r\n  Write(1)\r\nEND M.\r\n"),
+    ("MODULE M;\r\n(* é\U0001f600 *) BEGIN Write(1) END M.", True, "MODULE M;\r\n(* é\U0001f600 *)\r\nBEGIN\r\n  Write(1)\r\nEND M.\r\n"),
+]
+
+
+@test("Neovim: a text with CR LF, or without the end of its last line, is formatted once, and the file has its own line ends")
+def neovim_line_ends() -> None:
+    for text, changes, written in LINES_ENDED:
+        steps = [("opened", []), ("changes", changes), ("changes", False), ("file", written), ("ended", ENDED)]
+        same(in_neovim("formatted", text), steps, f"the steps on {text!r}")
+
+
+def line_ends_in_emacs(editor: Client, end: Steps) -> None:
+    for text, changes, written in LINES_ENDED[2:4]:
+        steps = [("opened", []), ("changes", changes), ("changes", False), ("file", written), *end]
+        same(editor("formatted", text), steps, f"the steps on {text!r}")
+
+
+@test("Emacs: a text with CR LF is formatted once, and the file has its own line ends")
+def emacs_line_ends() -> None:
+    line_ends_in_emacs(in_emacs, [("ended", 0)])
+
+
+@test("lsp-mode: a text with CR LF is formatted once, and the file has its own line ends")
+def lsp_mode_line_ends() -> None:
+    line_ends_in_emacs(in_lsp_mode, [])
+
+
+@test("Emacs: a text that can't be told is closed and opened again at the next change, and so is one that isn't read")
+def emacs_unread() -> None:
+    found = in_emacs("unread", "MODULE M;\n\nEND M.\n", breaks="readable")
+    told = {step: it for step, it in found if step not in ("opened", "ended")}
+    same(list(told), ["half a pair", "still", "mended", "no message"], "the steps")
+    # (eglot itself fails to tell the first change and the first two openings)
+    wanted_told = ["didChange didClose didOpen didClose", "didOpen", "didOpen", "didClose didOpen"]
+    same([told[it][0] for it in told], wanted_told, "what is told")
+    again, closed = (told["half a pair"][1] + " | ").split(" | ")[:2]
+    holds(again.startswith("ob0: the server can't read m.mod: it is opened again"), again)
+    holds(closed.startswith("ob0: the server can't read m.mod: it stays closed until it is changed"), closed)
+    same([told["still"][1], told["mended"][1]], ["", ""], "what is said while it stays closed, and then")
+    same(told["no message"][1], "ob0: the server can't read m.mod: it is opened again (not JSON)", "what is said at last")
+
+
+def refused_in_emacs(editor: Client, end: Steps) -> None:
+    steps = [(name, f"ob0: {words}") for _, name, words in REFUSED_RENAMES]
+    told = [(it, f"ob0: {ILL_TYPED}") for it in ("rename", "definition", "format")]
+    found = editor("refused", REFUSING, renames=[it[:2] for it in REFUSED_RENAMES])
+    same(found, [("opened", []), *steps, *told, *end])
+
+
+@test("Emacs: a refused rename is told in words, and so is what finds nothing while the module has an error")
+def emacs_refused() -> None:
+    refused_in_emacs(in_emacs, [("ended", 0)])
+
+
+@test("lsp-mode: a refused rename is told in words, and so is what finds nothing while the module has an error")
+def lsp_mode_refused() -> None:
+    refused_in_emacs(in_lsp_mode, [])
+
+
+@test("Vim: by ALE a refused rename is told in words, and so is what finds nothing while the module has an error")
+def vim_refused() -> None:
+    steps = [(name, f"ob0: {words}") for _, name, words in REFUSED_RENAMES]
+    told = [(it, f"ob0: {ILL_TYPED}") for it in ("rename", "hover", "definition")]
+    found = in_vim("refused", REFUSING, renames=[it[:2] for it in REFUSED_RENAMES], title="")
+    same(found, [("opened", []), *steps, *told])
+
+
+@test("Vim: by ALE a text is formatted by ob0-format, with its own line ends, and the run is kept")
+def vim_formatted() -> None:
+    for line_end in ("\n", "\r\n"):
+        text, written = "MODULE M;\nBEGIN Write(1) END M.\n", "MODULE M;\nBEGIN\n  Write(1)\nEND M.\n"
+        found = in_vim("formatted", text.replace("\n", line_end), title="")
+        same(found, [("opened", []), ("formatted", []), ("text", written), ("file", written.replace("\n", line_end))])
+        keeps_the_run(text, written, " 1")
+
+
+@test("Neovim: the prompt of a rename begins with the name, after letters that aren't ASCII too")
+def neovim_prompted() -> None:
+    column = len("  BEGIN (* \u00e4\U0001f600 *) ".encode())
+    found = in_neovim("prompted", REFUSING.replace("x", "total"), place=[3, column])
+    same(found, [("opened", []), ("prompted", "total"), ("ended", ENDED)])
+
+
+@test("Neovim: if it shows no messages with diagnostics, ob0's files do, unless the user prevents it")
 def neovim_messages() -> None:
     shown = [("by Neovim", 0), ("by the user's choice", 0), ("by ob0", 1)]
     same(in_neovim("messages", GOOD.replace("WriteLn", "x := 1")), [("opened", 1), *shown, ("ended", ENDED)])
@@ -528,6 +662,7 @@ def in_vscode(folder: str, *kind: str) -> tuple[str, Any, list[Message], list[Me
     with temporary() as room:
         own = at_home(room, "vscode")
         put_between(room)
+        write(os.path.join(room, "breaks"), "" if "real" in kind else "readable")
         # (one that is packed has its modules with it)
         nodes = vsix.modules() if folder == vsix.FOLDER else None
         own["NODE_PATH"] = os.pathsep.join(nodes.folders) if nodes else ""
@@ -542,22 +677,33 @@ def in_vscode(folder: str, *kind: str) -> tuple[str, Any, list[Message], list[Me
 
 def in_vscode_by(*kind: str, folder: str = vsix.FOLDER) -> None:
     file, found, started, renamed = in_vscode(folder, *kind)
-    nothing = {"ended": "activated", "stopped": "deactivated", "said": ["There is no program no-such-program; the setting ob0.path names another."]}
-    same(found["without"], nothing, "what is said where there is no program")
+    nothing = {"ended": "activated", "stopped": "deactivated", "said": ["There is no program no-such-program: set ob0.path to its path."]}
+    same(found["without"], nothing, "the message if there is no program")
     same(found["published"], ["Undeclared"], "the diagnostics")
     matched = [[file, "2", "7", "Undeclared", "not declared"]]
     tasks: dict[str, Any] = {"executed": ["check", "run"], "matchers": ["$ob0"], "matched": matched, "status": 1, "words": ["ob0", "run", file], "provided": ["check", "run"]}
     same(found["tasks"], {**tasks, "resolved": ["mine", file]}, "the tasks")
     unsaved = "The file wasn't saved, so there is nothing to run."
     same(found["unsaved"], {"ran": [os.path.join(os.path.dirname(file), "named.mod")], "said": [unsaved, unsaved]}, "files that aren't saved")
-    told = ["Request textDocument/formatting failed."] if "real" in kind else []
-    ill_typed = "the module has an error: fix the first one that is marked (ill-typed)"
-    same((found["faulty"], found["told"]), (ill_typed, told), "a layout of a module with a fault, and what is shown of it")
-    refused = ["line 3: `Write` would mean another declaration (Captures)", "line 2: `j` is declared there already (Duplicate)"]
+    ill_typed = f"ob0: {ILL_TYPED}"
+    faulty: dict[str, Any] = {it: [False, [ill_typed]] for it in ("layout", "hover", "definition")}
+    no_name = f"ob0: {REFUSED_RENAMES[-1][2]}"
+    faulty = {**faulty, "prepare": [ill_typed, []], "unnamed": no_name}
+    same((found["faulty"], found["told"]), (faulty, []), "what is said in a module with an error, and shown over it")
+    refused = [
+        "with the new name, `Write` in line 3 would refer to another declaration",
+        "`j` is declared in line 2 already",
+    ]
     same(found["refused"], refused, "renames that are refused, with the lines as the editor counts them")
+    hows = ("it is opened again", "it stays closed until it is changed")
+    unread = [f"The server can't read FILE: {how} (not JSON)." for how in hows]
+    said = None if "real" in kind else [unread, [], []]
+    same(found.get("half"), said, "what is said of a text with half a surrogate pair, and of it without that")
+    formatted = MADE_AT_ONCE["layout"].replace("\n", "\r\n")
+    same(found["carriageReturns"], [True, 0, formatted], "a text with CR LF that is formatted")
     same(found["edits"]["made"], MADE_AT_ONCE, "what answers leave that come at once")
     same(found["edits"]["late"], MADE_LATE, "what answers leave that come after a change")
-    same(found["edits"]["said"], ["The text was changed since the action was offered: ask for it again."], "what is said of an old action")
+    same(found["edits"]["said"], ["The text was changed since the action was offered: ask for it again."], "the message about an old action")
     same((found["stopped"], found["restarted"]), ("deactivated", {"said": [], "shutdowns": 3}), "how it ends, and restarts one after another")
     same(found["settings"], ["ob0.path", "ob0.trace.server"], "the settings that are declared")
     announced = [it["params"]["capabilities"]["workspace"]["workspaceEdit"]["documentChanges"] for it in started]
@@ -594,7 +740,7 @@ def vscode_packed() -> None:
 def in_vim_by_ycm(steps: str, text: str, **given: Any) -> Steps:
     want("Vim", "YouCompleteMe")
     words = ["vim.nox", "-n", "-i", "NONE", "-S", os.path.join(EDITORS, "ycm.vim")]
-    # (its server wants the system's Python, whichever one is first on PATH)
+    # (its server needs the system's Python, whichever one is first on PATH)
     lines = "\n".join([*snippets("vim", "viml"), "let g:ycm_server_python_interpreter = '/usr/bin/python3'"])
     return play("vim", words, steps, text, given, lambda room: write(os.path.join(room, ".vimrc"), lines), in_terminal=True)
 
@@ -614,7 +760,7 @@ END M.
 YCM_TYPED = [("typed", ["bad character [BadChar]"]), ("mended", [])]
 
 
-@test("Vim by YouCompleteMe: diagnostics, what is known of a name, a rename and a layout")
+@test("Vim by YouCompleteMe: diagnostics, hover and references of a name, a rename and formatting")
 def ycm_names() -> None:
     steps = [("shown", "PROCEDURE F(n: INTEGER)"), ("listed", [[1, 10], [2, 30], [2, 47], [3, 6]]), ("jumped", [1, 10])]
     steps += [("renamed", edited(CALLS, PLACES, "G")), ("laid out", LAID_OUT)]
@@ -629,6 +775,14 @@ def ycm_inline() -> None:
     found = in_vim_by_ycm("inlining", text, place=[2, len("BEGIN (* \U0001f600 *) Write(".encode())])
     same(found, [*YCM_TYPED, ("offered", ["Inline here", "Inline everywhere"]), ("acted", wanted)])
     keeps_the_run(text, wanted, " 7")
+
+
+@test("Vim by YouCompleteMe: a text with CR LF is formatted, and keeps its line ends")
+def ycm_line_ends() -> None:
+    for text, _, written in LINES_ENDED[2:4]:
+        found = in_vim_by_ycm("formatted", text)
+        laid_out = written.replace("\r\n", "\n")
+        same(found, [*YCM_TYPED, ("laid out", laid_out), ("file", written)], f"the steps on {text!r}")
 
 
 def in_kate(steps: str, text: str, **given: Any) -> Steps:
@@ -646,7 +800,7 @@ def in_kate(steps: str, text: str, **given: Any) -> Steps:
     return play("kate", words, steps, text, given, set_up, more=own)
 
 
-@test("Kate: diagnostics, what is known of a name, a rename and a layout, by its keys")
+@test("Kate: diagnostics, hover and references of a name, a rename and formatting, by its keys")
 def kate_names() -> None:
     steps = [("opened", []), ("typed", ["BadChar"]), ("undone", []), ("shown", "PROCEDURE F(n: INTEGER)")]
     steps += [("listed", [[1, 10], [2, 30], [2, 47], [3, 6]]), ("jumped", [1, 10])]
@@ -822,7 +976,7 @@ def changes_by_keys() -> Iterator[tuple[Any, str, str]]:
 
 
 def replaced_in_other_cases(which: Which, *names: str) -> None:
-    """The server has the editor's text after a name was replaced in a text that has it in the other case too."""
+    """The server has the editor's text after a name was replaced in a text that also contains it in the other case."""
 
     def replaced(editor: keyed.Keyed) -> None:
         new = editor.letters[-1]

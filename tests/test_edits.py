@@ -53,7 +53,7 @@ FIELD_RENAMES: List[Row] = [
     (RECORDS, 3, 8, "", "BadName"),
 ]
 
-# texts whose marked places are all those of one field, and new names that it may have
+# texts with all places of one field marked, and new names that it may have
 FIELDS_MARKED = [
     (
         """MODULE M;
@@ -217,7 +217,7 @@ def document_changes() -> None:
             same(found, {"documentChanges": [{"edits": wanted, "textDocument": {"uri": URI, "version": 7}}]})
 
 
-@test("rename: prepareProvider is announced where it is supported")
+@test("rename: prepareProvider is announced if the client supports it")
 def announced() -> None:
     for support, wanted in ((True, {"prepareProvider": True}), (False, True), (None, True), (1, True)):
         with Server(capabilities={"textDocument": {"rename": {"prepareSupport": support}}}) as server:
@@ -394,7 +394,7 @@ def inline_ranges() -> None:
     same(actions(LEAST, 3, 12, end=place(3, 16)), {}, "a range that begins before the name")
 
 
-# a text whose marked places are the uses of one constant: what is written there, and the actions that aren't offered
+# a text with the uses of one constant marked: the text written there, and the actions that aren't offered
 INLINED: List[Tuple[str, Optional[str], List[str]]] = [
     ("MODULE M; CONST c = -5; VAR a: INTEGER; BEGIN a := a - ⟦c⟧; Write(⟦c⟧ DIV 3); Write(a) END M.", "(-5)", []),
     ("MODULE M; CONST k = 2; c = k * 3; d = ⟦c⟧ - k; VAR a: ARRAY ⟦c⟧ OF INTEGER; BEGIN a[⟦c⟧ - 1] := d; Write(a[5]) END M.", "6", []),
@@ -450,13 +450,13 @@ def inline_negative() -> None:
             ends(on_file("run", it), out, 0)
 
 
-@test("inline: a constant that is never used is taken out")
+@test("inline: a constant that is never used is removed")
 def inline_unused() -> None:
     text = "MODULE M; CONST c = 5; d = 6; BEGIN Write(d) END M."
     same(actions(text, 0, 16), {"Inline everywhere": [(extent("0:16-0:22"), "")]})
 
 
-@test("inline: places where nothing is offered")
+@test("inline: places at which nothing is offered")
 def inline_nowhere() -> None:
     text = "MODULE M; TYPE R = RECORD c: INTEGER END; VAR x: R; PROCEDURE P; BEGIN IF TRUE THEN x.c := 1 END END P; BEGIN P; Write(x.c) END M."
     for what in ("M", "R", "c", "INTEGER", "x", "P", "TRUE", "1", "Write", "IF", "; VAR"):
@@ -470,10 +470,10 @@ def inline_longest() -> None:
     text = "MODULE M; CONST c = 10; d = c + c; END M."
     whole: Callable[[int], dict[str, Any]] = lambda size: actions(text.ljust(size), 0, text.index("c +"))
     same([*whole(1048576 - 1)], ["Inline here", "Inline everywhere"])
-    same([*whole(1048576)], ["Inline everywhere"], "where the text would be too long by one use")
+    same([*whole(1048576)], ["Inline everywhere"], "the text would be too long by one use")
 
 
-@test("inline: what is refused before anything is looked at")
+@test("inline: refusals that come before anything is examined")
 def inline_refused() -> None:
     bad = {"code": -32602, "message": "bad params"}
     for support in (LITERALS, {}):
@@ -573,7 +573,7 @@ def short_statements(longer: int) -> str:
 
 
 def length_after(text: str, edits: list[Message]) -> int:
-    """How many bytes a text on one line, of one byte each character, has with these edits."""
+    """Returns how many bytes a text on one line, of one byte each character, has with these edits."""
     ranges: list[tuple[str, int, int]] = [
         (it["newText"], it["range"]["start"]["character"], it["range"]["end"]["character"]) for it in edits
     ]
@@ -585,9 +585,9 @@ def longest_layout() -> None:
     params = {"options": {"insertSpaces": True, "tabSize": 16}, "textDocument": {"uri": URI}}
     with Server() as server:
         text = short_statements(3)
-        same(server.notify(did_open(text, URI)), [], "what is reported of the text")
+        same(server.notify(did_open(text, URI)), [], "the diagnostics of the text")
         found = server.query("textDocument/formatting", params)
         same(length_after(text, found["result"]), 1048576, "the layout's length")
-        same(server.notify(did_open(short_statements(4), URI)), [], "what is reported of the longer text")
+        same(server.notify(did_open(short_statements(4), URI)), [], "the diagnostics of the longer text")
         found = server.query("textDocument/formatting", params)
         same(found, {"error": {"code": -32803, "message": "TooLong"}, "id": 3, "jsonrpc": "2.0"})

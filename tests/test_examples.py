@@ -6,7 +6,7 @@ from __future__ import annotations
 
 import os
 
-from harness import TOP, Server, did_open, ends, examples, holds, run, same, test, text_of
+from harness import TOP, Server, did_open, ends, examples, holds, names_in, run, same, test, text_of
 
 
 def bytes_of(*path: str) -> bytes:
@@ -19,7 +19,7 @@ def dozen() -> None:
     holds(len(examples()) >= 12, f"there are {len(examples())}")
     faults = [f"{it[:-4]}.err" for it in examples() if os.path.basename(it).startswith("Fault")]
     wanted = sorted([f"{it[:-4]}{end}" for it in examples() for end in (".in", ".mod", ".out")] + faults)
-    same(sorted(os.path.join("examples", it) for it in os.listdir(os.path.join(TOP, "examples")) if it not in ("README.md", "exercises")), wanted)
+    same(sorted(os.path.join("examples", it) for it in names_in("examples") if it not in ("README.md", "exercises")), wanted)
 
 
 @test("examples: each is checked and run")

@@ -9,7 +9,6 @@ import io
 import itertools
 import os
 import re
-import shutil
 import signal
 import subprocess
 import tempfile
@@ -19,8 +18,8 @@ from typing import Any
 
 import harness
 from common import match_of
-from harness import TOP, Server, did_open, holds, is_running, need_program, run, same, test, text_of
-from homes import as_another, run_plainly, temporary, write
+from harness import TOP, Server, did_open, holds, is_running, names_in, need_program, run, same, test, text_of
+from homes import as_another, copy, run_plainly, temporary, write
 
 FOLDER = os.path.join("examples", "exercises")
 PAGE = text_of(FOLDER, "README.md")
@@ -104,11 +103,12 @@ def mark(*words: str) -> tuple[int, str]:
     return run_plainly(["python3", "-B", script, "--program", program, *LONGEST, *words], dict(os.environ), TOP)
 
 
-def marked(exercise: str, text: str, *words: str) -> tuple[int, str]:
+def marked(exercise: str, text: str, *words: str, encoding: str = "utf-8") -> tuple[int, str]:
     """What is said of one module, and the status."""
     with tempfile.TemporaryDirectory() as room:
         file = os.path.join(room, f"{exercise}.mod")
-        write(file, text)
+        with open(file, "wb") as it:
+            it.write(text.encode(encoding))
         status, said = mark(*words, file)
         return status, said.partition("\n")[2].strip()
 
@@ -117,8 +117,8 @@ def marked(exercise: str, text: str, *words: str) -> tuple[int, str]:
 def twelve() -> None:
     same(len(NAMES), 12, "how many")
     wanted = sorted(["README.md", "mark.py", *(f"{it}.txt" for it in NAMES)])
-    same(sorted(it for it in os.listdir(os.path.join(TOP, FOLDER)) if it != "__pycache__"), wanted, "the files")
-    same(sorted(os.listdir(os.path.join(TOP, "tests", "answers"))), sorted(f"{it}.mod" for it in NAMES), "the answers")
+    same(names_in(FOLDER), wanted, "the files")
+    same(names_in("tests", "answers"), sorted(f"{it}.mod" for it in NAMES), "the answers")
     for name, part in zip(NAMES, re.split(r"^## .*$", PAGE, flags=re.M)[1:]):
         example = match_of(r"^```\n(.*?)```$", part, re.M | re.S)[1]
         same(example.strip(), text_of(FOLDER, f"{name}.txt").partition("\n\n")[0], f"the example of {name}")
@@ -149,23 +149,23 @@ def right() -> None:
 WRONG = [
     ("Clock", "DIV 60 MOD 60", "DIV 60", "for the input 3661: line 1 should be 1 1 1, and is 1 61 1"),
     ("Leap", "& (year MOD 100 # 0)", "", "for the input 1900: line 1 should be 0, and is 1"),
-    ("Total", "    Read(x)\n", "", "for the input 4 -1 7 0: the run ends with TurnBound: a loop makes more than 100000 iterations: does it end?"),
+    ("Total", "    Read(x)\n", "", "for the input 4 -1 7 0: the run ends with TurnBound in line 6: a loop makes more than 100000 iterations: does it end?"),
     ("Largest", "Read(largest)", "n := n + 1", "for the input 3 -5 -1 -4: line 1 should be -1, and is 0"),
-    ("Largest", "n > 1", "n > 0", "for the input 4 3 9 2 7: the run ends with InputEnd: it reads more numbers than there are"),
+    ("Largest", "n > 1", "n > 0", "for the input 4 3 9 2 7: the run ends with InputEnd in line 8: it reads more numbers than there are"),
     ("Digits", "UNTIL n = 0", "UNTIL n < 10", "for the input 2048: line 1 should be 4 14, and is 3 12"),
     ("Power", "p := b * p", "p := b * e", "for the input 2 5: line 1 should be 32 25, and is 2 5"),
     ("Power", "VAR p: INTEGER);", "p: INTEGER);", "for the input 2 5: line 1 should be 32 25, and is 0 0"),
-    ("Reverse", "ARRAY 50", "ARRAY 49", "the run ends with Index: an index is outside its array"),
+    ("Reverse", "ARRAY 50", "ARRAY 49", "the run ends with Index in line 9: an index is outside its array"),
     ("Reverse", "    Write(a[i])\n", "    Write(a[i]);\n    WriteLn\n", "it prints the right numbers, but not on the right lines: WriteLn ends a line"),
-    ("Votes", "(1 <= x) & (x <= N)", "x <= N", "for the input 6 7 100 -1 -5 4 0: the run ends with Index: an index is outside its array"),
+    ("Votes", "(1 <= x) & (x <= N)", "x <= N", "for the input 6 7 100 -1 -5 4 0: the run ends with Index in line 11: an index is outside its array"),
     ("Votes", "> votes[most]", ">= votes[most]", "for the input 0: line 2 should be 1, and is 5"),
     ("Binary", "n > 1", "n > 0", "for the input 10: line 1 should be 1 0 1 0, and is 0 1 0 1 0"),
-    ("Binary", "n > 1", "n >= 0", "the run ends with CallBound: more than 64 calls are open: does the recursion end?"),
+    ("Binary", "n > 1", "n >= 0", "the run ends with CallBound in line 7: more than 64 calls are open: does the recursion end?"),
     ("Pascal", "k <= i", "k < i", "for the input 4: line 1 should be 1, and is empty"),
     ("Nearest", "Print(second)", "WriteLn", "for the input 3 0 0 10 10 1 2: line 2 should be 1 2, and is empty"),
-    ("Nearest", "(p.x - q.x) * ", "1000 * (p.x - q.x) * ", "Overflow: a result is outside the numbers that an INTEGER can have"),
+    ("Nearest", "(p.x - q.x) * ", "1000 * (p.x - q.x) * ", "Overflow in line 12: a result is outside the numbers that an INTEGER can have"),
     ("Queens", "& ~down[row - c + n]", "", "for the input 4: line 1 should be 2, and is 7"),
-    ("Clock", "t DIV 3600", "t DIV (t - t)", "the run ends with Divisor: it divides by 0 or by a negative number"),
+    ("Clock", "t DIV 3600", "t DIV (t - t)", "the run ends with Divisor in line 6: it divides by 0 or by a negative number"),
     ("Clock", "Read(t);", "Read(t)", "line 6, column 3: expected END (docs/MESSAGES.md says what that means)"),
     ("Clock", "Write(t ", "Write(s ", "line 6, column 9: Undeclared: not declared (docs/MESSAGES.md says what that means)"),
 ]
@@ -198,12 +198,12 @@ def bounded() -> None:
             write(os.path.join(room, f"{name}.{ending}"), answer(name))
         status, said = mark(room, os.path.join(room, "Votes.mod"))
         lines = said.splitlines()
-        same((status, lines[0], lines[4][:28]), (1, f"{room}:", "  3 of 12 right; not there: "), said)
+        same((status, lines[0], lines[4][:26]), (1, f"{room}:", "  3 of 12 right; missing: "), said)
         same(lines[5], f"there is no {room}/Votes.mod", said)
         same(mark("/nosuch"), (2, "there is no /nosuch\n"), "a folder that isn't there")
     script = os.path.join(TOP, FOLDER, "mark.py")
     found = run_plainly(["python3", "-B", script, "--program", "no-such-program", "x.mod"], dict(os.environ), TOP)
-    same(found, (2, "there is no program no-such-program: --program names another\n"), "without the program")
+    same(found, (2, "there is no program no-such-program: give its path with --program\n"), "without the program")
 
 
 def handed_in(files: dict[str, str], *words: str) -> tuple[int, list[str]]:
@@ -238,6 +238,25 @@ def unmarked() -> None:
     same(sorted(lines[2:-1]), sorted(f"  {it} {why}" for it, why in UNMARKED.items()), "the lines of what isn't marked")
 
 
+@test("exercises: a link in a folder isn't marked, but a path may be a link")
+def linked() -> None:
+    script = os.path.join(TOP, FOLDER, "mark.py")
+    need_program()
+    with temporary() as room:
+        write(os.path.join(room, "anna", "Clock.mod"), answer("Clock"))
+        for name, target in {"bob/Clock.mod": "../anna/Clock.mod", "bob/Leap.mod": os.path.join(TOP, "tests", "answers", "Leap.mod")}.items():
+            os.makedirs(os.path.join(room, "bob"), exist_ok=True)
+            os.symlink(target, os.path.join(room, name))
+        for it in ("Power.mod", "more"):
+            os.symlink("nowhere", os.path.join(room, "bob", it))
+        os.symlink("anna", os.path.join(room, "carla"))
+        words = ["python3", "-B", script, "--program", os.path.abspath(harness.BINARY), "bob", "carla", "bob/Clock.mod"]
+        status, said = run_plainly(words, dict(os.environ), room)
+    links = [f"  {it} is not marked: it is a link" for it in ("Clock.mod", "Leap.mod", "Power.mod", "more")]
+    same((status, said.splitlines()[:5]), (1, ["bob:", *links]), said)
+    holds("carla:\n  Clock.mod   right\n" in said and "bob/Clock.mod:\n  Clock.mod   right\n" in said, said)
+
+
 @test("exercises: several folders have a last line, and the status is 0 only if each has something to mark and all of it is right")
 def folders() -> None:
     right_one, wrong_one = answer("Clock"), answer("Clock").replace("DIV", "MOD", 1)
@@ -248,7 +267,7 @@ def folders() -> None:
         (["anna", "carl"], 1, "anna 2, carl 0"),
         (["carl", "nosuch"], 2, "there is no nosuch"),
         (["anna", "nosuch"], 1, "there is no nosuch"),
-        (["--", "-xaver"], 0, f"  1 of 12 right; not there: {', '.join(NAMES[1:])}"),
+        (["--", "-xaver"], 0, f"  1 of 12 right; missing: {', '.join(NAMES[1:])}"),
     ):
         found, lines = handed_in(files, *words)
         same((found, lines[-1]), (status, last), f"{words}: {lines}")
@@ -274,6 +293,7 @@ def told_apart() -> None:
 def explained() -> None:
     said = "Clock.mod   wrong: line 1, column 1: save it without a byte order mark"
     same(marked("Clock", "\ufeff" + answer("Clock")), (1, said))
+    same(marked("Clock", answer("Clock"), encoding="utf-16"), (1, "Clock.mod   wrong: it isn't UTF-8: save it as UTF-8"))
     arrays = ", ".join(f"a{it}" for it in range(150))
     large = f"MODULE Clock; TYPE T = ARRAY 65536 OF INTEGER; PROCEDURE P; VAR {arrays}: T; BEGIN P END P; BEGIN P END Clock."
     said = "the run ends with Memory: it takes too much memory: does each loop and each recursion end? Is an array too large?"
@@ -298,13 +318,15 @@ def any_names() -> None:
     with temporary() as room:
         for name in ("a", "n\udce4me", "two\nlines", "z"):
             write(os.path.join(room, name, "Clock.mod"), answer("Clock"))
-        write(os.path.join(room, "a", "Ger\udce4t.txt"), "")
+        for name in ("Ger\udce4t.txt", "\x9b1m.txt", "\u202etxt.dom"):
+            write(os.path.join(room, "a", name), "")
         for more in LOCALES:
             status, out, err = marking(room, ["a", "n\udce4me", "two\nlines", "z"], **more)
             lines = out.split(b"\n")
             same((status, err, out.count(b"  Clock.mod   right\n")), (0, b"", 4), f"with {more}: {out!r}")
-            same(lines[2], b"  Ger\xe4t.txt is not marked: it isn't named like an exercise", "a name that isn't UTF-8")
-            same(lines[-2], b"a 1, n\xe4me 1, two\\x0alines 1, z 1", "the last line")
+            named = [it.partition(b" is not marked: ")[0].strip() for it in lines[2:5]]
+            same(sorted(named), [b"Ger\xe4t.txt", b"\\u202etxt.dom", b"\\x9b1m.txt"], "names that aren't UTF-8 or that change what a terminal shows")
+            same(lines[-2], b"a 1, n\xe4me 1, two\\nlines 1, z 1", "the last line")
 
 
 @test("exercises: a folder or a file that can't be read is said, and the others are marked")
@@ -312,7 +334,7 @@ def unreadable() -> None:
     with temporary() as room:
         # (another user than root may not enter the checkout, so the script and the program are copied)
         for name in ("mark.py", "README.md", *(f"{it}.txt" for it in NAMES)):
-            shutil.copy(os.path.join(TOP, FOLDER, name), room)
+            copy(os.path.join(TOP, FOLDER, name), room)
         write(os.path.join(room, "ob0"), "#!/bin/sh\nexit 0\n")
         for name in ("a", "b", "c"):
             write(os.path.join(room, name, "Reverse.mod"), "")
@@ -322,8 +344,8 @@ def unreadable() -> None:
         status, said = run_plainly([*as_another(), *words], dict(os.environ), room)
         os.chmod(os.path.join(room, "b"), 0o755)
     wrong = "  Reverse.mod wrong: for the input 3 10 20 30: line 1 should be 30 20 10, and is empty"
-    missing = f"  0 of 12 right; not there: {', '.join(it for it in NAMES if it != 'Reverse')}"
-    wanted = ["a:", wrong, missing, "b:", "  it can't be read: Permission denied", f"  0 of 12 right; not there: {', '.join(NAMES)}"]
+    missing = f"  0 of 12 right; missing: {', '.join(it for it in NAMES if it != 'Reverse')}"
+    wanted = ["a:", wrong, missing, "b:", "  it can't be read: Permission denied", f"  0 of 12 right; missing: {', '.join(NAMES)}"]
     wanted += ["b/Reverse.mod can't be read: Permission denied", "c:", wrong, missing, "a 0, b 0, c 0"]
     same((status, said.splitlines()), (1, wanted))
 
@@ -336,7 +358,7 @@ def unprinted() -> None:
         os.close(reader)
         with open(writer, "wb") as closed, open("/dev/full", "wb") as full:
             for file, why in ((closed, b"Broken pipe"), (full, b"No space left on device")):
-                same(marking(room, ["Clock.mod"], file)[::2], (4, b"what was found can't be printed: " + why + b"\n"))
+                same(marking(room, ["Clock.mod"], file)[::2], (4, b"the result can't be printed: " + why + b"\n"))
 
 
 # runs a script that gets a signal just after it has started a process
@@ -429,19 +451,24 @@ def seconds() -> None:
 
 @test("exercises: a table has a row for each path and a column for each exercise, and no cell is a formula or breaks a row")
 def table() -> None:
-    wrong_one, names = answer("Clock").replace("DIV", "MOD", 1), ["anna", "=1+1", "two\nlines", "n\udce4me, \"x\""]
+    wrong_one, names = answer("Clock").replace("DIV", "MOD", 1), ["anna", "=1+1", "two\nlines", "n\udce4me, \"x\"", "\uff1d1+1"]
     with temporary() as room:
         for name in names:
             write(os.path.join(room, name, "Clock.mod"), wrong_one if name == "anna" else answer("Clock"))
         write(os.path.join(room, "anna", "Leap.mod"), answer("Leap"))
-        write(os.path.join(room, "anna", "more.txt"), "")
+        write(os.path.join(room, "anna", "a;=1+2;b"), "")
         status, out, err = marking(room, ["--table", *names, "nosuch"], **LOCALES[-1])
     rows = list(csv.reader(io.StringIO(out.decode(), newline="")))
     same((status, err, rows[0]), (1, b"", ["name", "right", *NAMES, "others"]), "the head")
-    same([it[:2] for it in rows[1:]], [["anna", "1"], ["'=1+1", "1"], ["two\nlines", "1"], ['n\\xe4me, "x"', "1"], ["nosuch", "0"]], "the rows")
+    shown = ["anna", "'=1+1", "two\\nlines", 'n\\xe4me, "x"', "'\uff1d1+1"]
+    same([it[:2] for it in rows[1:]], [*([it, "1"] for it in shown), ["nosuch", "0"]], "the rows")
     same({len(it) for it in rows}, {15}, "the number of cells")
     same(rows[1][2:5], ["wrong: for the input 3661: line 1 should be 1 1 1, and is 61 1 1", "right", ""], "the marks of one")
-    same([it[-1] for it in rows[1:3] + rows[5:]], ["more.txt is not marked: it isn't named like an exercise", "", "there is no nosuch"], "the rest")
+    same([it[-1] for it in rows[1:3] + rows[6:]], ["a\\x3b=1+2\\x3bb is not marked: it isn't named like an exercise", "", "there is no nosuch"], "the rest")
+    holds(out.startswith(b'"name","right","Clock",'), "each cell is in quotes")
+    # (a spreadsheet may take `;` for the end of a cell)
+    cells = [it for row in csv.reader(io.StringIO(out.decode(), newline=""), delimiter=";") for it in row]
+    same([it for it in cells if it.startswith(("=", "+", "-", "@"))], [], "cells that are formulas if `;` separates them")
 
 
 @test("exercises: a teacher's own inputs are those of another folder, whose files are the exercises")
@@ -454,7 +481,7 @@ def own_inputs() -> None:
         write(os.path.join(room, "anna", "Double.mod"), "MODULE D; VAR y: INTEGER; BEGIN Read(y); Write(2 * y) END D.")
         write(os.path.join(room, "anna", "Clock.mod"), "")
         wanted = ["anna:", "  Leap.mod    wrong: for the input 2028: line 1 should be 1, and is 0", "  Double.mod  right"]
-        wanted += ["  Clock.mod is not marked: it isn't named like an exercise", "  1 of 2 right", ""]
+        wanted += ["  Clock.mod is not marked: the inputs have no Clock.txt", "  1 of 2 right", ""]
         same(marking(room, ["--inputs", "own", "anna"]), (1, "\n".join(wanted).encode(), b""), "own inputs")
         for text, said in (
             ("3 4\n", "own/Leap.txt: a case is a line `in: 1 2` and then lines `out: 3`, and not 3 4"),

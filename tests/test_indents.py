@@ -67,23 +67,23 @@ def by_vim(editor: str, words: list[str]) -> None:
         own.update(OB0_FILES=files_in(room, made), OB0_REPORT=report)
         words = [it.replace("RC", rc) for it in words]
         status, said = run_in_terminal([*words, "-S", os.path.join(TOP, "tests", "editors", "indents.vim")], own, room)
-        same((status, json.loads(text_of(report))), (0, []), f"lines that are indented otherwise alone: {said[-500:]}")
+        same((status, json.loads(text_of(report))), (0, []), f"lines that are indented differently one at a time: {said[-500:]}")
         compared(room, made, False)
 
 
-@test("indentation: by the heading above, Vim's is that of the whole text, all at once and line by line")
+@test("indentation: Vim's, by the heading above, is the same as by the whole text, all at once and line by line")
 def in_vim() -> None:
     want("Vim")
     by_vim("vim", ["vim.nox", "-n", "-i", "NONE", "-u", "RC"])
 
 
-@test("indentation: by the heading above, Neovim's is that of the whole text, all at once and line by line")
+@test("indentation: Neovim's, by the heading above, is the same as by the whole text, all at once and line by line")
 def in_neovim() -> None:
     want("Neovim")
     by_vim("neovim", ["nvim", "-n", "-i", "NONE", "-u", "RC"])
 
 
-@test("indentation: by the heading above, Emacs's is that of the whole text, all at once and line by line")
+@test("indentation: Emacs's, by the heading above, is the same as by the whole text, all at once and line by line")
 def in_emacs() -> None:
     want("Emacs")
     made = texts()

@@ -60,7 +60,7 @@ def current() -> List[str]:
 
 
 def plan() -> build.Plan:
-    """What `make check` begins with."""
+    """Returns what `make check` begins with."""
     found = build.Plan(True)
     found.ready([])
     return found
@@ -92,16 +92,16 @@ def left_as_it_is() -> None:
         os.remove(os.path.join(top, "crates/low/specs/Lib.antt"))
         same(current(), ["low", "high", "other"], "after the change was taken back")
         library("low", "second")
-        same(current(), ["high", "other"], "where a library is of other sources")
+        same(current(), ["high", "other"], "a library is of other sources")
         shutil.rmtree(os.path.join(top, "crates/high/out/rlib"))
-        same(current(), ["other"], "where a library isn't there")
+        same(current(), ["other"], "a library is missing")
         with mock.patch.object(common, "kit", lambda: "another kit"):
             same(current(), [], "with another kit")
         write("HANDLES", "Handles allowed: Threads.\n")
         same(current(), [], "after a change of what programs may use")
 
 
-@test("kept: what was written while a crate was proved isn't taken for proved")
+@test("kept: a file that was written while its crate was proved doesn't count as proved")
 def written_meanwhile() -> None:
     with repository():
         before = kept()
@@ -111,11 +111,11 @@ def written_meanwhile() -> None:
         same(current(), ["other"], "what rests on no source that was written")
 
 
-@test("kept: where bodies alone changed, the crates above are left, and their libraries are built again for one that is proved again")
+@test("kept: if only bodies changed, the crates above are skipped, and their libraries are built again for one that is proved again")
 def bodies_alone() -> None:
     with mock.patch.dict(CRATES, CHAIN), repository():
         keep_all(kept())
-        same([*plan().done], ["low", "high", "other", "top"], "where nothing changed")
+        same([*plan().done], ["low", "high", "other", "top"], "nothing changed")
         write("crates/low/src/lib.rt", "// another body\n")
         first = plan()
         same(([*first.done], first.ready([])), (["other"], ["low"]), "after a change of a body")
@@ -135,7 +135,7 @@ def bodies_alone() -> None:
         same(second.is_done, True, "and nothing else is")
 
 
-@test("kept: where a contract changed that the proofs of a crate have read, or that isn't known, the crate is proved again")
+@test("kept: if a contract changed that the proofs of a crate have read, or if that isn't known, the crate is proved again")
 def contracts_too() -> None:
     with repository():
         keep_all(kept())
@@ -155,7 +155,7 @@ def contracts_too() -> None:
             holds(not plan().kept["high"].has_read(build.Sums(CRATES).of_read("high")), what)
 
 
-@test("kept: where a definition changed that no proof of a crate has read, the crate is left")
+@test("kept: if a definition changed that no proof of a crate has read, the crate is skipped")
 def definitions_of_others() -> None:
     with repository():
         keep_all(kept())

@@ -1,4 +1,4 @@
-"""The largest that is taken, in `serve` and, where it is a text, in `check`: the answers are right, and none of it is refused."""
+"""The largest accepted inputs, in `serve` and, if they are texts, in `check`: the answers are right, and nothing is refused."""
 from __future__ import annotations
 
 from collections.abc import Callable

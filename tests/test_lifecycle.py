@@ -151,22 +151,69 @@ for key, given in TALKS.items():
     make(key, *given)
 
 
-@test("program: command lines that are refused are status 2, on standard error")
+# command lines that are refused, each with what clap says of it
+REFUSED: Dict[str, str] = {
+    "": """error: 'ob0' requires a subcommand but one was not provided
+  [subcommands: serve, check, run, rename, help]
+
+Usage: ob0 <COMMAND>
+""",
+    "x": """error: unrecognized subcommand 'x'
+
+Usage: ob0 <COMMAND>
+""",
+    "serve x": """error: unexpected argument 'x' found
+
+Usage: ob0 serve [OPTIONS]
+""",
+    "serve --x": """error: unexpected argument '--x' found
+
+Usage: ob0 serve [OPTIONS]
+""",
+    "--x": """error: unexpected argument '--x' found
+
+Usage: ob0 <COMMAND>
+""",
+    "help x": """error: unrecognized subcommand 'x'
+
+Usage: ob0 <COMMAND>
+""",
+    "check --version": """error: unexpected argument '--version' found
+
+  tip: to pass '--version' as a value, use '-- --version'
+
+Usage: ob0 check <FILE>
+""",
+}
+
+
+@test("program: command lines that are refused are status 2, with the reason on standard error")
 def refused_lines() -> None:
-    lines: list[list[str]] = [[], ["x"], ["serve", "x"], ["serve", "--x"], ["--x"], ["help", "x"], ["check", "--version"]]
-    for words in lines:
-        found = run(words)
-        same((found.out, bool(found.err), found.status), (b"", True, 2), f"ob0 {' '.join(words)}")
+    for line, said in REFUSED.items():
+        found = run(line.split())
+        wanted = f"{said}\nFor more information, try '--help'.\n"
+        same((found.out, found.err.decode(), found.status), (b"", wanted, 2), f"ob0 {line}")
 
 
-@test("program: help is printed on standard output, status 0")
+# how the help of a command begins: what it does, and how it is used
+HELP_HEADS = {
+    "": ("A language server for Oberon-0", "<COMMAND>"),
+    "serve": ("Serve one conversation with an editor over standard input and output", "serve [OPTIONS]"),
+    "check": ("Print what is wrong with a module", "check <FILE>"),
+    "run": ("Run a module on the numbers of standard input", "run [OPTIONS] <FILE>"),
+    "rename": ("Print a module with another name for one of its names", "rename <FILE> <LINE> <COLUMN> <NAME>"),
+}
+
+
+@test("program: help is printed on standard output, status 0, and begins with what the command does and how it is used")
 def helped() -> None:
-    commands: list[list[str]] = [[], ["serve"], ["check"], ["run"], ["rename"]]
-    for words in commands:
+    for command, (about, usage) in HELP_HEADS.items():
+        words = command.split()
         found = run(["help", *words])
-        same((b"Usage:" in found.out, found.err, found.status), (True, b"", 0), f"ob0 help {' '.join(words)}")
+        begin = f"{about}\n\nUsage: ob0 {usage}\n\n"
+        same((found.out.decode()[: len(begin)], found.err, found.status), (begin, b"", 0), f"ob0 help {command}")
         for flag in ("--help", "-h"):
-            same(run([*words, flag]).out, found.out, f"ob0 {' '.join(words)} {flag}")
+            same(run([*words, flag]).out, found.out, f"ob0 {command} {flag}")
 
 
 # where help says that the pages are: below each prefix that README names
@@ -181,7 +228,7 @@ HELP = {
     "serve": ("012345", ["--stdio", "--clientProcessId <N>", "UTF-16 units"]),
     "check": ("01245", ["<FILE>", "count from 0", "UTF-16", "LINE:COLUMN: CODE: MESSAGE", "/dev/stdin", "`man ob0` lists the CODEs", *PAGES]),
     "run": ("01245", ["<FILE>", "--calls <N>", "--turns <N>", "0 to 64", "0 to 100000", "to the end of standard input", "Ctrl-D", "-2147483648", "fault: END", "--turns 5"]),
-    "rename": ("01245", ["<FILE> <LINE> <COLUMN> <NAME>", "count from 0", "in UTF-16 units", "refused: REASON", "look at the status", "`man ob0` lists the REASONs", *PAGES]),
+    "rename": ("01245", ["<FILE> <LINE> <COLUMN> <NAME>", "count from 0", "in UTF-16 units", "refused: REASON", "check the status", "`man ob0` lists the REASONs", *PAGES]),
 }
 
 

@@ -11,6 +11,6 @@ def talk() -> None:
     long_conversation.converse(1500, seed=1)
 
 
-@test("long: 800 messages about several documents, each answer that of a server that keeps nothing")
+@test("long: 800 messages about several documents, each answer the same as a new server's")
 def several() -> None:
     several_documents.converse(800, seed=1)

@@ -9,6 +9,9 @@ from collections.abc import Iterator
 from typing import Any, IO
 
 import harness
+import manual_page
+import ob0_hints
+import package
 from common import match_of
 from harness import (
     Content,
@@ -20,6 +23,7 @@ from harness import (
     ends,
     holds,
     initialize,
+    need_program,
     notice,
     on_file,
     place,
@@ -30,6 +34,7 @@ from harness import (
     test,
     text_of,
 )
+from hinted import first_error
 from snippets import FENCED
 
 PAGE = text_of("docs", "MESSAGES.md")
@@ -84,13 +89,13 @@ def reported(text: str) -> list[tuple[str, str, str]]:
 
 
 def first(snippet: str, module: str | None) -> tuple[str, str, str]:
-    """What is reported first of a snippet in a module."""
+    """Returns the first diagnostic of a snippet in a module."""
     text = filled(module, snippet) if module else snippet
     return (reported(text) or [("", "nothing", "")])[0]
 
 
 def mistakes(title: str, module: str | None) -> None:
-    """Holds each row of a section to what is reported of it: what `check` reports first, or the fault of a run of it in a module."""
+    """Compares each row of a section with the first error that `check` reports, or with the fault of a run of it in a module."""
     for written, what, _ in rows(title):
         snippet, found = code_in(written), CODE.findall(what)
         if what.startswith("nothing by `check`"):
@@ -101,10 +106,10 @@ def mistakes(title: str, module: str | None) -> None:
             continue
         _, said, rest = first(snippet, module)
         if what.endswith("at the end of the text"):
-            same(([said], rest), (found, ""), f"what is reported of {snippet}")
+            same(([said], rest), (found, ""), f"the report about {snippet}")
             continue
         message, at = found
-        same((said, rest[: len(at)]), (message, at), f"what is reported of {snippet}")
+        same((said, rest[: len(at)]), (message, at), f"the report about {snippet}")
 
 
 @test("messages: what beginners write in statements, declarations and whole texts is reported as the page says")
@@ -113,7 +118,7 @@ def beginners() -> None:
     mistakes("Declarations", DECLARATIONS)
     mistakes("Whole texts", None)
     for module, snippet in ((STATEMENTS, "x := 1"), (DECLARATIONS, "VAR x: INTEGER;")):
-        same(reported(filled(module, snippet)), [], "what is reported of a module without a mistake")
+        same(reported(filled(module, snippet)), [], "the report about a module without a mistake")
     same(first("\ufeffMODULE M; END M.", None)[:2], ("BadChar", "bad character"), "a byte order mark")
     same(first("x := y\u00a0+ 1", STATEMENTS), ("BadChar", "bad character", "\u00a0+ 1"), "a no-break space")
 
@@ -140,7 +145,7 @@ def diagnostics() -> None:
         snippet = code_in(example)
         module = DECLARATIONS if re.match("(CONST|TYPE|VAR|PROCEDURE)", snippet) else STATEMENTS
         found, where = first(snippet, module), code_in(at)
-        same((found[0], found[1], found[2][: len(where)]), (name, said, where), f"what is reported of {snippet}")
+        same((found[0], found[1], found[2][: len(where)]), (name, said, where), f"the report about {snippet}")
 
 
 @test("messages: each end of a run is on the page, with an example")
@@ -167,6 +172,26 @@ def run_ends() -> None:
         holds(flags in page, f"{name} has no {flags}")
 
 
+@test("messages: each rule of the hints has a row on the page to which it gives its hint, and each row with `expected END` has a hint")
+def rules_and_rows() -> None:
+    need_program()
+    modules = {"Statements": STATEMENTS, "Declarations": DECLARATIONS, "Whole texts": None}
+    given: list[ob0_hints.Rule] = []
+    with Server() as server:
+        for title, module in modules.items():
+            for written, _, explained in rows(title):
+                snippet = code_in(written)
+                found = first_error(server, filled(module, snippet) if module else snippet)
+                if found and found.message == "expected END":
+                    holds(found.hint, f"no hint for {snippet}")
+                if found and found.rule and found.rule["see"] == snippet:
+                    given.append(found.rule)
+                    holds(explained, f"no explanation of {snippet}")
+    listed = {(it["see"], it["hint"]): it for rules in ob0_hints.rules().values() for it in rules}
+    same(sorted(it for it in listed if listed[it] not in given), [], "rules whose rows are missing or have another hint")
+    same(len({it["see"] for it in listed.values()}), len(listed), "how many rows the rules have")
+
+
 TITLES = ["Inline here", "Inline everywhere"]
 
 
@@ -179,11 +204,11 @@ def offered(text: str, at: Message) -> list[str]:
 
 
 def refused_inlinings() -> None:
-    """What isn't offered for the reasons that an inlining alone can have."""
+    """Inlinings that aren't offered, for reasons that only an inlining can have."""
     deep = "MODULE M;\nCONST c = -1;\nBEGIN Write(" + "(" * 100 + "c" + ")" * 100 + ") END M.\n"
     same(offered(deep, place(2, 112)), [], "an inlining that nests too deep")
     shadowed = "MODULE M;\nCONST c = TRUE;\nPROCEDURE P;\nVAR TRUE: BOOLEAN;\nBEGIN TRUE := c\nEND P;\nEND M.\n"
-    same(offered(shadowed, place(4, 14)), [], "an inlining of TRUE where that is a variable")
+    same(offered(shadowed, place(4, 14)), [], "an inlining of TRUE although TRUE is a variable")
     inside = "MODULE M;\nCONST c (* one *) = 1;\nBEGIN Write(c) END M.\n"
     same(offered(inside, place(2, 12)), TITLES[:1], "an inlining of a declaration with a comment")
 
@@ -271,6 +296,34 @@ def protocol() -> None:
         found = [it for it in serve([*said, EXIT]).contents() if '"error"' in it]
         same(len(found), 1, f"errors of {message}")
         holds(f'"error":{{"code":{listed[message]},"message":"{message}"}}' in found[0], f"{message}: {found[0]}")
+
+
+@test("messages: the manual page that is made from the page has each row of its tables, under its first cell")
+def made_manual() -> None:
+    made = package.messages_page().decode()
+    # (each table has a line of heads and one of dashes)
+    lines = [it for it in PAGE.splitlines() if it.startswith("|")]
+    same(made.count("\n.TP\n"), len(lines) - 2 * sum(it.startswith("|---") for it in lines), "how many rows")
+    for title in ("Index by message", "Statements", "Declarations", "Whole texts", "Ends of a run"):
+        for row in rows(title):
+            holds(f"\n.TP\n{manual_page.inline(row[0])}\n" in made, f"no row {row[0]}")
+
+
+# the files that put the answers of an editor's server into words
+IN_WORDS = ["neovim/lua/ob0.lua", "vscode/extension.js", "emacs/ob0-mode.el", "vim/ale_linters/ob0/ob0.vim"]
+
+
+@test("messages: each refusal has words, and each editor's files that show it have the same")
+def in_words() -> None:
+    told = {code_in(answer): words for answer, words in rows("What editors show")}
+    listed = [code_in(it[0]).split()[0] for it in rows("Refusals of a rename or an inlining")]
+    same(list(told), [*listed, "ill-typed"], "the answers")
+    for path in IN_WORDS:
+        text = text_of("editors", path)
+        for answer, words in told.items():
+            holds(f'"{words}"' in text, f"editors/{path} doesn't say {words!r}")
+        # (with `ob0: ` before them they fit into a terminal's line, or an editor would wait for a key)
+        holds(len(words.replace("NAME", "total").replace("LINE", "100")) <= 75, f"the words of {answer} are too long")
 
 
 @test("messages: the manual page has each code, end, refusal and fault")

@@ -8,6 +8,7 @@ import os
 import random
 import re
 import shutil
+import subprocess
 import sys
 import tempfile
 from typing import Callable, Dict, Iterable, Iterator, List, Optional, Tuple
@@ -16,13 +17,18 @@ from unittest import mock
 import build
 import checks
 import common
+import definitions
 import edits
 import mutants
 import reading
+import renaming
+import sums
 import verdicts
 from checks import Said
 from harness import TOP, Failed, holds, same, test, want
 
+# Whether no row may be stale.
+ALL_ARE_TRIED = False
 MUTANT = "units_are_characters"
 GOAL = "note: src/passes.rt:120:1: it is not proved that what the function ensures holds when it returns (`returns-in-Utf16`)\n"
 REFUSED = GOAL + (
@@ -64,6 +70,24 @@ def refused_by_answer() -> None:
     same(judged(error + differ + end), mutants.REFUSED, "types that differ")
     same(judged(error.replace("returns-in-Utf16", "loop-c-preserved") + differ + end), mutants.ELSEWHERE, "another goal's answer")
     same(judged(error + "record `View` has no field `len_utf16`\n" + end), mutants.ELSEWHERE, "a name that is gone")
+
+
+# An answer that names a goal which the edit takes away: the prover breaks its message off before it says so.
+GONE = """./proofs/{at}/Answers.antt:25:23: error: `{goal}`: `goal.{goal}`: module
+  `Rattle.{crate}.proofs.{at}`
+  has no `{goal}` that can be named from here
+"""
+
+
+@test("mutants: a name that is gone is found in the whole message, however the prover breaks it into lines")
+def gone_in_later_line() -> None:
+    end = "fn ob0_text::passes::character_width: not proved\nonly=1 proved=0\n"
+    said = GONE.format(at="passes/character_width", goal="returns-in-Utf16", crate="ob0_text") + end
+    same(judged(said), mutants.ELSEWHERE, "a goal that is gone")
+    same(judged(said.replace("module\n  ", "module ")), mutants.ELSEWHERE, "in two lines")
+    other = "./proofs/passes/character_width/Answers.antt:9:3: error: `returns-in-Utf16`: the two types differ\n"
+    same(judged(said.replace(end, other + end)), mutants.REFUSED, "an answer that fails beside it")
+    same(checks.messages_of("a\n  b\nc\n\n d\n"), ["a b", "c", "", " d", ""], "messages")
 
 
 @test("mutants: the proof of methods that call each other is below their type")
@@ -152,12 +176,14 @@ def asked_of_type() -> None:
 SOURCE = """//! A crate.
 #![tactic(auto)]
 
+ghost use Rattle.ob0_small.specs.Numbers.{{next_of}};
+
 /// The next number, as it is {said}.
-pub fn next(n: u64) -> u64
-    requires {{ n < {limit} }}
-    ensures more {{ result ≡ n + 1 }}
+pub fn next({name}: u64) -> u64
+    requires {{ {name} < {limit} }}
+    ensures more {{ result ≡ next_of {name} }}
 {{
-    n + 1
+    {name} + 1
 }}
 
 /// How it ends.
@@ -184,26 +210,39 @@ EDIT = "# The number stays: refused by `more` of `next`.\nfile: src/lib.rt\nold:
 def small_crate(**changed: str) -> Iterator[str]:
     """A folder with one made-up crate, in place of the repository."""
     with tempfile.TemporaryDirectory() as top, mock.patch.object(common, "TOP", top):
-        write_crate(top, **changed)
-        yield top
+        with mock.patch.object(definitions, "CRATES", os.path.join(top, "crates")):
+            write_crate(top, **changed)
+            yield top
 
 
 def write_crate(top: str, edit: str = EDIT, **changed: str) -> None:
     """Writes the crate's files."""
-    for folder in ("src", edits.OTHERS, edits.OF_KIT):
-        os.makedirs(os.path.join(top, "crates", "small", folder), exist_ok=True)
-    texts = {"crates.txt": "small:\n", f"crates/small/{edits.OTHERS}/stays.edit": edit}
-    texts["crates/small/src/lib.rt"] = SOURCE.format(**{"said": "counted", "limit": "9", "steps": "2", **changed})
+    specs = changed.pop("specs", SPECS).format(size=1)
+    for folder in ("src", "specs", edits.OTHERS, edits.OF_KIT):
+        os.makedirs(os.path.join(top, "crates", "ob0_small", folder), exist_ok=True)
+    texts = {"crates.txt": "ob0_small:\n", f"crates/ob0_small/{edits.OTHERS}/stays.edit": edit}
+    texts["crates/ob0_small/src/lib.rt"] = SOURCE.format(**{"said": "counted", "limit": "9", "steps": "2", "name": "n", **changed})
+    texts["crates/ob0_small/specs/Numbers.antt"] = specs
     for name, text in texts.items():
         with open(os.path.join(top, name), "w", encoding="utf-8") as file:
             file.write(text)
 
 
-PATH = f"small/{edits.OTHERS}/stays.edit"
+PATH = f"ob0_small/{edits.OTHERS}/stays.edit"
 REFUSED_BY = "returns-clause-more of next"
+# A definition that a contract names, and one that this one names.
+SPECS = """pub abbrev next_of : N → N
+next_of n = step n
+
+abbrev step : N → N
+step n = n + {size}
+
+abbrev other : N → N
+other n = n
+"""
 
 
-@test("mutants: a verdict is of the present sources until the function, its contract or the mutant changes, or its first line names another clause")
+@test("mutants: a row is of the present sources until the function, its contract, a definition of it or the mutant changes")
 def current() -> None:
     with small_crate() as top:
         rows = os.path.join(top, "mutants.txt")
@@ -215,6 +254,11 @@ def current() -> None:
             "nothing": ({}, False),
             "a comment": ({"said": "written here"}, False),
             "another function": ({"steps": "1 + 1"}, False),
+            "a local name": ({"name": "count", "edit": EDIT.replace(" n", " count")}, False),
+            "a definition that it doesn't name": ({"specs": SPECS.replace("other n = n", "other n = 0")}, False),
+            "a comment of a definition": ({"specs": SPECS + "-- more\n"}, False),
+            "a definition": ({"specs": SPECS.replace("= step n", "= step (step n)")}, True),
+            "a definition of the same crate below it": ({"specs": SPECS.replace("n + ", "1 + n + ")}, True),
             "its contract": ({"limit": "8"}, True),
             "the words of its first line": ({"edit": EDIT.replace("stays", "is kept")}, False),
             "the clause of its first line": ({"edit": EDIT.replace("`more`", "`few`")}, True),
@@ -226,20 +270,118 @@ def current() -> None:
         write_crate(top)
         found.keep(PATH, found.sums[PATH], mutants.PROVED)
         same(found.stale, [PATH], "one that was proved later")
+        found.keep(PATH, found.sums[PATH], "returns-clause-more of other")
+        same(found.stale, [PATH], "one whose row is of a function that it doesn't change")
 
 
-@test("mutants: tools/mutants.txt has a line for each mutant that `rt ci` doesn't try, sorted, and no other")
+@test("mutants: the local names of a function are its parameters and those of its patterns, and no field, path or function")
+def local_names() -> None:
+    words = sums.EDIT_WORD.findall(
+        "fn f(a: T, mut b: U) { let (c, d) = a.e; match c { Some(g) if h => g, Pair { i, j: k } | l::m(n) => o, } list.map(|p, q| p + r) }"
+    )
+    same(sums.binders(words), ["a", "b", "c", "d", "g", "i", "k", "n", "p", "q"], "what is bound")
+    names = sums.Names()
+    names.take("abc")
+    same(names.numbered(sums.EDIT_WORD.findall("a.b + b.a(c) + c() + x::a + d")), "$0 . b + $1 . a ( $2 ) + c ( ) + x : : a + d".split(), "numbers")
+
+
+def row_after(top: str, path: str, names: Dict[str, str], **changed: str) -> Tuple[str, int, str]:
+    """A mutant's row after its crate was committed and changed, with other names in all of its files, and the rows of the commit were
+    kept; with the status and what is printed."""
+    own = {name: value for name, value in os.environ.items() if not name.startswith("GIT_")}
+    git = ["git", "-c", "user.name=a", "-c", "user.email=b", "-c", "commit.gpgsign=false", "-C", top]
+    write_crate(top)
+    before = verdicts.Mutants(os.path.join(top, "tools", "mutants.txt"))
+    before.keep(PATH, before.sums[PATH], REFUSED_BY)
+    before.write()
+    for words in (["init", "-q"], ["add", "."], ["commit", "-qm", "x"]):
+        subprocess.run([*git, *words], check=True, env=own)
+    write_crate(top, **changed)
+    for at, _, files in os.walk(os.path.join(top, "crates")):
+        for it in (os.path.join(at, name) for name in files):
+            with open(it, encoding="utf-8") as file:
+                text = re.sub(r"[A-Za-z_]+", lambda word: names.get(word[0], word[0]), file.read())
+            with open(it, "w", encoding="utf-8") as file:
+                file.write(text)
+    with contextlib.redirect_stdout(io.StringIO()) as said:
+        found = verdicts.Mutants(os.path.join(top, "tools", "mutants.txt"))
+        status = renaming.keep_rows("HEAD", found)
+    return found.row(path).verdict, status, said.getvalue()
+
+
+@test("mutants: a row is kept over a change of names, unless anything else changed, or a name became two")
+def kept_over_renaming() -> None:
+    want("git")
+    names = {"next": "following", "more": "larger", "next_of": "successor", "step": "advance"}
+    cases: Dict[str, Tuple[Dict[str, str], Dict[str, str], bool]] = {
+        "names": (names, {}, True),
+        "two names that became one": ({"next_of": "step"}, {}, False),
+        "a number": (names, {"limit": "8"}, False),
+        "a definition": (names, {"specs": SPECS.replace("n + ", "n - ")}, False),
+    }
+    for what, (exchanged, changed, is_kept) in cases.items():
+        with small_crate() as top:
+            os.makedirs(os.path.join(top, "tools"))
+            verdict, status, said = row_after(top, PATH, exchanged, **changed)
+            same(status, 0 if is_kept else 1, f"{what}: the status; {said}")
+            same(verdict, "returns-clause-larger of following" if is_kept else REFUSED_BY, f"{what}: the row")
+
+
+# A mutant that adds a branch, and right forms of it.
+BRANCH = "# The number stays: refused by `more` of `next`.\nfile: src/lib.rt\nold:     n + 1\nnew:     if n == 7 { n } else { n + 1 }\n"
+
+
+@test("mutants: a right form has the new branch, return, function or closure, and isn't the old text")
+def right_forms() -> None:
+    def why(right: str, edit: str = BRANCH) -> Optional[str]:
+        with small_crate(edit=f"{edit}# right: {right}\n"):
+            found = {it.is_right: it for it in edits.forms_of("ob0_small", reading.Source("ob0_small"))}
+            same((found[False].needs_right_form, found[False].why), (True, None), "the wrong form")
+            return found[True].why
+
+    same(why("    if n == 7 { 8 } else { n + 1 }"), None, "the right value in the new branch")
+    lacks = "the right texts lack a branch of the new ones, so their form wasn't tried"
+    same(why("    1 + n"), lacks, "no branch")
+    same(why("    n + 1"), "the right form is the old text, so the new form wasn't tried", "the old text")
+    same(why("    if n == 7 { n } else { n + 1 }"), "the right form is the wrong one", "the wrong text")
+    same(why("    1 + n", BRANCH.replace("if n == 7 { n } else { n + 1 }", "(|m: u64| m)(n)")), lacks.replace("branch", "closure"), "no closure")
+    same(edits.pairs_of("# right: 1\nfile: src/lib.rt\n")[1], "a right form isn't after its 'new:' line", "one before it")
+
+
+@test("mutants: each edit of `rt ci`, and each that adds a branch, a return, a function or a closure, has a right form")
+def have_right_forms() -> None:
+    found = [it for crate in common.listed() for it in edits.forms_of(crate)]
+    lacking = [it.path for it in found if (it.is_of_kit or it.needs_right_form) and not it.has_right_form]
+    same(lacking, [], "mutants without one")
+    same([(it.path, it.why) for it in found if it.is_right and it.why], [], "right forms that aren't in the form")
+
+
+@test("mutants: a right form is as it has to be if its function is proved, and is tried again among fewer if it waits for another")
+def right_judged() -> None:
+    with small_crate(edit=BRANCH + "# right:     if n == 7 { 8 } else { n + 1 }\n"):
+        source = reading.Source("ob0_small")
+        right = next(it for it in edits.forms_of("ob0_small", source) if it.is_right)
+        own = "fn ob0_small::next: "
+
+        def word(said: str, alone: bool = True, status: int = 1) -> Optional[str]:
+            found = mutants.judge(right, Said(said, status), source, alone)
+            return found.word if found else None
+
+        same(word(f"{own}proved\nonly=2 proved=1\n", False), mutants.RIGHT, "a proved one among others")
+        refused = f"note: src/lib.rt:5:1: it is not proved that it holds (`returns-clause-more`)\n{own}no proof: `search` did not prove it\n"
+        same(word(f"{refused}only=1 proved=0\n"), mutants.RIGHT_REFUSED, "a refused one")
+        same(word(f"{refused}only=2 proved=0\n", False), None, "a refused one among others")
+        same(word("only=1 proved=0\n"), mutants.NOT_JUDGED, "no verdict")
+        crate = mutants.Crate("ob0_small", edits.forms_of("ob0_small", source), source)
+        same([[it.is_right for it in group.edits] for group in crate.first()], [[False], [True]], "the forms are in two checks")
+
+
+@test("mutants: tools/mutants.txt has a line for each form of each mutant, sorted, and each is of the present sources")
 def rows() -> None:
     found = verdicts.Mutants()
     same([it.path for it in verdicts.rows_of(verdicts.PATH)], sorted(found.edits), "its lines (tools/mutants.py writes them)")
-
-
-@test("mutants: each is in one of the parts of which `make test` tries one")
-def parts() -> None:
-    for paths in ([f"{at:03}" for at in range(947)], ["b", "a"], [it.path for it in verdicts.rows_of(verdicts.PATH)]):
-        found = [mutants.part_of(paths, number) for number in range(1, mutants.PARTS + 1)]
-        same([it for part in found for it in part], sorted(paths), "all parts")
-        same(len({len(it) for it in found}), 2, "how many sizes they have")
+    # (a row is also stale if its goal isn't of the clause, or of a function that the mutant changes)
+    same(found.stale if ALL_ARE_TRIED else [], [], "those whose row is stale: `make wrong-bodies` tries them")
 
 
 class Unread(Dict[str, str]):
@@ -251,29 +393,25 @@ class Unread(Dict[str, str]):
     get = __contains__ = __iter__ = __getitem__  # type: ignore[assignment]
 
 
-@test("mutants: those refused before are drawn anew in each run, and neither the commit nor the environment says which")
-def part_drawn() -> None:
-    for commit in ("0", "4f" * 20, f"{mutants.PARTS - 1:x}"):
-        with mock.patch.object(common, "commit", lambda: commit):  # pylint: disable=cell-var-from-loop
-            own = {mutants.part_of_commit() for _ in range(3)}
-        same(own, {int(commit, 16) % mutants.PARTS + 1}, "the commit's part")
-    found = mock.Mock(current=[f"{at:03}" for at in range(300)], edits=range(970))
-    with mock.patch.object(os, "environ", Unread()):
+@test("mutants: those of `make test` are drawn anew in each run, and neither the commit nor the environment says which")
+def drawn() -> None:
+    names = [f"{at:03}" for at in range(300)]
+    found = mock.Mock(mutants=names, edits={it: it for it in [*names, "299:right"]})
+    with mock.patch.object(os, "environ", Unread()), mock.patch.object(common, "commit", lambda: Unread()["the commit"]):
         runs = []
         for _ in range(2):
             random.seed(0)
-            runs.append([mutants.drawn_from(found) for _ in range(60)])
+            runs.append([mutants.draw(found) for _ in range(60)])
     holds(runs[0] != runs[1], f"both times {runs[0]} was drawn")
-    drawn = {it for run in runs for it in run}
-    holds(len(drawn) > 60 and drawn <= {*range(1, 301)}, f"these were drawn: {drawn}")
-    same(mutants.neighbours(found, 295), found.current[294:] + found.current[:6], "twelve of them, from the last ones on")
-    same(mutants.neighbours(mock.Mock(current=["b", "c"], edits=range(970)), 2), ["c", "b"], "each of a few once")
-    nothing = mock.Mock(current=[], edits=range(970))
-    same(mutants.neighbours(nothing, mutants.drawn_from(nothing)), [], "none if none was refused")
+    numbers = {it for run in runs for it in run}
+    holds(len(numbers) > 60 and numbers <= {*range(1, 301)}, f"these were drawn: {numbers}")
+    same(mutants.drawn_from(found, 299), ["298", "299", "299:right", *names[:22]], "24 of them, with their right forms")
+    few = mock.Mock(mutants=["b", "c"], edits={"b": "b", "c": "c"})
+    same(mutants.drawn_from(few, 2), ["c", "b"], "each of a few once")
 
 
 def tried_by(function: Callable[[], object]) -> Tuple[List[str], str]:
-    """The paths of the mutants that a run would try, sorted, and what it prints."""
+    """The paths of the forms that a run would try, sorted, and what it prints."""
     tried: List[str] = []
 
     def note(run: mutants.Run, *_: object) -> None:
@@ -285,18 +423,16 @@ def tried_by(function: Callable[[], object]) -> Tuple[List[str], str]:
     return sorted(tried), said.getvalue()
 
 
-@test("mutants: `make test` tries the commit's part and the drawn ones, and prints the words that try them again")
-def parts_again() -> None:
+@test("mutants: `make test` tries the drawn ones, whatever their rows say, and prints the words that try them again")
+def drawn_again() -> None:
     found = verdicts.Mutants()
     with mock.patch.object(mutants, "Mutants", lambda: found):
         tried, said = tried_by(lambda: mutants.try_some(mutants.Libraries("no folder")))
-        part, start = common.match_of(r"--part (\d+) --from (\d+)", said).groups()
-        same(part, str(mutants.part_of_commit()), said)
-        same(len(tried), int(common.match_of(r"(\d+) of \d+ mutants", said)[1]), said)
-        same(sorted({*mutants.part_of(found.edits, int(part)), *mutants.neighbours(found, int(start))}), tried, said)
-        same(tried_by(lambda: mutants.main(["--part", part, "--from", start]))[0], tried, "those that are tried again")
-        wrong_words = (["--part", "0"], ["--part", str(mutants.PARTS + 1)], ["--part", "1", "ob0_text"], ["--part", "1", "--all"])
-        for words in (*wrong_words, ["--from", "0"], ["--from", str(len(found.current) + 1)]):
+        start = common.match_of(r"--from (\d+)", said)[1]
+        same(sorted(it.path for it in mutants.drawn_from(found, int(start))), tried, said)
+        same(len([it for it in tried if not it.endswith(edits.RIGHT)]), mutants.DRAWN, said)
+        same(tried_by(lambda: mutants.main(["--from", start]))[0], tried, "those that are tried again")
+        for words in (["--from", "0"], ["--from", str(len(found.mutants) + 1)], ["--from", "1", "ob0_text"]):
             with contextlib.redirect_stderr(io.StringIO()) as wrong:
                 try:
                     mutants.main(words)
@@ -304,8 +440,7 @@ def parts_again() -> None:
                     same(why.code, 2, f"the status of {words}")
                 else:
                     raise Failed(f"{words} were taken")
-            most = {"--part": mutants.PARTS, "--from": len(found.current)}[words[0]]
-            holds(f"{words[0]} takes 1 to {most}" in wrong.getvalue(), wrong.getvalue())
+            holds(f"--from takes 1 to {len(found.mutants)}" in wrong.getvalue(), wrong.getvalue())
 
 
 @test("mutants: the commit's hash is that of this repository, whatever the variables of git say")
@@ -445,7 +580,9 @@ def mutant(folder: str, name: str, old: str, new: str, source: reading.Source) -
 def words_of(chosen: List[edits.Edit], sources: Dict[str, reading.Source], found: checks.Libraries) -> List[str]:
     """What mutants come to in a run."""
     kept: Dict[str, str] = {}
-    run = mutants.Run(mutants.crates_of(chosen, sources), 2, lambda settled: kept.update({it.name: verdict.word for it, verdict in settled.items()}))
+    parts = sums.Parts()
+    parts.sources.update(sources)
+    run = mutants.Run(mutants.crates_of(chosen, parts), 2, lambda settled: kept.update({it.name: verdict.word for it, verdict in settled.items()}))
     with contextlib.redirect_stdout(io.StringIO()):
         run.try_all(found, mutants.OF_RUN)
     holds(all(kept.get(it.name) == run.crates[0].found[it].word for it in chosen if not it.why), f"what was kept: {kept}")

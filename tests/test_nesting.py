@@ -15,7 +15,7 @@ STACK = 4096  # kilobytes, half of what systems give
 
 
 def diagnosed(texts: list[str]) -> list[list[Message]]:
-    """What is reported of each text by one server under this stack."""
+    """Returns what one server under this stack reports about each text."""
     talk = frames([initialize(), *(did_open(it, version=at) for at, it in enumerate(texts)), SHUTDOWN, EXIT])
     found = serve(talk, stack=STACK)
     same((found.err, found.status), (b"", 0), "the end")
@@ -54,7 +54,7 @@ def hundred_and_one() -> None:
         same(found, [reported_too_deep(text, at)], f"{name}: {text}")
 
 
-@test("nesting: far past the limit, under a stack of 4 MiB")
+@test("nesting: far over the limit, under a stack of 4 MiB")
 def far() -> None:
     made = [nested_modules.of_one(it, 20000)[0] for it in nested_modules.REPEATED]
     for text, found in zip(made, diagnosed(made)):
@@ -70,7 +70,7 @@ def any_of(chance: random.Random) -> Callable[[], nested_modules.Entered]:
 
 
 def chosen() -> dict[str, Callable[[], nested_modules.Entered]]:
-    """Ways to choose among the statements that hold another: each alone, and mixes."""
+    """Yields ways to choose among the statements that hold another: each by itself, and mixes."""
     found: dict[str, Callable[[], nested_modules.Entered]] = {}
     for one in nested_modules.ENTERED:
         found[one[0]] = always(one)
@@ -96,7 +96,7 @@ def inward() -> None:
         ends(on_file("run", text, stack=STACK), out, 0)
 
 
-@test("nesting: calls inside 100 nested constructs are taken, inside 101 they are not")
+@test("nesting: calls inside 100 nested constructs are accepted, inside 101 they aren't")
 def calls_within() -> None:
     choose: Callable[[], nested_modules.Entered] = lambda: nested_modules.ENTERED[0]
     for text, _ in (nested_modules.recursive(64, choose), nested_modules.inward(64, choose)):

@@ -15,7 +15,7 @@ import common
 import package
 from common import match_of
 from harness import TOP, examples, holds, same, test, text_of, want, want_proved
-from homes import run_in_terminal, run_plainly, temporary, write
+from homes import copy, run_in_terminal, run_plainly, temporary, write
 from screen import Screen
 
 MODULE = "MODULE N;\nBEGIN x := 1 END N.\n"
@@ -54,27 +54,39 @@ def own(room: str, usr: str) -> dict[str, str]:
     return {**kept, "HOME": home, "PATH": path, "XDG_DATA_DIRS": data, "XDG_RUNTIME_DIR": home, "TERM": "xterm", "LC_ALL": "C.UTF-8"}
 
 
-def packages() -> list[str]:
-    names = sorted(it for it in os.listdir(os.path.join(TOP, "bin")) if it.endswith((".deb", ".tar.gz")))
-    return [os.path.join(TOP, "bin", it) for it in names]
+def packed(folder: str) -> list[str]:
+    """Packs the program into a folder of the test's own; returns the paths of the archive and of the Debian package."""
+    words = ["python3", "-B", os.path.join(TOP, "tools", "package.py"), "package", folder]
+    status, said = run_plainly(words, dict(os.environ), TOP)
+    same(status, 0, said)
+    names = sorted(it for it in os.listdir(folder) if it.endswith((".deb", ".tar.gz")))
+    return [os.path.join(folder, it) for it in names]
+
+
+def in_bin() -> dict[str, float]:
+    """The packages in bin/, with their times."""
+    folder = os.path.join(TOP, "bin")
+    names = [it for it in os.listdir(folder) if it.startswith(("ob0_", "ob0-", "SHA", "TESTED"))]
+    return {it: os.stat(os.path.join(folder, it)).st_mtime for it in names}
 
 
 @test("package: two runs give the same bytes, both packages have the same files, and lintian warns of nothing")
-def packed() -> None:
+def same_bytes() -> None:
     want_proved()
-    made("package")
-    archive, deb = packages()
-    sums = [common.file_sum(it) for it in (archive, deb)]
-    made("package")
-    same([common.file_sum(it) for it in packages()], sums, "the sums of a second run")
+    before = in_bin()
     with temporary() as room:
+        folder = os.path.join(room, "packages")
+        archive, deb = packed(folder)
+        sums = [common.file_sum(it) for it in (archive, deb)]
+        same([common.file_sum(it) for it in packed(folder)], sums, "the sums of a second run")
+        same(in_bin(), before, "the packages in bin/, which are none of a test's")
         usr = placed(room)
         with tarfile.open(archive) as tar:
             same([it.name for it in tar if it.isdir()], [], "entries of folders, which would change their modes")
             tar.extractall(room)
         unpacked = os.path.join(room, os.path.basename(archive).partition("-x86_64")[0])
         same(paths_in(unpacked), sorted([*paths_in(usr), package.LIST]), "the files of the archive")
-        same(run_plainly(["sha256sum", "--check", "--quiet", "SHA256SUMS"], dict(os.environ), os.path.join(TOP, "bin")), (0, ""), "the sums")
+        same(run_plainly(["sha256sum", "--check", "--quiet", "SHA256SUMS"], dict(os.environ), folder), (0, ""), "the sums")
         want("dpkg")
         subprocess.run(["dpkg-deb", "-x", deb, os.path.join(room, "deb")], check=True)
         same(os.listdir(os.path.join(room, "deb")), ["usr"], "what the Debian package has outside /usr")
@@ -89,33 +101,34 @@ def packed() -> None:
 @test("package: README's lines install the packages")
 def as_readme_says() -> None:
     want_proved()
-    made("package")
     page = text_of("README.md").partition("**From a package.**")[2]
     by_apt, by_tar = [it[4:].partition("  #")[0].strip() for it in page.splitlines() if it.startswith("    sudo ")][:2]
     with temporary() as room:
         # (without sudo, by apt as a plan alone, and into a folder of the test's own)
         same((by_apt.count("sudo apt install "), by_tar.count("sudo tar "), by_tar.count("/usr/local")), (1, 1, 1), f"{by_apt}; {by_tar}")
-        line = by_tar.replace("sudo ", "").replace("/usr/local", room)
-        status, said = run_plainly(["sh", "-e", "-c", line], dict(os.environ), os.path.join(TOP, "bin"))
-        found = paths_in(room)
+        folder, local = os.path.join(room, "packages"), os.path.join(room, "local")
+        packed(folder)
+        os.mkdir(local)
+        line = by_tar.replace("sudo ", "").replace("/usr/local", local)
+        status, said = run_plainly(["sh", "-e", "-c", line], dict(os.environ), folder)
+        found = paths_in(local)
         same((status, found), (0, sorted([*paths_in(placed(os.path.join(room, "other"))), package.LIST])), said)
         want("apt-get")
         line = by_apt.replace("sudo apt install ", "apt-get install --simulate ")
-        status, said = run_plainly(["sh", "-e", "-c", line], dict(os.environ), os.path.join(TOP, "bin"))
+        status, said = run_plainly(["sh", "-e", "-c", line], dict(os.environ), folder)
         holds(status == 0 and "Inst ob0 " in said, said)
 
 
-@test("package: README's line looks at the sum of the one package that is there, and its line without sudo unpacks the archive")
+@test("package: README's line checks the sum of the one package that is present, and its line without sudo unpacks the archive")
 def as_readme_says_without() -> None:
     want_proved()
-    made("package")
     page = text_of("README.md").partition("**From a package.**")[2]
     sums, unpack = (match_of(rf"^    ({it} .*?)(?:  +#.*)?$", page, re.M)[1] for it in ("sha256sum", "mkdir"))
-    archive, deb = packages()
-    for file in (archive, deb):
+    for at in (0, 1):
         with temporary() as room:
-            for it in (file, os.path.join(TOP, "bin", "SHA256SUMS")):
-                shutil.copy(it, room)
+            both = packed(room)
+            archive, file = both[0], both[at]
+            os.unlink(both[1 - at])
             home = {**os.environ, "HOME": os.path.join(room, "home")}
             name = os.path.basename(file)
             same(run_plainly(["sh", "-c", sums], home, room), (0, f"{name}: OK\n"), "the sum")
@@ -131,7 +144,6 @@ def as_readme_says_without() -> None:
 @test("package: the archive changes no folder's mode, and README's line and `make uninstall` take it away, but no folder that was there")
 def taken_away() -> None:
     want_proved()
-    made("package")
     lines = [it[4:].replace("sudo ", "") for it in text_of("README.md").splitlines() if it.startswith(("    sudo tar ", "    cd /usr/local"))]
     unpack, take_away = (it.partition("  #")[0] for it in lines)
     for remove in ("line", "make"):
@@ -141,7 +153,9 @@ def taken_away() -> None:
                 os.chmod(os.path.join(room, it), mode)
             write(os.path.join(room, "share/zsh/mine"), "")
             before = modes_in(room)
-            status, said = run_plainly(["sh", "-e", "-c", unpack.replace("/usr/local", room)], dict(os.environ), os.path.join(TOP, "bin"))
+            with temporary() as folder:
+                packed(folder)
+                status, said = run_plainly(["sh", "-e", "-c", unpack.replace("/usr/local", room)], dict(os.environ), folder)
             after = modes_in(room)
             same((status, {it: after.get(it) for it in before}), (0, before), f"the folders that were there: {said}")
             holds(len(after) > len(before) + 100 and after["bin/ob0-format"] == after["bin/ob0"] == 0o100755, "what was unpacked")
@@ -149,7 +163,7 @@ def taken_away() -> None:
                 run_plainly(["sh", "-c", take_away.replace("/usr/local", room)], dict(os.environ), room)
             else:
                 made(f"PREFIX={room}", "uninstall")
-            same(modes_in(room), before, f"what is there after `{remove}`")
+            same(modes_in(room), before, f"the folders after `{remove}`")
 
 
 def modes_in(room: str) -> dict[str, int]:
@@ -172,10 +186,10 @@ def refused_prefixes() -> None:
 
 
 def in_copy(*commits: tuple[int, str, str]) -> list[str]:
-    """The version of the packages in a repository of its own, which has the scripts and these commits: a time and a tag for each."""
+    """Returns the version of the packages in a separate repository with the scripts and these commits: a time and a tag for each."""
     versions = []
     with temporary() as room:
-        shutil.copytree(os.path.join(TOP, "tools"), os.path.join(room, "tools"))
+        copy(os.path.join(TOP, "tools"), os.path.join(room, "tools"))
         git = ["git", "-c", "user.name=x", "-c", "user.email=x@example.org"]
         own = {key: value for key, value in os.environ.items() if key != "BUILD_VERSION"}
         subprocess.run([*git, "init", "--quiet"], cwd=room, check=True)
@@ -192,7 +206,7 @@ def in_copy(*commits: tuple[int, str, str]) -> list[str]:
     return versions
 
 
-@test("package: its version grows with the time of the commit, and is the program's where that has its tag")
+@test("package: its version grows with the time of the commit, and is the program's if the commit has its tag")
 def versions() -> None:
     want("git")
     day = 1795823088
@@ -211,12 +225,12 @@ def versions() -> None:
 INSTALLED = "Package: {}\nStatus: install ok installed\nVersion: {}\nArchitecture: amd64\nMaintainer: x <x@example.org>\nDescription: x\n\n"
 
 
-@test("package: dpkg installs it in a root of its own, where libc6 is new enough, and removing it leaves nothing")
+@test("package: dpkg installs it in a separate root with a new enough libc6, and removing it leaves nothing")
 def by_dpkg() -> None:
     want_proved()
     want("dpkg", "root")
-    made("package")
-    with temporary() as room:
+    with temporary() as folder, temporary() as room:
+        deb = packed(folder)[1]
         admin = os.path.join(room, "var", "lib", "dpkg")
         for it in ("available", "info/format", "updates/x", "triggers/Unincorp"):
             write(os.path.join(admin, it), "1\n" if it == "info/format" else "")
@@ -224,12 +238,12 @@ def by_dpkg() -> None:
         words = ["dpkg", f"--root={room}", "--log=/dev/null", "--force-bad-path"]
         for version, well in (("2.31", False), ("2.36", True)):
             write(os.path.join(admin, "status"), INSTALLED.format("libc6", version) + INSTALLED.format("python3", "3.8.2"))
-            status, said = run_plainly([*words, "--install", packages()[1]], dict(os.environ), room)
+            status, said = run_plainly([*words, "--install", deb], dict(os.environ), room)
             same(status == 0, well, f"with libc6 {version}: {said}")
         same(paths_in(os.path.join(room, "usr")), paths_in(placed(os.path.join(room, "other"))), "the files")
         shutil.rmtree(os.path.join(room, "other"))
         status, said = run_plainly([*words, "--remove", "ob0"], dict(os.environ), room)
-        same((status, [it for it in paths_in(room) if not it.startswith("var/")]), (0, []), f"what is left: {said}")
+        same((status, [it for it in paths_in(room) if not it.startswith("var/")]), (0, []), f"the remaining files: {said}")
         holds("ob0" not in text_of(admin, "status"), "dpkg knows of it still")
 
 
@@ -266,7 +280,7 @@ def installed() -> None:
             status, said = run_plainly([*words, "install"], environment, TOP)
             same(status, 0, said)
         same(paths_in(os.path.join(root, "opt", "x")), sorted([*paths_in(usr), "share/doc/ob0/installed"]), "the files")
-        # (each help that names a page says where the pages are)
+        # (each help that mentions a page tells the folder of the pages)
         for command in ("check", "rename"):
             status, said = run_plainly([os.path.join(root, "opt", "x", "bin", "ob0"), "help", command], environment, room)
             page, below = match_of(r"(docs/\S+\.md) .* in (\S+) below the folder that ob0 was\s+installed", said.replace("\n", " ")).groups()
@@ -274,7 +288,7 @@ def installed() -> None:
         status, said = run_plainly([*words, "uninstall"], environment, TOP)
         same(status, 0, said)
         left = [at for at, _, _ in os.walk(os.path.join(root, "opt", "x"))]
-        same(left, [os.path.join(root, "opt", "x"), os.path.join(root, "opt", "x", "bin")], "what is left")
+        same(left, [os.path.join(root, "opt", "x"), os.path.join(root, "opt", "x", "bin")], "the remaining folders")
         # (a home that the shell left to be named)
         home = os.path.join(room, "home")
         os.mkdir(home)
@@ -287,7 +301,7 @@ def installed() -> None:
         same(os.listdir(home), [], "what is in the home: the folders around the prefix")
 
 
-@test("package: a stamp beside another program doesn't make it the proved one")
+@test("package: a stamp next to another program doesn't make it the proved one")
 def stamped() -> None:
     want_proved()
     with temporary() as room:
@@ -302,7 +316,7 @@ def stamped() -> None:
         same(is_current(), "False", "another program")
 
 
-@test("package: the program, ob0-format and the manual page, in an empty home")
+@test("package: the program, its scripts and the manual page, in an empty home")
 def in_shells() -> None:
     with temporary() as room:
         usr = placed(room)
@@ -312,11 +326,15 @@ def in_shells() -> None:
         same((status, said), (0, f"ob0 {match_of('ob0 ([0-9.]+)', text_of('share', 'ob0.1'))[1]}\n"), "the version")
         status, said = run_plainly(["ob0-format", "--check", *(os.path.join(TOP, it) for it in examples())], environment, work)
         same((status, said), (0, ""), "ob0-format, which finds ob0 beside it")
+        status, said = run_plainly(["ob0-check", *(os.path.join(TOP, it) for it in examples())], environment, work)
+        same((status, said), (0, ""), "ob0-check, which finds ob0 and what the scripts share")
         status, said = run_plainly(["ob0-watch", "check", "nowhere.mod"], environment, work)
         same((status, said), (4, "fault: File\n"), "ob0-watch, which finds ob0 beside it")
         want("man")
         status, said = run_plainly(["man", "-M", os.path.join(usr, "share", "man"), "ob0"], environment, work)
         holds(status == 0 and "CallBound" in said, f"man ob0: {said[:300]}")
+        status, said = run_plainly(["man", "-M", os.path.join(usr, "share", "man"), "ob0-messages"], environment, work)
+        holds(status == 0 and "expected END" in said, f"man ob0-messages: {said[:300]}")
 
 
 SHELLS = {
@@ -445,7 +463,7 @@ def in_kakoune() -> None:
         usr = placed(room)
         environment, work = own(room, usr), os.path.join(room, "work")
         os.makedirs(work)
-        # (Kakoune reads the files beside its own, in /usr/share/kak/rc: a runtime folder has both)
+        # (Kakoune reads the files next to its own, in /usr/share/kak/rc: a runtime folder has both)
         runtime = os.path.join(room, "runtime")
         shutil.copytree("/usr/share/kak", runtime, symlinks=True, ignore=shutil.ignore_patterns("doc"))
         shutil.copytree(os.path.join(usr, "share", "kak"), runtime, dirs_exist_ok=True)
@@ -509,7 +527,7 @@ def written_pages() -> None:
             with gzip.open(os.path.join(usr, at), "rt", encoding="utf-8") as file:
                 return file.read()
 
-        for it in ("ob0.1", "ob0-format.1", "ob0-watch.1"):
+        for it in ("ob0.1", *(f"{it}.1" for it in package.SCRIPTS)):
             same(unpacked(f"share/man/man1/{it}.gz"), text_of("share", it), "a manual page")
         words: Callable[[str], list[str]] = lambda text: [it for it in text.split() if it not in "-*"]
         listed = re.sub(r"^ -- .*\n(\nob0 .*)?", "", unpacked("share/doc/ob0/changelog.gz").partition("medium\n")[2], flags=re.M)

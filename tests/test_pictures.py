@@ -4,33 +4,30 @@ from __future__ import annotations
 import glob
 import os
 import re
-import subprocess
 import sys
 import xml.etree.ElementTree
 from collections.abc import Callable
 
 import common
 import harness
+import package
+import plots
+import programs
+import report
 import rooms
 import screens
-from harness import TOP, holds, need_program, same, test, text_of, want
+from harness import TOP, holds, names_in, need_program, same, test, text_of, want
 from homes import run_plainly, temporary
-
-sys.path.append(os.path.join(TOP, "bench"))
-
-import plots  # noqa: E402
-import programs  # noqa: E402
-import report  # noqa: E402
 
 PICTURES = os.path.join("docs", "pictures")
 PERFORMANCE = os.path.join("docs", "PERFORMANCE.md")
 
 
-@test("pictures: each is shown on a page, is whole, and has colours for dark screens or a paper of its own")
+@test("pictures: each is shown on a page, is whole, and has colours for dark screens or its own background")
 def shown() -> None:
     pages = [*glob.glob(os.path.join(TOP, "*.md")), *glob.glob(os.path.join(TOP, "docs", "*.md"))]
     linked = {os.path.normpath(os.path.join(os.path.dirname(page), it)) for page in pages for it in re.findall(r"!\[[^]]+\]\(([^)]+)\)", text_of(page))}
-    found = {os.path.join(TOP, PICTURES, it) for it in os.listdir(os.path.join(TOP, PICTURES))}
+    found = {os.path.join(TOP, PICTURES, it) for it in names_in(PICTURES)}
     same(linked, found, "the pictures of the pages, and those of the folder")
     holds(len(found) >= 3, str(found))
     for path in found:
@@ -39,12 +36,12 @@ def shown() -> None:
         name = os.path.basename(path)
         holds(len(texts) > 5 and drawn.find("{http://www.w3.org/2000/svg}title") is not None, f"{name} has texts and a title")
         holds("prefers-color-scheme:dark" in text_of(path), f"{name} has colours for dark screens")
-        # (a terminal has a paper of its own)
+        # (a terminal has its own background)
         fixed = [it.text for it in texts if it.get("fill") and name != "editor.svg"]
         same(fixed, [], f"texts of {name} in a colour that doesn't change on dark screens")
 
 
-@test("pictures: those of the rooms and of a message's life are what tools/rooms.py draws, and each step names what its crate has")
+@test("pictures: tools/rooms.py draws the rooms and a message's life, and each step mentions a name of its crate")
 def drawn_from_text() -> None:
     for name, drawn in rooms.pictures().items():
         same(text_of(PICTURES, name), drawn, f"{name} (tools/rooms.py draws it)")
@@ -113,17 +110,16 @@ def plotted() -> None:
     holds("make bench" in page and not re.search(r"\d (ms|s|seconds)\b", page), "how the figures are made again, and no time of one day")
     # (until they are counted the page has neither plots nor figures)
     if not plots.drawn_of(page):
-        same(page.count("Not counted yet"), 2, "tables that aren't there")
+        same(page.count("Not counted yet"), 2, "missing tables")
         return
     same([name for name, _ in plots.rows_of(page, plots.RUNS)[1]], list(programs.PROGRAMS), "the programs that were counted")
     ratios_fit(page)
-    for word in ("the commit is `", "the machine: x86-64 Linux", "valgrind: ", "Lua: ", "Python: "):
+    for word in ("- ob0: the proved program;", "the machine: x86-64 Linux", "valgrind: ", "Lua: ", "Python: "):
         holds(word in page, f"the page says nothing of {word}")
-    commit = common.match_of(r"the commit is `(\w{40})`", page)[1]
-    if os.path.exists(os.path.join(TOP, ".git")):
-        # (a clone on the same machine also has commits that no branch leads to)
-        known = subprocess.run(["git", "-c", f"safe.directory={TOP}", "merge-base", "--is-ancestor", commit, "HEAD"], cwd=TOP, check=False, stderr=subprocess.DEVNULL)
-        same(known.returncode, 0, f"whether {commit} is an ancestor of this commit")
+    counted_sources = common.match_of(r"the sum of its sources is `([0-9a-f]{64})`", page)[1]
+    # (a version that is released has its own figures)
+    if package.versions()[0].day:
+        same(counted_sources, common.sum_of(common.sources(common.below("ob0"))), "the sources that were counted")
 
 
 def ratios_fit(page: str) -> None:

@@ -1,4 +1,4 @@
-"""How pages and comments are worded: the counts in tests/prose.txt may only fall (tools/prose.py counts)."""
+"""How pages, comments and printed texts are worded: the counts in tests/prose.txt may only fall (tools/prose.py counts)."""
 from __future__ import annotations
 
 import os
@@ -6,7 +6,7 @@ import tempfile
 from collections import Counter
 
 import prose
-from harness import TOP, holds, same, test, text_of
+from harness import same, test
 from homes import write
 
 PAGE = """# Of a heading that is there
@@ -37,14 +37,17 @@ fn first() {} // where it isn't a comment of its own
 -- whether a byte is white space
 """
 LONG = " ".join(["word"] * 36)
+SCRIPT = '''"""What is left of a text."""
+# the rest is taken
+# from nothing
+
+alone = f"where it {alone} mends", "alone", b"alone is taken"  # a value of its own
+'''
 
 
-@test("prose: no file has more of the forty phrases or of comments without a verb than tests/prose.txt says, no page another long sentence")
+@test("prose: no file has more of the forty phrases or of comments without a verb than tests/prose.txt lists, no page another long sentence")
 def none_rose() -> None:
-    wanted = list(prose.lines())
-    if "\n".join(wanted) + "\n" != text_of(os.path.relpath(prose.LIST, TOP)):
-        same(prose.risen(), [], "what rose: word it otherwise (`tools/prose.py FILE` shows each place)")
-        holds(False, "counts fell, or files went: `tools/prose.py --write` writes that down")
+    same(prose.risen(), [], "what rose: word it in another way (`tools/prose.py FILE` shows each place)")
 
 
 @test("prose: phrases, long sentences and comments without a verb are found, and code isn't read")
@@ -59,3 +62,18 @@ def found() -> None:
         comments = prose.comments_of(code)
         same([prose.is_headless(it) for it in comments], [True, False, False], str(comments))
         same(+prose.phrases_in(comments), Counter({"what is left": 3, "mend": 1}), "the phrases of comments")
+
+
+@test("prose: of Python the strings with a blank and the comments are counted, of other files all lines, of mutants the first ones")
+def found_elsewhere() -> None:
+    with tempfile.TemporaryDirectory() as room:
+        script, completion, mutant = (os.path.join(room, it) for it in ("a.py", "ob0.fish", "a.edit"))
+        write(script, SCRIPT)
+        write(completion, "# what is wrong\ncomplete -d 'from 0 on'\n# with\n")
+        write(mutant, "# Ends where it is empty: refused by the clause of `alone`.\nold: alone\n")
+        texts = ["What is left of a text.", "where it `code` mends", "the rest is taken from nothing", "a value of its own"]
+        same(sorted(prose.texts_of("Python", script)), sorted(texts), "the texts of a script")
+        same(prose.texts_of("files", completion), ["what is wrong complete -d 'from 0 on' with"], "the text of a file")
+        same(prose.texts_of("mutants", room), ["Ends where it is empty: refused by the clause of `code`."], "the texts of mutants")
+        kinds = {kind: len(prose.files_of(kind)) for kind in prose.KINDS}
+        same([kind for kind, count in kinds.items() if count < 30], [], f"kinds with few files: {kinds}")

@@ -3,7 +3,8 @@ from __future__ import annotations
 
 from typing import Any
 
-from harness import Message, Server, answer, compact, did_open, extent, frames, initialize, place, request, same, serve, test
+from harness import Message, Server, answer, compact, did_change, did_open, extent, frames, initialize, place
+from harness import request, same, serve, test
 from modules import CALLS
 
 URI = "file:///m"
@@ -125,6 +126,13 @@ def positions() -> None:
         same(server.query("textDocument/references", where(0, 0)).get("error"), bad, "no context")
         refused = {"code": -32803, "message": "unopened"}
         same(server.query("textDocument/definition", {**where(0, 0), "textDocument": {"uri": "x"}}).get("error"), refused)
+    with Asked("MODULE M; VAR x: INTEGER; END M") as server:
+        # (a line after the last one is the text's end, whatever the character is)
+        far = place(18446744073709551615, 0)
+        change = {"range": {"start": far, "end": far}, "text": "."}
+        same(server.notify(did_change([change], URI)), [], "the name and a dot after it")
+        same(server.hover(0, 15), ("VAR x: INTEGER", extent("0:14-0:15")))
+        same(server.definition(18446744073709551615, 0), None, "definition at the end, after the dot")
 
 
 NAMES = """MODULE M;

@@ -48,7 +48,7 @@ def few_characters() -> None:
 
 
 def answers_at(server: Server, found: Text, at: int, where: str) -> None:
-    """Compares the answers at a place of a text with those of the reference."""
+    """Compares the answers at a place of a text with the reference's."""
     span, shown, declared, places = questions.at_place(found, at) or (None, None, None, [])
     ranges: Callable[[Span], Message] = lambda it: extent("{}:{}-{}:{}".format(*found.position(it[0]), *found.position(it[1])))
     params: Message = {"position": place(*found.position(at)), "textDocument": {"uri": URI}}

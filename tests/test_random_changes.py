@@ -1,5 +1,5 @@
-"""The analysis after a change is that of the new text: random changes, each compared with a server that reads the text
-for the first time. `make faults` does the same 20,000 times."""
+"""The analysis after a change is the new text's: random changes, each compared with a server that reads the text for the
+first time. `make faults` does the same 20,000 times."""
 from __future__ import annotations
 
 import random_changes
@@ -8,10 +8,10 @@ from seeds import COUNT, starts
 
 
 def make(part: int) -> None:
-    @test(f"changes: what is said after each is what a new server says, part {part + 1}")
+    @test(f"changes: after each the server reports the same as a new server, part {part + 1}")
     def changed() -> None:
         start = starts()[part % len(starts())] + 1000 * (part // 2)
-        print(f"    seeds from {start} on", flush=True)
+        print(f"    seeds begin at {start}", flush=True)
         print(f"    {random_changes.some_changes(COUNT, start)}")
 
 

@@ -3,12 +3,14 @@ from __future__ import annotations
 
 import contextlib
 import io
-from typing import Optional, Tuple
+import re
+from typing import List, Optional, Tuple
 
 import common
 import edits
+import reading
 import refusals
-from harness import holds, same, test
+from harness import holds, same, test, text_of
 
 FRAME = "ob0_frame/must-fail/goes_on_after_bad_head.edit"
 TEXT = "ob0_text/must-fail/units_are_characters.edit"
@@ -60,6 +62,8 @@ def by_something_else() -> None:
     for said in (
         BY_ANSWER.replace("clause-taken", "clause-memory"),
         BY_ANSWER.replace("Framer/feed", "Framer/next"),
+        # (the kit prints the first line of a message: that the module has no such name is in the next one)
+        BY_ANSWER.partition(": as printed")[0] + ": `goal.returns-in-Bad-stage-clause-taken`: module `Rattle.ob0_frame.proofs.framer.",
         BY_ANSWER.replace("`: as printed, the two types first differ where one has `(Rattle.ob0_fr", ""),
         "refused, as it must be (only because a proof file names what the edit took away, so this says little of the contract): x",
         "refused, as it must be",
@@ -89,12 +93,57 @@ def not_at_all() -> None:
     same((refused, failed), (0, count + 1), "a line of no edit")
 
 
-@test("refusals: each edit of `rt ci` names a function that it changes, adds no loop, and is in a crate that crates.txt names")
+@test("refusals: each edit of `rt ci` names a function that it changes, adds no loop, and is in a crate of crates.txt")
 def edits_of_kit() -> None:
     found = refusals.Refusals().edits
-    holds(len(found) >= 22, f"{len(found)} edits")
     for path, edit in found.items():
         claim = edit.claim
         holds(claim and any(claim.is_of(it) for it in edit.turned or ()), f"{path} changes no function that its first line names")
         holds(not edit.why and not edit.adds_loop and edit.crate in common.listed(), f"{path}: {edit.why}")
     holds(not any(edits.has(crate, "gate-mutants") for crate in common.listed()), "a folder that nothing reads")
+
+
+# The calls that the promises are about: of each an edit changes the public function itself.
+PROMISED = (
+    "Documents::did_change", "Framer::feed", "Session::step", "captures", "check", "command", "execute", "format", "inline_all",
+    "inline_here", "parse", "rename", "run", "serve",
+)  # fmt: skip
+
+
+class NamedBody:
+    """A row of the page's table: the edit, the function that refuses it, by which clauses, and whether that is public."""
+
+    def __init__(self, row: str) -> None:
+        self.body, edit, function, self.clauses, self.is_public = re.split(r" \| ", row.strip("| "))
+        self.path, self.function = edit.strip("`") + ".edit", function.strip("`")
+
+
+def named_bodies() -> List[NamedBody]:
+    """The rows of the table of named bodies."""
+    part = text_of("docs/PROVING.md").partition("### The named bodies")[2].partition("\n### ")[0]
+    return [NamedBody(it) for it in re.findall(r"^\| .* \|$", part, re.M)[1:]]
+
+
+@test("refusals: the page names each edit of `rt ci`, with the function and the clauses that refuse it, and whether it is public")
+def on_page() -> None:
+    found, sources = {it.path: it for it in named_bodies()}, {it: reading.Source(it) for it in named_crates()}
+    all_edits = {it.path: it for crate, source in sources.items() for it in edits.edits_of(crate, source)}
+    same([it for it in all_edits if all_edits[it].is_of_kit and it not in found], [], "edits that the page doesn't name")
+    same([it for it in found if it not in all_edits], [], "edits that it names, and that aren't there")
+    same(len(found), len(named_bodies()), "how many are named once")
+    for path, row in found.items():
+        edit = all_edits[path]
+        assert edit.claim
+        clauses = " and ".join(it if it.startswith("the ") else f"`{it}`" for it in edit.claim.clauses)
+        same((row.function, row.clauses), (edit.claim.function, clauses), f"{path}: the function and the clauses")
+        public = sources[edit.crate].public_functions()
+        is_public = any(edit.claim.is_of(it) and it in public for it in edit.turned or ())
+        same(row.is_public, "yes" if is_public else "no", f"{path}: whether the function is public")
+    whole = {it.function for it in found.values() if it.is_public == "yes"}
+    same([it for it in PROMISED if it not in whole], [], "calls that no edit changes themselves")
+
+
+def named_crates() -> List[str]:
+    """The crates of the named bodies, and those with edits that `rt ci` tries."""
+    named = {it.path.partition("/")[0] for it in named_bodies()}
+    return [it for it in common.listed() if it in named or edits.has(it, edits.OF_KIT)]

@@ -1,4 +1,4 @@
-"""Each allocation of the program, the framer and the worlds failing in turn, alone and with all after it.
+"""Each allocation of the program, the framer and the worlds fails, one at a time, by itself and with all after it.
 
 The framer and the worlds of an editor and a server are in the tests of the crates. `make faults` does the same in longer
 conversations and in the other tests of the crates."""

@@ -20,16 +20,16 @@ import glibc
 import notices
 import package
 from common import match_of
-from harness import TOP, holds, leave_out, same, test, text_of, want
-from homes import run_plainly, temporary, write
+from harness import TOP, holds, leave_out, same, test, text_of, tracked, want
+from homes import copy, run_plainly, temporary, write
 from snippets import FENCED
 
 # each place that has the program's version, with what is around it
 PLACES = [
     ("share/ob0.1", r'^\.TH OB0 1 \S+ "ob0 (\S+)"'),
-    ("share/ob0-format.1", r'^\.TH OB0-FORMAT 1 \S+ "ob0 (\S+)"'),
-    ("share/ob0-watch.1", r'^\.TH OB0-WATCH 1 \S+ "ob0 (\S+)"'),
-    ("share/ob0-format", r'^VERSION = "(\S+)"'),
+    *((f"share/{it}.1", rf'^\.TH {it.upper()} 1 \S+ "ob0 (\S+)"') for it in package.SCRIPTS),
+    ("share/ob0/ob0_scripts.py", r'^VERSION = "(\S+)"'),
+    ("share/ob0-watch", r'^VERSION = "(\S+)"'),
     ("CHANGELOG.md", r"^## (\S+),"),
     ("editors/emacs/ob0-mode.el", r"^;; Version: (\S+)"),
     ("editors/vscode/package.json", r'^  "version": "([^"]+)"'),
@@ -37,7 +37,7 @@ PLACES = [
 ]
 SOURCE = "crates/ob0_cli/src/line.rt"
 NEEDED = [*package.COPIED, "tools", "share", "LICENSE", "Makefile", "crates.txt", "HANDLES", SOURCE]
-# notices of crates that aren't there, beside a program that isn't ob0
+# notices of crates that don't exist, next to a program that isn't ob0
 STAND_IN = """import common, json, notices, sys
 common.keep(sys.argv[1])
 common.keep_verdict("1 passed, 0 failed")
@@ -47,20 +47,19 @@ json.dump({**notices.head(), "crates": crates}, open(notices.KEPT, "w"))
 
 
 class Repository:
-    """A repository of its own with what is packed, and a program that stands in for ob0."""
+    """Makes a repository with the packed files, and with a program that stands in for ob0."""
 
     def __init__(self, room: str) -> None:
         self.room = os.path.join(room, "repository")
         home = os.path.join(room, "home")
         os.mkdir(home)
-        kept = {key: value for key, value in os.environ.items() if not key.startswith(("GIT_", "BUILD_", "SOURCE_", "DEB", "MAKE"))}
+        kept = {key: value for key, value in os.environ.items() if not key.startswith(("BUILD_", "SOURCE_", "DEB"))}
         names = {"NAME": "x", "EMAIL": "x@example.org"}
         self.own = {**kept, "HOME": home, **{f"GIT_{who}_{it}": value for who in ("AUTHOR", "COMMITTER") for it, value in names.items()}}
-        found = subprocess.run(["git", "ls-files", "-z", "--", *NEEDED], cwd=TOP, stdout=subprocess.PIPE, check=True).stdout
-        for it in (os.fsdecode(name) for name in found.split(b"\0") if name):
-            if os.path.isfile(os.path.join(TOP, it)):
+        for it in tracked():
+            if any(it == name or it.startswith(name + "/") for name in NEEDED):
                 os.makedirs(os.path.dirname(os.path.join(self.room, it)), exist_ok=True)
-                shutil.copy(os.path.join(TOP, it), os.path.join(self.room, it))
+                copy(os.path.join(TOP, it), os.path.join(self.room, it))
         write(os.path.join(self.room, ".gitignore"), text_of(".gitignore"))
         self.ran("git", "init", "--quiet")
         self.commit()
@@ -80,7 +79,7 @@ class Repository:
         self.ran("git", "commit", "--quiet", "--allow-empty", "-m", "x")
 
     def build(self, program: str = "/bin/true") -> None:
-        """Has a program stand in for that of the present sources."""
+        """Lets a program stand in for the one of the present sources."""
         self.ran(sys.executable, "-B", "-c", f"import sys; sys.path.insert(0, 'tools')\n{STAND_IN}", program)
 
     def change(self, path: str, pattern: str, new: str) -> None:
@@ -104,7 +103,7 @@ def repository() -> Iterator[Repository]:
         yield Repository(room)
 
 
-@test("release: every place that has the version has that of the program's source")
+@test("release: every place that has the version has the same as the program's source")
 def places() -> None:
     number = package.version()
     for path, pattern in PLACES:
@@ -175,11 +174,13 @@ def known() -> None:
         same((status, "is a number of seconds" in said), (2, True), said)
 
 
-@test("release: the packages have the same bytes in another folder, with other times of files, zone, locale, home and umask")
+@test("release: the packages have the same bytes in another folder, with other times, zone, locale, home, umask and tests left out")
 def elsewhere() -> None:
     with repository() as made, temporary() as room:
         other = os.path.join(room, "an other f\u00f6lder")
         shutil.copytree(made.room, other, symlinks=True, copy_function=shutil.copy)
+        stamp = text_of(other, "bin", "ob0.stamp").replace("gate 1 passed, 0 failed", "gate 2 passed, 0 failed, 3 skipped")
+        write(os.path.join(other, "bin", "ob0.stamp"), stamp)
         sums: list[dict[str, str]] = []
         varied = [("022", {"TZ": "UTC", "LC_ALL": "C.UTF-8", "PYTHONHASHSEED": "1"})]
         varied += [("077", {"TZ": "XXX-14", "LC_ALL": "C", "PYTHONHASHSEED": "2", "HOME": room, "USER": "x", "CDPATH": "/", "TERM": "dumb"})]
@@ -190,6 +191,7 @@ def elsewhere() -> None:
             sums.append({it: common.file_sum(os.path.join(folder, it)) for it in os.listdir(folder) if it.endswith((".deb", ".gz", ".vsix", "SUMS"))})
         same(sums[1], sums[0], "the sums there")
         holds(len(sums[0]) >= 3, f"the packages: {sums[0]}")
+        holds(text_of(other, "bin", "TESTED").endswith("\ngate: 2 passed, 0 failed, 3 skipped\n"), "what was tested there")
 
 
 @test("release: without git a version has to be given, and it begins with the program's")
@@ -329,7 +331,7 @@ def paths_in(room: str) -> Iterator[str]:
 
 
 def installed_in_turn(room: str, *debs: str) -> None:
-    """Installs packages one over the other in a root of its own, and removes them."""
+    """Installs packages one over the other in a separate root, and removes them."""
     admin = os.path.join(room, "var", "lib", "dpkg")
     for it in ("available", "info/format", "updates/x", "triggers/Unincorp"):
         write(os.path.join(admin, it), "1\n" if it == "info/format" else "")

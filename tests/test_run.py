@@ -200,7 +200,7 @@ def long_run() -> None:
     ran(text, line * 1000)
 
 
-@test("run: an array of 65,536 elements, up to its last and past it")
+@test("run: an array of 65,536 elements, up to its last and after it")
 def longest_array() -> None:
     text = body("Read(x); a[65535] := 7; Write(a[65535]); Write(a[0]); Write(a[x])", "x: INTEGER; a: ARRAY 65536 OF INTEGER")
     ran(text, " 7 0 7", "", "65535")
@@ -215,7 +215,7 @@ def too_many_cells() -> None:
     ran(f"MODULE M; TYPE T = ARRAY 65536 OF INTEGER; PROCEDURE P(b: INTEGER); VAR {names}: T; BEGIN Write(b) END P; BEGIN Write(1); P(2) END M.", " 1", "CallBound", calls=0)
 
 
-# what is repeated, how often, and what is written then: as long as a text of 1 MiB can hold, or 100,000 times
+# the repeated text, how often, and the output: as long as a text of 1 MiB can be, or 100,000 times
 CHAINS: Dict[str, Tuple[Callable[[int], str], int, str]] = {
     "operands of +": (lambda count: body("Write(" + "+".join(["1"] * count) + ")"), 100000, " 100000"),
     "operands of *": (lambda count: body("Write(" + "*".join(["1"] * count) + ")"), 100000, " 1"),

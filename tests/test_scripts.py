@@ -2,6 +2,7 @@
 from __future__ import annotations
 
 import functools
+import json
 import os
 import re
 import shutil
@@ -15,8 +16,9 @@ from typing import Any, TypeVar
 
 import harness
 import package
+from common import match_of
 from harness import Content, Message, TOP, examples, frames, holds, is_running, need_program, published, same, test, text_of, want
-from homes import as_another, write
+from homes import as_another, copy, write
 from snippets import fenced
 
 T = TypeVar("T")
@@ -28,16 +30,16 @@ MODULES = {"good.mod": LAID_OUT, "loose.ob0": LOOSE, "two words.Mod": FAULTY}
 
 
 def in_folder(files: dict[str, str], function: Callable[[str, dict[str, str]], T]) -> T:
-    """Runs a function in a folder with these files: it gets the folder and an environment where `ob0` and `ob0-format` are commands."""
+    """Runs a function in a folder with these files: it gets the folder and an environment in which `ob0` and the scripts are commands."""
     need_program()
     with tempfile.TemporaryDirectory() as room:
         work = os.path.join(room, "work")
         for name, text in files.items():
             write(os.path.join(work, name), text)
-        for name, path in (("ob0", os.path.abspath(harness.BINARY)), ("ob0-format", FORMAT)):
+        for name, path in (("ob0", os.path.abspath(harness.BINARY)), *((it, os.path.join(TOP, "share", it)) for it in package.SCRIPTS)):
             os.makedirs(os.path.join(room, "bin"), exist_ok=True)
             os.symlink(path, os.path.join(room, "bin", name))
-        kept = {key: value for key, value in os.environ.items() if key != "GITHUB_ACTIONS" and not key.startswith("GIT_")}
+        kept = {key: value for key, value in os.environ.items() if key != "GITHUB_ACTIONS"}
         return function(work, {**kept, "HOME": room, "PATH": os.path.join(room, "bin") + os.pathsep + os.environ["PATH"]})
 
 
@@ -53,7 +55,7 @@ def lays_out() -> None:
     def trial(work: str, own: dict[str, str]) -> None:
         os.chmod(os.path.join(work, "loose.ob0"), 0o640)
         os.symlink("loose.ob0", os.path.join(work, "link.mod"))
-        fault = "two words.Mod has errors, so it isn't formatted: `ob0 check` lists them\n"
+        fault = "two words.Mod has errors, so it isn't formatted: `ob0-check` lists them\n"
         same(ran(["ob0-format", "--check", "link.mod", *MODULES], work, own), (1, "link.mod\nloose.ob0\n", fault), "with --check")
         same({it: text_of(work, it) for it in MODULES}, MODULES, "what --check leaves")
         same(ran(["ob0-format", "link.mod", *MODULES], work, own), (1, "link.mod\n", fault), "without --check")
@@ -82,13 +84,155 @@ def in_bytes() -> None:
     in_folder({"m.mod": text}, trial)
 
 
+@test("scripts: ob0-format formats standard input to standard output, folders, and prints differences")
+def format_forms() -> None:
+    def trial(work: str, own: dict[str, str]) -> None:
+        same(ran(["ob0-format", "-"], work, own, LOOSE), (0, LAID_OUT, ""), "standard input")
+        same(ran(["ob0-format", "-"], work, own, LAID_OUT.replace("\n", "\r\n")), (0, LAID_OUT.replace("\n", "\r\n"), ""), "with CR LF")
+        said = "- has errors, so it isn't formatted: `ob0-check` lists them\n"
+        same(ran(["ob0-format", "-"], work, own, FAULTY), (1, "", said), "standard input with errors")
+        same(ran(["ob0-format", "--check", "-"], work, own, LOOSE), (1, "-\n", ""), "standard input with --check")
+        for name in ("good.mod", "loose.ob0"):
+            status, out, err = ran(["ob0-format", "--diff", name], work, own)
+            if out:
+                same(ran(["patch", "-s", "-o", "patched", name], work, own, out), (0, "", ""), "patch")
+            made = text_of(work, "patched") if out else text_of(work, name)
+            same((status, made, err), (int(bool(out)), LAID_OUT, ""), f"the differences of {name}")
+        ended = ran(["ob0-format", "--diff", "-"], work, own, LOOSE[:-1])[1]
+        holds("\n\\ No newline at end of file\n+MODULE M;\n" in ended and ended.startswith("--- -\n+++ -\n@@ "), ended)
+        os.unlink(os.path.join(work, "two words.Mod"))
+        same(ran(["ob0-format", "."], work, own), (0, "loose.ob0\n", ""), "a folder")
+        same(ran(["ob0-format", "--check", "."], work, own), (0, "", ""), "the folder after that")
+        same(ran(["ob0-format", "--check", "--diff", "."], work, own)[0], 2, "two modes")
+
+    in_folder(MODULES, trial)
+
+
+NO_NAME = "there is no name here that can be renamed: predeclared names and the module's own can't (NoName)"
+RENAMED = "MODULE M;\nVAR x, y: INTEGER;\n  PROCEDURE P(z: INTEGER);\n  BEGIN (* \U0001f600 *) x := z + y\n  END P;\nBEGIN P(1)\nEND M.\n"
+
+
+@test("scripts: ob0-rename renames by a place counted from 1 in characters, prints or replaces, and says a refusal in words")
+def rename_script() -> None:
+    refusals = {
+        "m.mod:2:5 y": (1, "m.mod:2:5: `y` is declared in line 2 already (Duplicate)"),
+        "m.mod:2:5 z": (1, "m.mod:2:5: with the new name, `x` in line 4 would refer to another declaration (Captures)"),
+        "m.mod:2:5 END": (1, "m.mod:2:5: the new name isn't one: letters and digits, a letter first, and no reserved word (BadName)"),
+        "m.mod:2:5 \u00e4": (1, "m.mod:2:5: the new name isn't one: letters and digits, a letter first, and no reserved word (BadName)"),
+        "m.mod:2:11 N": (1, "m.mod:2:11: a predeclared name can't be renamed (Predeclared)"),
+        "m.mod:1:8 N": (1, f"m.mod:1:8: {NO_NAME}"),
+        "m.mod:99:8 N": (1, f"m.mod:99:8: {NO_NAME}"),
+        "m.mod:4:200 N": (1, f"m.mod:4:200: {NO_NAME}"),
+        "bad.mod:2:5 N": (1, "bad.mod: it has errors, so nothing is renamed: `ob0-check` lists them"),
+        "nowhere:1:1 N": (4, "nowhere: No such file or directory"),
+    }
+    defined = re.findall(r"^\| `(\w+)", text_of("docs", "PROTOCOL.md").partition("## Refusals of edits")[2].partition("\n## ")[0], re.M)
+    holds({*re.findall(r'^    "(\w+)": "', text_of("share", "ob0-rename"), re.M)} < {*defined}, "the script has other refusals")
+
+    def trial(work: str, own: dict[str, str]) -> None:
+        new = RENAMED.replace("x", "new")
+        for place in ("2:5", "4:17"):
+            same(ran(["ob0-rename", f"m.mod:{place}", "new"], work, own), (0, new, ""), place)
+        same(ran(["ob0-rename", "/dev/stdin:2:5", "new"], work, own, RENAMED), (0, new, ""), "standard input")
+        for words, (status, said) in refusals.items():
+            same(ran(["ob0-rename", "-i", *words.split()], work, own), (status, "", said + "\n"), words)
+        same(text_of(work, "m.mod"), RENAMED, "what refusals leave")
+        for place in ("m.mod", "m.mod:2", "m.mod:0:5", "m.mod:2:x", ":2:5"):
+            same(ran(["ob0-rename", place, "new"], work, own)[:2], (2, ""), place)
+        os.chmod(os.path.join(work, "m.mod"), 0o640)
+        same(ran(["ob0-rename", "-i", "m.mod:2:5", "new"], work, own), (0, "", ""), "in place")
+        same((text_of(work, "m.mod"), os.stat(os.path.join(work, "m.mod")).st_mode & 0o777), (new, 0o640), "the file")
+        same(ran(["ob0-rename", "-i", "a:b\udcff.mod:2:5", "new"], work, own), (0, "", ""), "an odd name")
+        os.chmod(os.path.join(work, "m.mod"), 0o440)
+        same(ran(["ob0-rename", "-i", "m.mod:2:5", "n"], work, own), (4, "", "m.mod: it is read-only\n"), "a read-only file")
+        full = ran(["sh", "-c", "exec ob0-rename m.mod:2:5 n > /dev/full"], work, own)
+        same(full, (4, "", "ob0-rename: standard output can't be written: No space left on device\n"), "a full disk")
+
+    in_folder({"m.mod": RENAMED, "bad.mod": FAULTY, "a:b\udcff.mod": RENAMED}, trial)
+
+
+FAULTS = """MODULE M;
+TYPE P = RECORD x: INTEGER; b: BOOLEAN END;
+VAR a: ARRAY 30 OF INTEGER; i: INTEGER; p: P; q: ARRAY 2 OF P;
+  PROCEDURE Down(n: INTEGER; VAR m: INTEGER);
+  VAR k: INTEGER;
+  BEGIN
+    k := n * 2;
+    IF n > 0 THEN Down(n - 1, m)
+    ELSIF (* \u00e4\U0001f600 *) 1 DIV n > 0 THEN
+    END
+  END Down;
+  PROCEDURE Again;
+  BEGIN Again
+  END Again;
+BEGIN
+  Read(i); p.x := 3; p.b := TRUE; q[1] := p;
+  IF i = 0 THEN WHILE TRUE DO a[0] := a[0] + 1 END
+  ELSIF i = 1 THEN REPEAT UNTIL a[30 * i] = 0
+  ELSIF i = 2 THEN Read(a[1])
+  ELSIF i = 3 THEN Again
+  ELSIF i = 4 THEN a[0] := 2147483647;
+    a[1] := a[0] +
+      a[0]
+  ELSE Down(i, a[2])
+  END;
+  Write(i)
+END M.
+"""
+# the first numbers of the input, and lines that are printed of the fault
+TRACED: dict[str, list[str]] = {
+    "0": ["m.mod:17:17: TurnBound: WHILE TRUE DO a[0] := a[0] + 1 END", "  in module M", "    i = 0", "    p = (x = 3, b = TRUE)"],
+    "1": ["m.mod:18:33: Index: a[30 * i]", "  in the statement of line 18: REPEAT UNTIL a[30 * i] = 0", "    q = [(x = 0, b = FALSE), (x = 3, b = TRUE)]"],
+    "2": ["m.mod:19:20: InputEnd: Read(a[1])", "    i = 2"],
+    "3": ["m.mod:13:9: CallBound: Again", "  in procedure Again, called in line 13", "  .. 59 more calls"],
+    "4": ["m.mod:22:13: Overflow: a[0] +", "  in the statement of line 22: a[1] := a[0] +"],
+    "7": ["m.mod:9:20: Divisor: 1 DIV n", "  in procedure Down, called in line 8", "    n = 0", "    m = 0", "    k = 0", "    k = 2", "  .. 3 more calls"],
+}
+
+
+@test("scripts: ob0-trace says at which line and statement a run ends, in which calls and with which variables")
+def traced() -> None:
+    def trial(work: str, own: dict[str, str]) -> None:
+        for given, wanted in TRACED.items():
+            run = ran(["ob0", "run", "m.mod"], work, own, given)
+            status, out, err = ran(["ob0-trace", "m.mod"], work, own, given)
+            same((status, out), run[:2], f"the status and the output of {given}")
+            lines = err.splitlines()
+            same(lines[0], wanted[0], f"the place of {given}")
+            same([it for it in wanted if it not in lines], [], f"lines that {lines} lacks")
+            holds("isn't proved" in lines[-1] and f": {run[2].split()[1]}: " in lines[0], err)
+        same(ran(["ob0-trace", "gcd.mod"], work, own, text_of("examples", "Gcd.in")), (0, text_of("examples", "Gcd.out"), ""), "a run without a fault")
+        holds(": CallBound: Down(n - 1, m)" in ran(["ob0-trace", "--calls", "3", "m.mod"], work, own, "7")[2], "another bound")
+        same(ran(["ob0-trace", "two words.Mod"], work, own), (1, "", "two words.Mod has errors, so it isn't run: `ob0-check` lists them\n"), "errors")
+        same(ran(["ob0-trace", "m.mod"], work, own, "x"), (4, "", "m.mod: fault: Input\n"), "another input")
+        same(ran(["ob0-trace", "nowhere"], work, own), (4, "", "nowhere: No such file or directory\n"), "no file")
+        same(ran(["ob0-trace", "--calls", "65", "m.mod"], work, own)[:2], (2, ""), "a bound that is too large")
+
+    in_folder({**MODULES, "m.mod": FAULTS, "gcd.mod": text_of("examples", "Gcd.mod")}, trial)
+
+
+@test("scripts: ob0-trace says so if the second run prints or ends otherwise than `ob0 run`, with a status of its own")
+def traced_otherwise() -> None:
+    said = "m.mod: the second run ends with Done, or prints something else, unlike `ob0 run`: please report this\n"
+    for line in ("printf ' 1 2'", "printf ' 1\\n'; echo 'fault: Index' >&2; exit 1"):
+
+        def trial(work: str, own: dict[str, str], line: str = line) -> None:
+            other = os.path.join(work, "..", "other", "ob0")
+            write(other, f"#!/bin/sh\n{line}\n")
+            os.chmod(other, 0o755)
+            found = ran(["ob0-trace", "--program", other, "m.mod"], work, own)
+            same((found[0], found[2]), (6, said), line)
+
+        in_folder({"m.mod": "MODULE M; BEGIN Write(1); WriteLn END M."}, trial)
+
+
 @test("scripts: ob0-format ends with 2 for its command line and with 4 for files, and goes on with the others")
 def format_statuses() -> None:
     def trial(work: str, own: dict[str, str]) -> None:
         with open(os.path.join(work, "latin.mod"), "wb") as file:
             file.write(b"MODULE M; (* \xe4 *) END M.")
-        found = ran(["ob0-format", "nowhere.mod", "latin.mod", ".", "loose.ob0"], work, own)
-        same(found, (4, "loose.ob0\n", "nowhere.mod: No such file or directory\nlatin.mod isn't UTF-8\n.: Is a directory\n"))
+        found = ran(["ob0-format", "nowhere.mod", "latin.mod", "loose.ob0/", "loose.ob0"], work, own)
+        same(found, (4, "loose.ob0\n", "nowhere.mod: No such file or directory\nlatin.mod isn't UTF-8\nloose.ob0/: Not a directory\n"))
         lines: list[list[str]] = [[], ["--chekc", "good.mod"], ["--check"]]
         for words in lines:
             same(ran(["ob0-format", *words], work, own)[:2], (2, ""), f"the status of {words}")
@@ -104,12 +248,17 @@ def format_statuses() -> None:
 FAULT = harness.diagnostic("Undeclared", "not declared", "4:2-4:3")
 
 
-def server_with(edits: list[Message], more: Iterable[Message] = (), faults: Iterable[Message] = ()) -> str:
+STARTED: list[Content] = [{"id": 1, "result": {"capabilities": {"positionEncoding": "utf-8"}}}]
+
+
+def server_with(edits: list[Message], more: Iterable[Message] = (), faults: Iterable[Message] = (), meanwhile: str = "") -> str:
     """A server that answers the first request for a layout with these edits; of the text that they make it has these faults, and
-    answers with more edits."""
-    answers: list[Content] = [{"id": 1, "result": {"capabilities": {"positionEncoding": "utf-8"}}}, published([]), {"id": 3, "result": edits}, published([])]
+    answers with more edits. It runs a line of Python once the first text is opened."""
+    answers: list[Content] = [published([]), {"id": 3, "result": edits}, published([])]
     answers += [published([*faults]), {"id": 5, "result": [*more]}, published([]), {"id": 6, "result": None}]
-    return "#!/usr/bin/env python3\nimport sys\nsys.stdout.buffer.write(%r)\nsys.stdout.flush()\nsys.stdin.read()\n" % frames(answers)
+    waits = "got = b''\nwhile b'didOpen' not in got: got += os.read(0, 65536)"
+    says = "sys.stdout.buffer.write(%r); sys.stdout.flush()"
+    return "\n".join(["#!/usr/bin/env python3", "import os, sys", says % frames(STARTED), waits, meanwhile, says % frames(answers), "sys.stdin.read()", ""])
 
 
 @test("scripts: ob0-format writes no text whose tokens differ, whatever a server answers")
@@ -130,16 +279,39 @@ def guarded() -> None:
         in_folder(MODULES, trial)
 
 
+@test("scripts: ob0-format leaves a file that another program changes before the server has answered")
+def format_late() -> None:
+    edits: list[Message] = [{"range": harness.extent("4:7-4:8"), "newText": "1 "}]
+    trials = {
+        f"open('good.mod', 'w').write({FAULTY!r})": (FAULTY, "another program has changed it in the meantime, so it was left unchanged"),
+        f"open('new', 'w').write({LAID_OUT!r}); os.replace('new', 'good.mod')": (LAID_OUT.replace("1\n", "1 \n"), ""),
+        "os.unlink('good.mod')": (None, "No such file or directory"),
+    }
+    for meanwhile, (wanted, why) in trials.items():
+
+        def trial(work: str, own: dict[str, str], meanwhile: str = meanwhile, wanted: str | None = wanted, why: str = why) -> None:
+            other = os.path.join(work, "..", "other")
+            write(os.path.join(other, "ob0"), server_with(edits, meanwhile=meanwhile))
+            os.chmod(os.path.join(other, "ob0"), 0o755)
+            found = ran(["python3", FORMAT, "good.mod"], work, {**own, "PATH": other + os.pathsep + own["PATH"]})
+            same(found, (4, "", f"good.mod: {why}\n") if why else (0, "good.mod\n", ""), meanwhile)
+            same({it: text_of(work, it) for it in os.listdir(work)}, {"good.mod": wanted} if wanted else {}, f"the files after {meanwhile}")
+
+        in_folder({"good.mod": LAID_OUT}, trial)
+
+
 @test("scripts: a failed write leaves the old file, and nothing beside it")
 def failed_write() -> None:
     def trial(work: str, own: dict[str, str]) -> None:
         # (root may write everywhere, so it becomes another user, who may have no way into the folder of the sources)
+        room = os.path.dirname(work)
         for name in ("ob0", "ob0-format"):
-            at = os.path.join(work, "..", "bin", name)
+            at = os.path.join(room, "bin", name)
             source = os.path.realpath(at)
             os.unlink(at)
-            shutil.copy(source, at)
-        os.chmod(os.path.dirname(work), 0o755)
+            copy(source, at)
+        copy(os.path.join(TOP, "share", "ob0"), os.path.join(room, "share", "ob0"))
+        os.chmod(room, 0o755)
         os.chmod(work, 0o555)
         found = ran([*as_another(), "ob0-format", "loose.ob0"], work, own)
         same((found[0], text_of(work, "loose.ob0"), sorted(os.listdir(work))), (4, LOOSE, sorted(MODULES)), str(found))
@@ -173,7 +345,7 @@ CLOSED = "import os, sys; r, w = os.pipe(); os.close(r); os.dup2(w, 1); os.execv
 def format_unprinted() -> None:
     def trial(line: str, why: str, work: str, own: dict[str, str]) -> None:
         found = ran(["sh", "-c", line, "sh", *NAMES], work, own)
-        same(found, (4, "", f"ob0-format: the names of files can't be printed: {why}\n"), line)
+        same(found, (4, "", f"ob0-format: standard output can't be written: {why}\n"), line)
         same([text_of(work, it) for it in NAMES], [LAID_OUT] * len(NAMES), f"the files after {line}")
 
     for line, why in (
@@ -201,7 +373,7 @@ def format_keeps() -> None:
         with open(os.path.join(work, "dos.mod"), newline="", encoding="utf-8") as text:
             same(text.read(), LAID_OUT.replace("\n", "\r\n"), "a file with CR LF")
         now = os.stat(file)
-        same((now.st_uid, now.st_gid, now.st_mode & 0o777, os.getxattr(file, "user.ob0")), (*owner, 0o604, b"kept"), "what was kept")
+        same((now.st_uid, now.st_gid, now.st_mode & 0o777, os.getxattr(file, "user.ob0")), (*owner, 0o604, b"kept"), "the kept mode, owner and attribute")
         same(ran(["ob0-format", "--check", "dos.mod"], work, own), (0, "", ""), "a formatted file with CR LF")
         same(ran(["ob0-format", "--check", "read.mod", "first.mod"], work, own), (1, "read.mod\nfirst.mod\n", ""), "what --check names")
 
@@ -214,11 +386,12 @@ def format_others() -> None:
 
     def trial(work: str, own: dict[str, str]) -> None:
         room = os.path.dirname(work)
-        shutil.copy(FORMAT, os.path.join(room, "ob0-format"))
-        write(os.path.join(room, "ob0"), server_with([{"range": harness.extent("0:7-0:7"), "newText": " "}]))
-        for name, mode in (("", 0o755), ("ob0", 0o755), ("work", 0o777), ("work/good.mod", 0o666)):
+        write(os.path.join(room, "other", "ob0"), server_with([{"range": harness.extent("0:7-0:7"), "newText": " "}]))
+        copy(os.path.join(TOP, "share", "ob0"), os.path.join(room, "share", "ob0"))
+        copy(FORMAT, os.path.join(room, "other", "ob0-format"))
+        for name, mode in (("", 0o755), ("other", 0o755), ("other/ob0", 0o755), ("work", 0o777), ("work/good.mod", 0o666)):
             os.chmod(os.path.join(room, name), mode)
-        found = ran([*as_another(), "python3", os.path.join(room, "ob0-format"), "good.mod"], work, own)
+        found = ran([*as_another(), "python3", os.path.join(room, "other", "ob0-format"), "good.mod"], work, own)
         said = "good.mod: its owner, group, mode or access list can't be kept: Operation not permitted\n"
         same((found, text_of(work, "good.mod"), os.listdir(work)), ((4, "", said), LAID_OUT, ["good.mod"]))
 
@@ -227,20 +400,17 @@ def format_others() -> None:
 
 @test("scripts: ob0-format replaces no device, and reads no more of one than a module may have")
 def format_devices() -> None:
-    refused = "/dev/stdin: only a file can be replaced; --check takes others too\n"
+    refused = "/dev/stdin: only a file can be replaced\n"
 
     def trial(work: str, own: dict[str, str]) -> None:
         same(ran(["sh", "-c", "ob0-format /dev/stdin < loose.ob0"], work, own), (4, "", refused), "a file as standard input")
         same((text_of(work, "loose.ob0"), sorted(os.listdir(work))), (LOOSE, sorted(MODULES)), "the files")
         same(ran(["ob0-format", "/dev/stdin"], work, own, LOOSE), (4, "", refused), "a pipe")
-        endless = "/dev/zero has errors, so it isn't formatted: `ob0 check` lists them\n"
+        endless = "/dev/zero has errors, so it isn't formatted: `ob0-check` lists them\n"
         same(ran(["ob0-format", "/dev/zero"], work, own), (1, "", endless), "a device without an end")
 
     in_folder(MODULES, trial)
     holds("`TooLong` | the text has more than 1,048,576 bytes" in text_of("docs", "LANGUAGE.md"), "the page has another longest text")
-
-
-STARTED: list[Content] = [{"id": 1, "result": {"capabilities": {"positionEncoding": "utf-8"}}}]
 
 
 def first_by(lines: str, answers: list[Content], work: str, own: dict[str, str]) -> dict[str, str]:
@@ -256,7 +426,7 @@ def first_by(lines: str, answers: list[Content], work: str, own: dict[str, str])
     return {**own, "PATH": other + os.pathsep + own["PATH"]}
 
 
-@test("scripts: ob0-format goes on with a new server if one fails over a file")
+@test("scripts: ob0-format continues with a new server if one fails over a file")
 def format_again() -> None:
     strange: list[Content] = [*STARTED, {"method": "textDocument/publishDiagnostics"}]
     for answers, said in ((STARTED, "the server ended"), (strange, "the server answers something else than it has to")):
@@ -282,7 +452,7 @@ runpy.run_path(sys.argv[0], run_name="__main__")
 SIGNALS = (signal.SIGINT, signal.SIGTERM, signal.SIGHUP)
 
 
-@test("scripts: a signal ends ob0-format and its server between two files, and leaves no file half done and none beside it")
+@test("scripts: a signal ends ob0-format and its server between two files, and leaves no half-written and no other file")
 def format_signalled() -> None:
     def while_it_writes(number: int, work: str, own: dict[str, str]) -> None:
         status, out, _ = ran(["python3", "-c", SIGNALLED, str(int(number)), FORMAT, "a.mod", "b.mod"], work, own)
@@ -297,7 +467,7 @@ def format_signalled() -> None:
             time.sleep(0.3)
             process.send_signal(number)
             same(process.wait(harness.SECONDS), -number, "the status")
-        holds(not is_running(int(text_of(work, "pid"))), f"the server goes on after signal {number}")
+        holds(not is_running(int(text_of(work, "pid"))), f"the server still runs after signal {number}")
 
     for number in SIGNALS:
         in_folder({"a.mod": LOOSE, "b.mod": LOOSE}, functools.partial(while_it_writes, number))
@@ -305,7 +475,7 @@ def format_signalled() -> None:
 
 
 BLOCKS = [text for name, text in fenced("docs/CI.md") if name == "sh"]
-CHECK, RUN, HOOK, JOB = BLOCKS
+RUN, HOOK = BLOCKS
 LISTED = ["two words.Mod:3:3: Undeclared: not declared", "two words.Mod:4:3: Undeclared: not declared"]
 MARKED = [f"::error file=two words.Mod,line={line},col=3::Undeclared: not declared" for line in (3, 4)]
 
@@ -315,55 +485,162 @@ ODD = ["-ugly.mod", "100%, a:b.mod", "1:x.mod", "it's.mod", 'quote".mod', "back\
 ESCAPED = [("%", "%25"), ("\n", "%0A"), (":", "%3A"), (",", "%2C")]
 
 
-@test("scripts: the page's ob0-check lists the faults of several files as compilers do, and as GitHub wants them, and keeps the status")
+@test("scripts: ob0-check lists the errors of several files as compilers do, as GitHub wants them and as JSON, with the worst status")
 def check_script() -> None:
     def trial(work: str, own: dict[str, str]) -> None:
-        same(ran(["sh", "ob0-check", "two words.Mod", "good.mod"], work, own), (1, "\n".join(LISTED) + "\n", ""), "as compilers do")
-        github = {**own, "GITHUB_ACTIONS": "true"}
-        same(ran(["sh", "ob0-check", *MODULES], work, github), (1, "\n".join(MARKED) + "\n", ""), "for GitHub")
-        same(ran(["sh", "ob0-check", "good.mod", "loose.ob0"], work, own), (0, "", ""), "without faults")
-        for more, line in ((own, "nowhere.mod:1:1: it cannot be checked\n"), (github, "::error file=nowhere.mod,line=1,col=1::it cannot be checked\n")):
-            status, out, err = ran(["sh", "ob0-check", "nowhere.mod", "good.mod"], work, more)
-            same((status, out, "nowhere.mod" in err), (1, line, True), f"a file that isn't there: {err}")
+        same(ran(["ob0-check", "two words.Mod", "good.mod"], work, own), (1, "\n".join(LISTED) + "\n", ""), "as compilers do")
+        same(ran(["ob0-check", "--github", *MODULES], work, own), (1, "\n".join(MARKED) + "\n", ""), "for GitHub")
+        forms: list[list[str]] = [[], ["--github"]]
+        for form in forms:
+            same(ran(["ob0-check", *form, "good.mod", "loose.ob0"], work, own), (0, "", ""), f"without errors, {form}")
+        same(ran(["ob0-check", "--json", "good.mod"], work, own), (0, "[]\n", ""), "without errors, as JSON")
+        with open(os.path.join(work, "latin.mod"), "wb") as file:
+            file.write(b"MODULE M; (* \xe4 *) END M.")
+        why = {"nowhere.mod": ": No such file or directory", "latin.mod": " isn't UTF-8"}
+        said = "".join(f"{name}{it}\n" for name, it in why.items())
+        same(ran(["ob0-check", *why, "two words.Mod"], work, own), (4, "\n".join(LISTED) + "\n", said), "files that can't be checked")
+        marks = [f"::error file={name},line=1,col=1::File: it can't be checked: {it.strip(': ').replace('isn', 'it isn')}\n" for name, it in why.items()]
+        same(ran(["ob0-check", "--github", *why], work, own), (4, "".join(marks), said), "the same for GitHub")
 
-    in_folder({**MODULES, "ob0-check": CHECK}, trial)
+    in_folder(MODULES, trial)
 
 
-@test("scripts: the page's ob0-check takes files of any name")
+@test("scripts: ob0-check counts lines and columns from 1, in characters, and gives each error of the program's")
+def check_places() -> None:
+    text = "MODULE M;\r\n(* \u00e4\U0001f600 *) x;\r\ty\n\u00e9 END M.\n"
+
+    def trial(work: str, own: dict[str, str]) -> None:
+        listed = "m.mod:2:10: BadChar"
+        status, out, _ = ran(["ob0-check", "m.mod"], work, own)
+        by_program = ran(["ob0", "check", "m.mod"], work, own)[1].splitlines()
+        same((status, [it.split(": ", 1)[1] for it in out.splitlines()]), (1, [it.split(": ", 1)[1] for it in by_program]), "the errors")
+        same([it.split(": ")[0] for it in out.splitlines()], ["m.mod:4:1"], f"the places, {listed}")
+        write(os.path.join(work, "n.mod"), text.replace("\u00e9", ""))
+        same(ran(["ob0-check", "n.mod"], work, own)[1], "n.mod:2:10: Syntax: expected END\n", "a place after characters of two and of four bytes")
+        write(os.path.join(work, "long.mod"), "MODULE M; (*" + "\u00e4" * (1 << 19) + "*) END M.")
+        same(ran(["ob0-check", "long.mod"], work, own), (1, "long.mod:1:1: TooLong: text too long\n", ""), "a text that is too long")
+        same(ran(["ob0", "check", "long.mod"], work, own), (1, "0:0: TooLong: text too long\n", ""), "the same by the program")
+        for name in ("-", "/dev/stdin"):
+            same(ran(["ob0-check", name], work, own, FAULTY)[1], "\n".join(LISTED).replace("two words.Mod", name) + "\n", name)
+
+    in_folder({"m.mod": text}, trial)
+
+
+@test("scripts: ob0-check writes JSON that names the file, the place, the code and the message of each error")
+def check_json() -> None:
+    def trial(work: str, own: dict[str, str]) -> None:
+        status, out, _ = ran(["ob0-check", "--json", *MODULES, "nowhere.mod"], work, own)
+        found = json.loads(out)
+        places = [(it["location"]["path"], it["location"]["lines"]["begin"], *it["location"]["positions"]["begin"].values()) for it in found]
+        same((status, places), (4, [("two words.Mod", 3, 3, 3), ("two words.Mod", 4, 4, 3), ("nowhere.mod", 1, 1, 1)]), "the places")
+        same([it["location"]["positions"]["end"] for it in found[:2]], [{"line": line, "column": 4} for line in (3, 4)], "their ends")
+        same([it["check_name"] for it in found], ["Undeclared", "Undeclared", "File"], "the codes")
+        same([it["description"] for it in found[1:]], ["not declared", "it can't be checked: No such file or directory"], "the messages")
+        same(len({it["fingerprint"] for it in found}), 3, "the fingerprints")
+
+    in_folder(MODULES, trial)
+
+
+@test("scripts: ob0-check --hints prints a hint under a message, and beside it in the other forms")
+def check_hints() -> None:
+    text, hint = "MODULE M;\nVAR x: INTEGER;\nBEGIN\n  x = 1\nEND M.\n", "an assignment is written `:=`, as in `x := 1`; `=` compares"
+
+    def trial(work: str, own: dict[str, str]) -> None:
+        words = ["ob0-check", "--hints"]
+        same(ran([*words, "m.mod", "good.mod"], work, own), (1, f"m.mod:4:5: Syntax: expected END\n    hint: {hint}\n", ""), "a hint")
+        same(ran([*words, "two words.Mod"], work, own)[1], "\n".join(LISTED) + "\n", "messages without a hint")
+        marked = f"::error file=m.mod,line=4,col=5::Syntax: expected END%0Ahint: {hint}\n"
+        same(ran([*words, "--github", "m.mod"], work, own)[1], marked, "for GitHub")
+        same(json.loads(ran([*words, "--json", "m.mod"], work, own)[1])[0]["content"], {"body": hint}, "in JSON")
+
+    in_folder({**MODULES, "m.mod": text}, trial)
+
+
+@test("scripts: ob0-check and ob0-format take files of any name")
 def check_names() -> None:
     def trial(work: str, own: dict[str, str]) -> None:
         for name in names:
             marked = functools.reduce(lambda text, pair: text.replace(*pair), ESCAPED, name)
-            for said, listed, more in ((name, LISTED, own), (marked, MARKED, {**own, "GITHUB_ACTIONS": "true"})):
+            forms: list[tuple[str, list[str], list[str]]] = [(name, LISTED, []), (marked, MARKED, ["--github"])]
+            for said, listed, words in forms:
                 wanted = "".join(it.replace("two words.Mod", said) + "\n" for it in listed)
-                same(ran(["sh", "ob0-check", name], work, more), (1, wanted, ""), repr(name))
+                same(ran(["ob0-check", *words, "--", name], work, own), (1, wanted, ""), repr(name))
+            same(json.loads(ran(["ob0-check", "--json", "--", name], work, own)[1])[0]["location"]["path"], name, f"{name!r} in JSON")
 
-    # (the program takes no name that isn't UTF-8, and the script gives it none)
     names = [*ODD, "gr\udcfc\udcdfe.mod"]
-    in_folder({**dict.fromkeys(names, FAULTY), "ob0-check": CHECK}, trial)
+    in_folder(dict.fromkeys(names, FAULTY), trial)
 
 
-@test("scripts: the page's scripts say which program isn't on PATH")
-def without_programs() -> None:
+@test("scripts: ob0-check says once that standard output can't be written")
+def check_unprinted() -> None:
+    for line, why in (
+        (f'exec python3 -c "{CLOSED}" ob0-check "$@"', "Broken pipe"),
+        ('exec ob0-check "$@" > /dev/full', "No space left on device"),
+        ('exec ob0-check --json "$@" >&-', "it is closed"),
+    ):
+        found = in_folder({"a.mod": FAULTY, "b.mod": FAULTY}, functools.partial(ran, ["sh", "-c", line, "sh", "a.mod", "b.mod"]))
+        same(found, (4, "", f"ob0-check: standard output can't be written: {why}\n"), line)
+
+
+# files that end as modules do, and whether they are some
+TAKEN = [
+    ("go.mod", "module example\n", False),
+    ("go/tools.mod", "module example.com/x\n", False),
+    ("go/small.mod", "module small;\n", True),
+    ("go/m.mod", "MODULE a.b\n", True),
+    ("a.mod", "DEFINITION MODULE M;\n", False),
+    ("b.Mod", "(* MODULE M; *) x\n", False),
+    ("c.mod", "(* MODULE M;\n", False),
+    ("d.mod", "MODULES M;\n", False),
+    ("e.mod", "", False),
+    ("f.mod", "(* one (* and two *) *)\n\n(*) three *) MODULE\nx\n", True),
+    ("g.mod", "\r\n\tMODULE;\r\n", True),
+    ("h.ob0", "x\n", True),
+    ("i.Mod", "MODULE", True),
+    ("lib/j.mod", "\ufeffmodule M;\n", True),
+    (".hidden/k.ob0", "x\n", False),
+    ("l.txt", "MODULE M;", False),
+]
+
+
+@test("scripts: of a folder ob0-check and ob0-format take Oberon-0's files, and none behind links or in hidden folders")
+def taken() -> None:
     def trial(work: str, own: dict[str, str]) -> None:
-        others = os.path.join(work, "..", "others")
-        os.mkdir(others)
-        tools = {it: shutil.which(it) for it in ("sh", "git", "awk", "xargs", "ob0")}
-        for name, path in tools.items():
-            os.symlink(os.path.realpath(path or harness.BINARY), os.path.join(others, name))
-        alone = {**own, "PATH": others}
-        same(ran(["sh", "hook"], work, alone), (1, "", "ob0-format isn't on PATH\n"), "the hook without ob0-format")
-        os.unlink(os.path.join(others, "ob0"))
-        for words in (["sh", "hook"], ["sh", "ob0-check", "good.mod"]):
-            same(ran(words, work, alone), (1, "", "ob0 isn't on PATH\n"), f"{words} without ob0")
+        for name, target in (("link.mod", "f.mod"), ("links", "lib")):
+            os.symlink(target, os.path.join(work, name))
+        wanted = [name for name, _, is_taken in TAKEN if is_taken]
+        status, out, err = ran(["ob0-check", "."], work, own)
+        same((status, list(dict.fromkeys(it.partition(":")[0] for it in out.splitlines())), err), (1, sorted(wanted), ""), out)
+        _, _, err = ran(["ob0-format", "--check", "."], work, own)
+        same([it.partition(" has ")[0] for it in err.splitlines()], sorted(wanted), err)
+        for given, said in (("lib", "lib/j.mod:1:1"), (os.path.join(work, "lib"), os.path.join(work, "lib/j.mod:1:1")), ("links", "links/j.mod:1:1")):
+            holds(ran(["ob0-check", given], work, own)[1].startswith(said + ": "), f"what is printed of {given}")
 
-    in_folder({**MODULES, "ob0-check": CHECK, "hook": HOOK}, trial)
+    in_folder({name: text for name, text, _ in TAKEN}, trial)
+
+
+@test("scripts: a folder that can't be read is reported, and the files after it are checked")
+def unreadable() -> None:
+    def trial(work: str, own: dict[str, str]) -> None:
+        room = os.path.dirname(work)
+        for name in ("ob0", "ob0-check"):
+            source = os.path.realpath(os.path.join(room, "bin", name))
+            os.unlink(os.path.join(room, "bin", name))
+            shutil.copy(source, os.path.join(room, "bin", name))
+        shutil.copytree(os.path.join(TOP, "share", "ob0"), os.path.join(room, "share", "ob0"))
+        os.chmod(room, 0o755)
+        os.chmod(os.path.join(work, "lib"), 0)
+        found = ran([*as_another(), "ob0-check", "lib", "good.mod", "two words.Mod"], work, own)
+        os.chmod(os.path.join(work, "lib"), 0o755)
+        same(found, (4, "\n".join(LISTED) + "\n", "lib: Permission denied\n"))
+
+    in_folder({**MODULES, "lib/a.mod": FAULTY}, trial)
 
 
 ENDLESS = "MODULE Gcd;\nBEGIN\n  WHILE TRUE DO\n  END\nEND Gcd.\n"
 
 
-@test("scripts: the page's line compares what a module prints with what is known, and refuses a run that ends with a fault")
+@test("scripts: the page's line compares the output of a module with the known one, and refuses a run that ends with a fault")
 def run_script() -> None:
     files = {f"Gcd.{it}": text_of("examples", f"Gcd.{it}") for it in ("mod", "in", "out")}
     faulty = "a: ARRAY 1 OF INTEGER;\n" + files["Gcd.mod"].partition("VAR\n")[2]
@@ -376,7 +653,7 @@ def run_script() -> None:
         same((found[0], found[2] if said else ""), (status, said), f"with {more}: {found}")
 
 
-@test("scripts: a FILE is /dev/stdin where the page says so")
+@test("scripts: a FILE may be /dev/stdin if the page says so")
 def standard_input() -> None:
     def trial(work: str, own: dict[str, str]) -> None:
         same(ran(["ob0", "check", "/dev/stdin"], work, own, LAID_OUT), (0, "", ""), "check")
@@ -399,39 +676,48 @@ def git(work: str, own: dict[str, str], *words: str) -> tuple[int, str, str]:
     return ran(["git", *names, *words], work, own)
 
 
-@test("scripts: the page's hook refuses a commit with faults or without a layout, by what is to be committed")
+def with_hook(work: str, own: dict[str, str]) -> None:
+    """Makes a folder a repository with the page's hook."""
+    same(git(work, own, "init", "-q")[0], 0, "git init")
+    write(os.path.join(work, ".git", "hooks", "pre-commit"), HOOK)
+    os.chmod(os.path.join(work, ".git", "hooks", "pre-commit"), 0o755)
+
+
+@test("scripts: the page's hook refuses a commit with errors or without a layout, by what is to be committed")
 def hook() -> None:
     if not shutil.which("git"):
         harness.leave_out("it wants git")
 
     def trial(work: str, own: dict[str, str]) -> None:
-        same(git(work, own, "init", "-q")[0], 0, "git init")
-        write(os.path.join(work, ".git", "hooks", "pre-commit"), HOOK)
-        os.chmod(os.path.join(work, ".git", "hooks", "pre-commit"), 0o755)
+        with_hook(work, own)
         git(work, own, "add", ".")
         status, out, err = git(work, own, "commit", "-q", "-m", "all")
-        same((status, "loose.ob0 isn't formatted: ob0-format -- loose.ob0\n" in err), (1, True), f"the commit of all: {out}{err}")
-        holds("\n".join([*LISTED, ""]) in err, f"the faults: {out}{err}")
+        holds(status == 1 and "\n".join([*LISTED, ""]) in err, f"the errors: {out}{err}")
         # (what is in the folder doesn't count)
         write(os.path.join(work, "two words.Mod"), LAID_OUT)
         same(git(work, own, "commit", "-q", "-m", "all")[0], 1, "a commit of what isn't in the folder any more")
+        git(work, own, "add", ".")
+        status, out, err = git(work, own, "commit", "-q", "-m", "all")
+        holds(status == 1 and "loose.ob0" in err and "two words" not in err, f"what isn't formatted: {out}{err}")
         same(ran(["ob0-format", "loose.ob0"], work, own)[0], 0, "ob0-format")
         git(work, own, "add", ".")
         write(os.path.join(work, "good.mod"), FAULTY)
-        same(git(work, own, "commit", "-q", "-m", "all")[0], 0, "a commit without faults")
+        same(git(work, own, "commit", "-q", "-m", "all"), (0, "", ""), "a commit without errors")
+        git(work, own, "rm", "-q", "--cached", "good.mod")
+        same(git(work, own, "commit", "-q", "-m", "without one"), (0, "", ""), "a commit that only removes a module")
 
-    in_folder({**MODULES, "other.txt": FAULTY}, trial)
+    in_folder({**MODULES, "other.txt": FAULTY, "go.mod": "module example.com/x\n"}, trial)
 
 
-@test("scripts: the page's hook looks at files of any name")
+@test("scripts: the page's hook looks at files of any name, and not at what links lead to")
 def hook_names() -> None:
     if not shutil.which("git"):
         harness.leave_out("it wants git")
 
     def trial(text: str, status: int, said: str, work: str, own: dict[str, str]) -> None:
-        git(work, own, "init", "-q")
-        write(os.path.join(work, ".git", "hooks", "pre-commit"), HOOK)
-        os.chmod(os.path.join(work, ".git", "hooks", "pre-commit"), 0o755)
+        with_hook(work, own)
+        os.symlink("../" + ODD[0], os.path.join(work, "link.mod"))
+        git(work, own, "add", "link.mod")
         for name in ODD:
             write(os.path.join(work, name), text)
             git(work, own, "add", "--", "./" + name)
@@ -439,71 +725,48 @@ def hook_names() -> None:
             same((found[0] != 0, said % ((name,) * said.count("%s")) in found[2]), (status, True), f"the commit of {name!r}: {found}")
             git(work, own, "rm", "-q", "-f", "--cached", "--", "./" + name)
 
-    for text, status, said in ((LAID_OUT, False, ""), (FAULTY, True, "%s:3:3: Undeclared: not declared\n"), (LOOSE, True, "%s isn't formatted: ob0-format -- %s\n")):
+    for text, status, said in ((LAID_OUT, False, ""), (FAULTY, True, "%s:3:3: Undeclared: not declared\n"), (LOOSE, True, "%s\n")):
         in_folder({"other.txt": ""}, functools.partial(trial, text, status, said))
 
 
-# files that end as modules do, and whether they are some
-TAKEN = [
-    ("go.mod", "module example.com/x\n", False),
-    ("a.mod", "DEFINITION MODULE M;\n", False),
-    ("b.Mod", "(* MODULE M; *) x\n", False),
-    ("c.mod", "(* MODULE M;\n", False),
-    ("d.mod", "MODULES M;\n", False),
-    ("e.mod", "", False),
-    ("f.mod", "(* one (* and two *) *)\n\n(*) three *) MODULE\nx\n", True),
-    ("g.mod", "\r\n\tMODULE;\r\n", True),
-    ("h.ob0", "x\n", True),
-    ("i.Mod", "MODULE", True),
-]
-
-
-@test("scripts: the page's hook and its job take Oberon-0's files alone, and no symbolic links")
-def taken() -> None:
+@test("scripts: the page's hook checks 200 files with one call of each script, in less than three seconds of a processor")
+def hook_of_many() -> None:
     if not shutil.which("git"):
         harness.leave_out("it wants git")
 
     def trial(work: str, own: dict[str, str]) -> None:
-        git(work, own, "init", "-q")
-        os.symlink("f.mod", os.path.join(work, "link.mod"))
-        for name, _, is_taken in [*TAKEN, ("link.mod", "", False)]:
-            git(work, own, "add", name)
-            found = ran(["sh", "hook"], work, own)
-            same((found[0] != 0, found[1].startswith(f"{name}:"), found[2]), (is_taken, is_taken, ""), f"the hook, on {name}: {found}")
-            git(work, own, "rm", "-q", "-f", "--cached", name)
+        with_hook(work, own)
         git(work, own, "add", ".")
-        status, out, _ = ran(["sh", "-c", JOB.splitlines()[1]], work, own)
-        holds(status, "the job passes")
-        same([it.partition(":")[0] for it in out.splitlines()], [name for name, _, is_taken in TAKEN if is_taken], f"the job: {out}")
+        before = os.times()
+        same(git(work, own, "commit", "-q", "-m", "all"), (0, "", ""), "a commit of 200 files")
+        after = os.times()
+        seconds = after.children_user - before.children_user + after.children_system - before.children_system
+        holds(seconds < 3 or harness.BINARY != os.path.join(TOP, "bin", "ob0"), f"it takes {seconds:.1f} s")
 
-    in_folder({**{name: text for name, text, _ in TAKEN}, "hook": HOOK, "ci/pre-commit": HOOK}, trial)
+    text = text_of("examples", "Gcd.mod")
+    in_folder({f"lib/M{at}.mod": text for at in range(200)}, trial)
 
 
-@test("scripts: the page's job finds faults and what isn't formatted, and lists them as ob0-check does")
+@test("scripts: the page's jobs and the hooks for pre-commit find errors and what isn't formatted")
 def job() -> None:
-    if not shutil.which("git"):
-        harness.leave_out("it wants git")
-    install, line = JOB.splitlines()
-    same(install.split()[:3], ["sudo", "apt-get", "install"], "the first line")
-
-    def trial(fails: bool, said: str, work: str, own: dict[str, str]) -> None:
-        git(work, own, "init", "-q")
-        git(work, own, "add", ".")
-        found = ran(["sh", "-c", line], work, own)
-        same((found[0] != 0, *found[1:]), (fails, said, ""), str(found))
-        found = ran(["sh", "-c", line], work, {**own, "GITHUB_ACTIONS": "true"})
-        same((found[0] != 0, *found[1:]), (fails, functools.reduce(lambda text, pair: text.replace(*pair), zip(LISTED, MARKED), said), ""), "in GitHub")
-
-    loose = "%s isn't formatted: ob0-format -- %s\n"
-    rows: list[tuple[dict[str, str], bool, str]] = [
-        (MODULES, True, loose % (("loose.ob0",) * 2) + "\n".join([*LISTED, ""])),
-        ({"-ugly.mod": LAID_OUT}, False, ""),
-        ({"-ugly.mod": LOOSE}, True, loose % (("-ugly.mod",) * 2)),
-        ({"good.mod": LAID_OUT}, False, ""),
-        ({}, False, ""),
-    ]
-    for files, fails, said in rows:
-        in_folder({**files, "ci/pre-commit": HOOK}, functools.partial(trial, fails, said))
+    blocks = [re.findall(r"^ +- (?:run: )?(ob0-\w+ .*)$", text, re.M) for name, text in fenced("docs/CI.md") if name == "yaml"]
+    jobs = ["\n".join(it) for it in blocks if it]
+    same(len(jobs), 3, "the jobs of GitHub, Forgejo and GitLab")
+    rows: list[tuple[dict[str, str], int, list[str]]] = [(MODULES, 1, LISTED), ({"loose.ob0": LOOSE}, 1, ["loose.ob0"]), ({}, 0, [])]
+    rows.append(({"-ugly.mod": LAID_OUT, "go.mod": "module example.com/x\n"}, 0, []))
+    for line in jobs:
+        for files, wanted, said in rows:
+            status, out, err = in_folder({"other.txt": "", **files}, functools.partial(ran, ["sh", "-e", "-c", line]))
+            marked = MARKED if "--github" in line and said == LISTED else said
+            same((status, all(it in out for it in marked), err), (wanted, True, ""), f"{line}: {out}")
+    hooks = text_of(".pre-commit-hooks.yaml")
+    entries = re.findall(r"^  entry: (.*)$", hooks, re.M)
+    same(entries, ["ob0-check --", "ob0-format --"], "the hooks for pre-commit")
+    pattern, excluded = match_of(r"^  files: (.*)$", hooks, re.M)[1], match_of(r"^  exclude: (.*)$", hooks, re.M)[1]
+    names = ["a.ob0", "lib/b.mod", "c.Mod", "go.mod", "x/go.mod", "cargo.mod", "d.txt"]
+    same([it for it in names if re.search(pattern, it) and not re.search(excluded, it)], ["a.ob0", "lib/b.mod", "c.Mod", "cargo.mod"], "their files")
+    for entry in entries:
+        holds(in_folder(MODULES, functools.partial(ran, [*entry.split(), *MODULES]))[0] == 1, entry)
 
 
 @test("scripts: the lines of the manual page list faults as compilers do, and keep the status")
@@ -516,4 +779,4 @@ def manual_lines() -> None:
             wanted = (status, said.replace("two words.Mod", "Sort.mod"), "")
             same(in_folder({"Sort.mod": text}, functools.partial(ran, [*shell, lines])), wanted, " ".join(shell))
     missing = in_folder({"other.mod": LAID_OUT}, functools.partial(ran, ["sh", "-c", lines]))
-    same(missing, (4, "", "fault: File\n"), "a file that isn't there")
+    same(missing, (4, "", "fault: File\n"), "a missing file")

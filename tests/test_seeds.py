@@ -17,7 +17,7 @@ TEXT = "MODULE M; (* a comment *)\nVAR x: INTEGER;\nBEGIN\n  x := 0;\n  WHILE x 
 
 
 def begun(count: int, given: Optional[str]) -> Tuple[List[int], str]:
-    """So many numbers, and what is printed about them, where the commit's is 5000."""
+    """Returns so many numbers, and the text printed about them, if the commit's is 5000."""
     with mock.patch.dict(os.environ), mock.patch.object(seeds, "of_commit", lambda: 5000), contextlib.redirect_stdout(io.StringIO()) as said:
         os.environ.pop("OB0_SEED", None)
         if given:
@@ -25,11 +25,11 @@ def begun(count: int, given: Optional[str]) -> Tuple[List[int], str]:
         return seeds.seeds(count), said.getvalue()
 
 
-@test("seeds: half of them are the commit's, and all follow the one that is given; where they begin is printed")
+@test("seeds: half of them are the commit's, and all follow a given one; the first ones are printed")
 def half_of_them() -> None:
-    same(begun(6, None), ([0, 1, 2, 5000, 5001, 5002], "    seeds from 0 and 5000 on\n"))
+    same(begun(6, None), ([0, 1, 2, 5000, 5001, 5002], "    seeds begin at 0 and 5000\n"))
     same(begun(1, None)[0], [0, 5000], "for one of each")
-    same(begun(3, "77"), ([77, 78, 79], "    seeds from 77 on\n"), "with OB0_SEED=77")
+    same(begun(3, "77"), ([77, 78, 79], "    seeds begin at 77\n"), "with OB0_SEED=77")
 
 
 @test("seeds: a text is made shorter as long as it fails, by whole lexemes")

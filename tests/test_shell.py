@@ -8,6 +8,7 @@ import shlex
 from collections.abc import Callable
 from typing import TypeVar
 
+import package
 from common import match_of
 from harness import TOP, holds, need_program, run, same, test, text_of, want, want_proved
 from homes import at_home, run_plainly, temporary, write
@@ -32,11 +33,17 @@ OFFERED = [
     ("ob0 serve --", ["--clientProcessId", "--help", "--stdio"]),
     ("ob0 rename ", MODULES),
     ("ob0 rename a", ["a.ob0"]),
+    ("ob0-check ", MODULES),
+    ("ob0-check --", ["--github", "--help", "--hints", "--json", "--version"]),
     ("ob0-format ", MODULES),
     ("ob0-format --check a.ob0 ", MODULES),
-    ("ob0-format --", ["--check", "--help", "--version"]),
+    ("ob0-format --", ["--check", "--diff", "--help", "--version"]),
+    ("ob0-rename --", ["--help", "--in-place", "--version"]),
+    ("ob0-rename ", MODULES),
+    ("ob0-trace ", MODULES),
+    ("ob0-trace --", ["--calls", "--help", "--program", "--turns", "--version"]),
     ("ob0-watch ", [*COMMANDS, "help"]),
-    ("ob0-watch --", ["--", "--help", "--report"]),
+    ("ob0-watch --", ["--", "--help", "--report", "--version"]),
     ("ob0-watch --report ", FILES),
     ("ob0-watch --report d.txt r", ["rename", "run"]),
     ("ob0-watch --report d.txt run ", MODULES),
@@ -100,11 +107,11 @@ def in_fish() -> None:
 
     for typed, wanted in OFFERED:
         found = in_folder(functools.partial(offered, typed=typed))
-        # (it offers `--` among the commands too)
+        # (it also offers `--` among the commands)
         same([it for it in found if it != "--" or it in wanted], sorted(wanted), f"after `{typed}`")
-    # (words that fish expands, and what comes after the file)
+    # (words that fish expands, and words after the file)
     for given, wanted in {"~/a": ["~/a.ob0"], "$HOME/a": ["$HOME/a.ob0"], "'b": ["b.mod"]}.items():
-        for command in ("ob0 check", "ob0-format", "ob0-watch run"):
+        for command in ("ob0 check", "ob0-check", "ob0-format", "ob0-watch run"):
             same(in_folder(functools.partial(offered, typed=f"{command} {given}")), wanted, f"after `{command} {given}`")
     same(in_folder(functools.partial(offered, typed="ob0 rename a.ob0 ")), [], "after a file")
 
@@ -142,9 +149,12 @@ def in_zsh() -> None:
 @test("shell: the manual pages are well formed")
 def manual() -> None:
     want("mandoc")
-    for it in ("ob0.1", "ob0-format.1", "ob0-watch.1"):
+    for it in ("ob0.1", *(f"{it}.1" for it in package.SCRIPTS)):
         status, said = run_plainly(["mandoc", "-Tlint", "-W", "warning", os.path.join(SHARE, it)], dict(os.environ), TOP)
         same((status, said), (0, ""), f"mandoc -Tlint {it}")
+    with temporary() as room:
+        write(os.path.join(room, "ob0-messages.7"), package.messages_page().decode())
+        same(run_plainly(["mandoc", "-Tlint", "-W", "warning", "ob0-messages.7"], dict(os.environ), room), (0, ""), "mandoc -Tlint ob0-messages.7")
 
 
 PAGES = ["README.md", "examples/README.md"]
@@ -177,17 +187,7 @@ def first_module() -> None:
         same(run_plainly(["sh", "-e", "-c", "\n".join(lines)], own, work), (0, printed + "\n"), "what they print")
 
 
-@test("shell: the links between pages lead somewhere")
-def links() -> None:
-    pages = [it for at, _, files in os.walk(TOP) for it in (os.path.relpath(os.path.join(at, name), TOP) for name in files)]
-    pages = [it for it in pages if it.endswith(".md") and not it.startswith(("bin", ".git"))]
-    for page in pages:
-        for target in re.findall(r"\]\(([^)#:]+)(?:#[^)]*)?\)", text_of(page)):
-            path = os.path.join(TOP, os.path.dirname(page), target)
-            holds(os.path.exists(path), f"{page} has a link to {target}")
-
-
-@test("shell: `make` alone says what there is to make")
+@test("shell: `make` without a goal prints the goals")
 def alone() -> None:
     lines = [re.sub("^# ?", "", it) for it in text_of("Makefile").partition("\nPREFIX")[0].splitlines()]
     same(run_plainly(["make", "--silent"], dict(os.environ), TOP), (0, "\n".join(lines) + "\n"))

@@ -6,7 +6,7 @@ import os
 import re
 from typing import Tuple
 
-from harness import TOP, Server, did_open, holds, same, test, text_of, want
+from harness import TOP, Server, did_open, holds, names_in, same, test, text_of, want
 from homes import at_home, run_plainly, temporary
 
 Snippet = Tuple[str, str, str]  # a key, a description and a body
@@ -33,7 +33,7 @@ def of_vim() -> list[Snippet]:
 
 def of_emacs() -> list[Snippet]:
     folder = os.path.join("editors", "emacs", "snippets", "ob0-mode")
-    same(sorted(os.listdir(os.path.join(TOP, folder))), sorted(NAMES), "the files")
+    same(names_in(folder), sorted(NAMES), "the files")
     found = []
     for name in NAMES:
         head, body = text_of(folder, name).split("# --\n")
@@ -43,7 +43,7 @@ def of_emacs() -> list[Snippet]:
 
 
 def filled(body: str) -> str:
-    """A snippet with the values that it proposes, and a statement where the cursor ends."""
+    """Returns a snippet with the values that it proposes, and a statement at the cursor's last place."""
     values: dict[str, str] = dict(re.findall(r"\$\{(\d):([^}]*)\}", body))
 
     def proposed(place: re.Match[str]) -> str:
@@ -63,7 +63,7 @@ def module_of(key: str, text: str) -> str:
     return f"MODULE M;\n{inner}END M.\n" if key == "procedure" else f"MODULE M;\nVAR\n  i: INTEGER;\nBEGIN\n{inner}END M.\n"
 
 
-@test("snippets: those of Vim, Neovim and Emacs are VS Code's")
+@test("snippets: Vim, Neovim and Emacs have VS Code's")
 def alike() -> None:
     same([it[0] for it in of_vscode()], NAMES, "the keys")
     same(of_vim(), of_vscode(), "Vim's and Neovim's")

@@ -8,13 +8,14 @@ import os
 import re
 import shlex
 import sys
+from typing import List, Set
 
 import common
 import edits
+import package
 import public_functions
 import reading
 import rooms
-import verdicts
 from common import match_of
 from harness import TOP, holds, same, test, text_of, want
 from homes import run_plainly
@@ -32,8 +33,7 @@ def mutants_explained() -> None:
     found = [it for crate in common.listed() for it in edits.edits_of(crate)]
     same([it.path for it in found if not it.claim], [], "mutants without such a line")
     page = text_of("README.md")
-    left = " ".join(verdicts.Mutants().stale)
-    same(page, public_functions.with_counts(page), f"README's counts of mutants (make surface writes them); not tried since: {left}")
+    same(page, public_functions.with_counts(page), "README's counts of mutants (make surface writes them)")
 
 
 def has_clauses(claim: edits.Claim, function: reading.Function) -> bool:
@@ -55,16 +55,11 @@ def mutants_name_clauses() -> None:
     same(wrong, [], "those that name another")
 
 
-@test("sources: the picture of the rooms, and what each crate rests on, are as crates.txt has them")
+@test("sources: the picture of the rooms is as crates.txt has them, and no arrow goes up")
 def rooms_drawn() -> None:
     page = text_of(os.path.relpath(rooms.PAGE, TOP))
     found = match_of(rooms.PICTURE.pattern, page, rooms.PICTURE.flags)
     same(found[0], found[1] + rooms.draw() + found[2], "the picture (tools/rooms.py draws it)")
-    nearest = rooms.nearest(common.libraries())
-    rows = re.findall(r"^\| `(ob0\w*)` \| (.*?) \|", page, re.M)
-    given = {crate: {low for low in re.findall(r"`(\w+)`", lower) if low in nearest} for crate, lower in rows}
-    wanted = {crate: set(lower) for crate, lower in nearest.items() if not crate.startswith("ob0_tests")}
-    same(given, wanted, "the nearest crates that each crate rests on")
     order = [room.name for room in rooms.read_rooms()]
     upwards = [(name, low) for name, lower in rooms.rooms_below(rooms.read_rooms()).items() for low in lower if order.index(low) > order.index(name)]
     same(upwards, [], "arrows that go up")
@@ -96,8 +91,9 @@ def named_files() -> None:
 @test("sources: every function of the scripts, tests and measurements has types, and they fit (mypy --strict)")
 def types_fit() -> None:
     want("mypy")
-    # (two scripts are named run.py, and two have no ending: so they are checked apart)
-    for patterns in (["tools/*.py", "tests/**/*.py", "examples/exercises/*.py", "share/ob0-format"], ["share/ob0-watch"], ["bench/*.py"]):
+    # (two scripts are named run.py, and those of share/ have no ending: so they are checked apart)
+    scripts = [[f"share/{it}"] for it in package.SCRIPTS]
+    for patterns in (["tools/*.py", "tests/**/*.py", "examples/exercises/*.py", "share/ob0/**/*.py"], *scripts, ["bench/*.py"]):
         files = [it for pattern in patterns for it in glob.glob(os.path.join(TOP, pattern), recursive=True)]
         words = ["mypy", "--config-file", os.path.join(TOP, "tools", "mypy.ini"), *files]
         status, said = run_plainly(words, dict(os.environ), TOP)
@@ -113,27 +109,60 @@ def sizes_counted() -> None:
         holds(word in said, f"{word}: {said}")
 
 
-# pages whose names in backticks are those of functions, definitions, types and files
-CITING = ["docs/PROMISES.md", "docs/ARCHITECTURE.md", "docs/GLOSSARY.md", "docs/PROVING.md", "CONTRIBUTING.md", "docs/notes/*.md"]
-# words in backticks that name no part of the sources: of the kit, of the system, of commands, or examples
+# pages with names in backticks that aren't of the sources: words that users type, and what isn't Oberon-0
+OF_USERS = ("docs/MESSAGES.md", "editors/", "examples/")
+# words in backticks that name no part of the sources: of the kit, of the system, of editors, of commands, or examples
 OTHERS = {"FILE", "NAME", "WORDS", "XWriteJson", "X_made", "Lts", "Proof", "tidy", "Serialize", "getrusage", "nm"}
+OTHERS |= {"Interrupted", "Rc", "changedtick", "codeDescription", "keystroke", "text_of_value"}
+# what the kit's names in pairs belong to
+OF_KIT = {"Box", "Read", "Vec", "Write"}
 
 
-@test("sources: the names that the pages on promises, architecture, words and proofs, and the notes cite are in the sources")
-def cited_names() -> None:
-    files = [it for part in ("src", "specs", "proofs") for it in glob.glob(os.path.join(TOP, "crates", "*", part, "**", "*"), recursive=True)]
+def known_words() -> Set[str]:
+    """The words of the sources, and the names of files, crates and mutants."""
+    parts = [os.path.join(TOP, "crates", "*", part, "**", "*") for part in ("src", "specs", "proofs")]
+    files = [it for part in parts for it in glob.glob(part, recursive=True)]
     files += glob.glob(os.path.join(TOP, "t*", "**", "*.py"), recursive=True)
     words = {word for it in files if os.path.isfile(it) for word in re.findall(r"\w+", text_of(it))}
     words |= {word for it in files for word in re.findall(r"\w+", os.path.relpath(it, TOP))} | {*common.listed()} | OTHERS
     words |= {word for names in common.listed().values() for word in names}
     # (of mutants the names count, and not what is in them)
-    words |= {os.path.splitext(os.path.basename(it.file))[0] for crate in common.listed() for it in edits.edits_of(crate)}
-    pages = [os.path.relpath(it, TOP) for page in CITING for it in sorted(glob.glob(os.path.join(TOP, page)))]
-    holds(len(pages) > len(CITING), "no notes were found")
+    mutants = [it for crate in common.listed() for it in edits.edits_of(crate)]
+    return words | {os.path.splitext(os.path.basename(it.file))[0] for it in mutants}
+
+
+def known_pairs() -> Set[str]:
+    """`A::b` for each function, variant and public field `b` of a type, trait, module or crate `A`."""
+    found = set()
+    for crate in common.listed():
+        source = reading.Source(crate)
+        for it in source.functions:
+            found |= {f"{owner}::{it.name}" for owner in (crate, *it.module[-1:], it.owner) if owner}
+        for item in source.type_items:
+            found.add(f"{crate}::{item.name}")
+            found |= {f"{item.name}::{word}" for part in item.parts for word in re.findall(r"^\w+", part)}
+        found |= {f"{crate}::{word}" for _, words in source.brought_out for word in words}
+    return found
+
+
+def all_pages() -> List[str]:
+    """Each page of the repository, by its path."""
+    patterns = ("*.md", "docs/*.md", "docs/notes/*.md", "editors/**/*.md", "examples/**/*.md")
+    found = [it for pattern in patterns for it in sorted(glob.glob(os.path.join(TOP, pattern), recursive=True))]
+    return [os.path.relpath(it, TOP) for it in found]
+
+
+@test("sources: the names that the pages cite are in the sources, and `A::b` is a name of `A`")
+def cited_names() -> None:
+    words, pairs, pages = known_words(), known_pairs(), all_pages()
+    holds(len(pages) > 40 and len(pairs) > 2000, "few pages or names were found")
     for page in pages:
         text = re.sub(r"^```.*?^```$", "", text_of(page), flags=re.M | re.S)
-        cited = {it for it in re.findall(r"`([A-Za-z]\w*(?:::\w+)?)`", text)}
-        same(sorted(it for it in cited if not all(word in words for word in it.split("::"))), [], f"what {page} cites and isn't there")
+        cited = {tuple(it.split("::")) for it in re.findall(r"`([A-Za-z]\w*(?:::\w+)*)`", text)}
+        single = [] if page.startswith(OF_USERS) else sorted("::".join(it) for it in cited if not words.issuperset(it))
+        same(single, [], f"what {page} cites and isn't there")
+        paired = ("::".join(it[-2:]) for it in cited if len(it) > 1 and it[-2] not in OF_KIT)
+        same(sorted({*paired} - pairs), [], f"what {page} cites, of which the second is no name of the first")
 
 
 @test("sources: each search that a recipe begins with finds something beside the recipe")

@@ -14,7 +14,7 @@ from typing import Any, Tuple
 from common import match_of
 from harness import TOP, Failed, holds, same, test, text_of
 
-PAGE, TEMPLATE = os.path.join("docs", "STATEMENT.md"), os.path.join("docs", "STATEMENT.in.md")
+PAGE, TEMPLATE = os.path.join("docs", "STATEMENT.md"), os.path.join("tools", "statement.in")
 SCRIPT = os.path.join(TOP, "tools", "statement.py")
 Place = Tuple[str, str, str]  # a crate, a file and a name
 WORDS_BEFORE = r"(?:(?:abbrev|unfoldable|pub) +)*(?:record +|data +)?"

@@ -16,7 +16,7 @@ from seeds import COUNT, named, seeds
 
 
 def ended(found: Ended, out: bytes, status: int, err: bytes = b"") -> None:
-    same(found.out, out, "what was written")
+    same(found.out, out, "the output")
     same(found.err, err, "standard error")
     same(found.status, status, "the status")
 
@@ -85,7 +85,7 @@ REFUSED = {
     "two lengths": b"Content-Length: 2\r\nContent-Length: 2\r\n\r\n[]",
     "no length": b"Content-Type: x\r\n\r\n[]",
     "no field": b"\r\n[]",
-    "a length past the limit": b"Content-Length: 16777217\r\n\r\n",
+    "a length over the limit": b"Content-Length: 16777217\r\n\r\n",
     "a length of 23 digits": b"Content-Length: 99999999999999999999999\r\n\r\n",
     "a length with a plus": b"Content-Length: +5\r\n\r\n[]   ",
     "a length below 0": b"Content-Length: -1\r\n\r\n",
@@ -114,13 +114,13 @@ TAKEN = {
     "other fields": b"X-a: b\r\nContent-Type: application/vscode-jsonrpc; charset=utf-8\r\nCONTENT-LENGTH: 2\r\n\r\n[]",
     "leading zeros": b"Content-Length: 0002\r\n\r\n[]",
     "tabs round the length": b"Content-Length: \t2\t \r\n\r\n[]",
-    "lines that end with LF alone": b"Content-Length: 2\n\n[]",
+    "lines that end with only LF": b"Content-Length: 2\n\n[]",
     "16 fields": b"Content-Length: 2\r\n" + b"X: y\r\n" * 15 + b"\r\n[]",
     "a head of 4,096 bytes": b"Content-Length: 2\r\nX: " + b"y" * (4096 - 26) + b"\r\n\r\n[]",
 }
 
 
-@test("stream: heads that are taken")
+@test("stream: heads that are accepted")
 def taken_heads() -> None:
     same(TAKEN["a head of 4,096 bytes"].index(b"[]"), 4096, "the length of that head")
     for name, given in TAKEN.items():
@@ -132,7 +132,7 @@ def taken_heads() -> None:
 LAST_HEADS = {
     "small letters and a further field": b"content-length:33 \r\nX-a: b\r\n\r\n",
     "leading zeros": b"Content-Length: 0033\r\n\r\n",
-    "lines that end with LF alone": b"Content-Length: 33\n\n",
+    "lines that end with only LF": b"Content-Length: 33\n\n",
     "16 fields": b"X: y\r\n" * 15 + b"Content-Length: 33\r\n\r\n",
     "4,096 bytes": b"X: " + b"y" * (4096 - 3 - 2 - len(b"Content-Length: 33\r\n\r\n")) + b"\r\nContent-Length: 33\r\n\r\n",
 }
@@ -205,7 +205,7 @@ def mutated(seed: int) -> bytes:
     return bytes(given)
 
 
-@test("stream: bytes that are changed at random end a conversation with one of its statuses, and all that is sent is whole")
+@test("stream: bytes that are changed at random end a conversation with one of its statuses, and each sent message is whole")
 def garbage() -> None:
     for seed in seeds(COUNT):
         found = serve(mutated(seed))

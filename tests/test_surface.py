@@ -1,4 +1,4 @@
-"""docs/SURFACE.md is of the present sources, and each public function has a mutant, or a reason why not."""
+"""Each public function has a comment, and a mutant or a reason why not; bin/SURFACE.md lists them by crate."""
 from __future__ import annotations
 
 import contextlib
@@ -17,15 +17,33 @@ import reading
 from harness import TOP, Failed, holds, leave_out, same, test
 
 
-@test("surface: each public function has a mutant, or a reason why not")
+@test("surface: each public function has a comment, and a mutant, or a reason why not")
 def surface() -> None:
     if not shutil.which("rt"):
         leave_out("rt, which reads the sources, is missing")
     script = os.path.join(TOP, "tools", "public_functions.py")
     how: dict[str, Any] = {"stdin": subprocess.DEVNULL, "stdout": subprocess.PIPE, "stderr": subprocess.STDOUT, "text": True}
     ran = subprocess.run([sys.executable, script, "--check"], **how)
-    if ran.returncode or "isn't of these sources" in ran.stdout:
+    if ran.returncode:
         raise Failed(ran.stdout[-3000:])
+
+
+@test("surface: the page has each crate with what it is for, and with the promises and definitions of its functions")
+def made_page() -> None:
+    if not shutil.which("rt"):
+        leave_out("rt, which reads the sources, is missing")
+    page, rows = public_functions.page_and_rows(public_functions.reasons())
+    parts = {part.partition("\n")[0]: part for part in page.split("\n## ")[1:]}
+    same({*parts}, {it for top in common.libraries() for it in common.below(top)}, "the crates of the page")
+    same([crate for crate, part in parts.items() if not part.split("\n")[2:3] or len(part.split("\n")[2]) < 30], [], "crates without a head")
+    for crate, name, words in (
+        ("ob0_inline", "inline_here", "Returns the edit"),
+        ("ob0_session", "serve", "`Serves`"),
+        ("ob0_world", "play", "`IsResultOfPlaying`"),
+    ):
+        row = next((it for it in parts[crate].split("\n") if it.startswith("| `") and f"{name}` |" in it), "none")
+        holds(words in row, f"{name} of {crate}, without {words}: {row}")
+    holds(len(rows) > 400, f"{len(rows)} public functions")
 
 
 # Two crates: a trait of the lower one has methods on types of both.
@@ -40,6 +58,7 @@ pub use inside::Count;
 
 /// What has a size.
 pub trait Sized {
+    /// Returns the size.
     fn size(&self) -> u64;
 }
 
@@ -81,6 +100,7 @@ pub struct Hidden {
 }
 
 impl Count {
+    /// Counts.
     pub fn of(n: u64) -> Count {
         Count::Of(n, None)
     }
@@ -162,22 +182,24 @@ def lacking() -> None:
         same(said_of(top), (0, []), "after the others have a reason")
         with open(public_functions.REASONS, "a", encoding="utf-8") as file:
             file.write("low::gone: a reason\n")
-        same(said_of(top), (1, ["low::gone"]), "a reason of a function that isn't there")
+        same(said_of(top), (1, ["low::gone"]), "a reason for a function that doesn't exist")
         with open(public_functions.PAGE, encoding="utf-8") as file:
             page = file.read()
-        holds("| `inside::Count::of` | wrong-bodies/empty |" in page and "| `law` | law |" in page, page)
+        holds("| `inside::Count::of` | Counts. |  | wrong-bodies/empty |" in page and "| `law` | A law. |  | law |" in page, page)
 
 
 @test("surface: the counts of mutants are written into README's sentence, and a page without it is refused")
 def counted() -> None:
-    page = "`make test` checks every proof, 1 wrong\nversions and tries some: of 2 others\n3 were refused in their present form and 4 not tried since."
-    with mock.patch.object(public_functions, "counts", lambda: (5, 6, 7, 8)):
-        same([int(it) for it in public_functions.with_counts(page).split() if it.isdigit()], [5, 6, 7, 8], "the counts")
+    page = "`make test` checks every proof, 1 wrong\nversions, and tries 24 of 2 others,\n3 refused in their present form."
+    with mock.patch.object(public_functions, "counts", lambda: (5, 6, 7)):
+        same([int(it) for it in public_functions.with_counts(page).split() if it.isdigit()], [5, 24, 6, 7], "the counts")
+    with mock.patch.object(public_functions, "counts", lambda: (5, 6, 6)):
+        holds("24 of 6 others,\nall refused" in public_functions.with_counts(page), public_functions.with_counts(page))
         try:
             public_functions.with_counts(page.replace("others", "mutants"))
         except LookupError:
             return
-    raise Failed("a page without the sentence is taken")
+    raise Failed("a page without the sentence is accepted")
 
 
 @test("surface: a public type has its variants, or its public fields, in the order of the source")

@@ -55,7 +55,7 @@ def empty() -> None:
     same(found.contents()[1].encode(), wanted)
 
 
-@test("syntax: faults of scanning are reported alone")
+@test("syntax: if there are faults of scanning, only these are reported")
 def scanning_first() -> None:
     with Server() as server:
         same(server.notify(did_open("MODULE 12ab")), [diagnostic("NumberJoinsLetter", "letter after number", "0:7-0:11")])
@@ -70,7 +70,7 @@ DEEP = {
 }
 
 
-@test("syntax: 100 of a construct inside one another are taken, the 101st is too deep")
+@test("syntax: 100 of a construct inside one another are accepted, the 101st is too deep")
 def deep() -> None:
     with Server() as server:
         for name, (before, opened, middle, closed, after, where) in DEEP.items():
@@ -101,6 +101,6 @@ def chains() -> None:
         same([it for it in found if it["code"] in ("Syntax", "TooDeep")], [], "selectors")
 
 
-@test("syntax: `check` reports where the text ends early")
+@test("syntax: `check` reports the place at which the text ends early")
 def checked() -> None:
     ends(on_file("check", ""), "0:0: Syntax: expected MODULE\n", 1)

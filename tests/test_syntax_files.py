@@ -16,7 +16,7 @@ import package
 import snippets
 from common import match_of
 from harness import TOP, examples, holds, need_program, same, test, text_of, want
-from homes import at_home, run_in_terminal, run_plainly, temporary, write
+from homes import at_home, copy, run_in_terminal, run_plainly, temporary, write
 from screen import Screen
 
 PREDECLARED = {"INTEGER", "BOOLEAN", "TRUE", "FALSE", "Read", "Write", "WriteLn"}
@@ -205,6 +205,23 @@ def nano() -> None:
             holds(not re.search(rb"m(\x1b\(B)?Begin", screen.drawn.replace(b"\x1b[39;49m", b"").replace(b"\x1b(B\x1b[m", b"")), "a plain name has a colour")
 
 
+@test("syntax files: nano's linter goes to the first error and shows its message")
+def nano_lints() -> None:
+    want("nano")
+    need_program()
+    with temporary() as room:
+        own = at_home(room, "nano")
+        write(os.path.join(room, "faulty.ob0"), "MODULE M;\nVAR x: INTEGER;\nBEGIN\n  x := 1 + y\nEND M.\n")
+        settings = os.path.join(room, "nanorc")
+        write(settings, text_of(room, ".nanorc").replace("~", room))
+        with Screen(["nano", f"--rcfile={settings}", "--constantshow", "faulty.ob0"], {**own, "LC_ALL": "C.UTF-8"}, room) as screen:
+            screen.shows(b"BEGIN", "the module in nano")
+            screen.keys(b"\x1bb")
+            screen.shows(b"not declared", "the message of the linter")
+            screen.keys(b"\x03")
+            screen.shows(rb"line +4/.*col +12/", "the line and the column of the error")
+
+
 @test("syntax files: TextMate's, by the regular expressions of its kind")
 def textmate() -> None:
     want("Ruby")
@@ -234,7 +251,8 @@ FILES = [
     ("a.ob0", "x", True),
     ("a.mod", "MODULE M;", True),
     ("a.Mod", "(* two\n (* lines *) *)\n\n  MODULE M;", True),
-    ("go.mod", "module example.com/x", False),
+    ("go.mod", "module x", False),
+    ("tools.mod", "module example.com/x", False),
     ("b.mod", "IMPLEMENTATION MODULE M;", False),
     ("c.mod", "DEFINITION MODULE M;", False),
     ("d.mod", "(* MODULE M; *) x", False),
@@ -248,7 +266,10 @@ FILES = [
     ("k.mod", "MODULE 1st;\nEND 1st.", True),
     ("l.Mod", "MODULE", True),
     ("m.mod", "MODULES M;", False),
-    ("n.mod", "Module M;", False),
+    ("n.mod", "Module M;", True),
+    ("q.mod", "module m;\nbegin end m.", True),
+    ("r.mod", "(* a *) mODULE", True),
+    ("s.mod", "modules m;", False),
     ("o.mod", "MODULE_M;", False),
     ("p.mod", "(* MODULE M;", False),
 ]
@@ -332,11 +353,11 @@ def by_vim(editor: str, words: list[str], name: str) -> None:
     same(found["refused"], "line 2, column 7: Undeclared: not declared", "what :Ob0Run says of a module with an error")
     same(found["faults"], [[2, 8, "Undeclared: not declared"]], "what :make finds in a text that isn't saved yet")
     same(found["broken"], [], "lines that are indented by more than the heading above")
-    same(found["indented"], [], "examples that are indented in another way than the server lays them out")
+    same(found["indented"], [], "examples that are indented differently from the server's layout")
     same(found["commented"], "(* x := 1 *)", "a comment by 'commentstring'")
     same(found["new"], [False, True], "whether a new file is Oberon-0, before and after it is saved")
     same(found["ran"], "42", "what :Ob0Run shows of a text that isn't saved yet")
-    same(found["lacking"], "There is no program no-such-program; g:ob0_program names another", "what :Ob0Run says without it")
+    same(found["lacking"], "There is no program no-such-program: set g:ob0_program to its path", "what :Ob0Run says without it")
     same(found["terminal"], [1, 1], "whether :Ob0Run says how input ends, and runs in a terminal")
     same(found["record"], [], "a record over several lines")
     same(found["matched"], 1, "the line that % on the module's END leads to")
@@ -366,7 +387,7 @@ def helped(editor: str, words: list[str], name: str) -> None:
         write(os.path.join(room, "steps.vim"), "\n".join([*steps, f"call writefile([json_encode(r)], '{report}')", "qall!", ""]))
         status, drawn = run_in_terminal([*words, "-S", os.path.join(room, "steps.vim")], own, room)
         holds(os.path.exists(report), f"{name} said nothing, and ended with {status}: {drawn[-500:]!r}")
-        same(json.loads(text_of(report)), [["help", "ob0.txt"], *(f"*{it}*" for it in tags)], "the help page, and where each tag leads")
+        same(json.loads(text_of(report)), [["help", "ob0.txt"], *(f"*{it}*" for it in tags)], "the help page, and the target of each tag")
         found = [os.path.join(at, "tags") for at, _, files in os.walk(room) if at.endswith("/vim/doc") and "tags" in files]
         same([text_of(it) for it in found], [package.help_tags().decode()], "the tags that are packed")
         same(sorted({*re.findall(r"\|(\S+?)\|", page)} - {*tags}), [":clist"], "what the page links to, besides itself")
@@ -392,7 +413,7 @@ def managed(words: list[str], name: str, folders: list[str], lines: list[str], s
         kept = {key: value for key, value in os.environ.items() if not key.startswith("XDG_")}
         own, report = {**kept, "HOME": room, "TERM": "xterm"}, os.path.join(room, "report")
         for it in folders:
-            shutil.copytree(os.path.join(TOP, "editors", it), os.path.join(room, "ob0", "editors", it))
+            copy(os.path.join(TOP, "editors", it), os.path.join(room, "ob0", "editors", it))
         same(run_plainly(["sh", "-e", "-c", shell], own, room), (0, ""), shell)
         write(os.path.join(room, "rc.vim"), "\n".join(["set nocompatible", *lines, "filetype plugin indent on", "syntax on", ""]))
         write(os.path.join(room, "new.mod"), SAMPLE)
@@ -447,7 +468,7 @@ def managed_in_emacs() -> None:
     (file,) = re.findall(r"`M-x package-install-file RET (\S+) RET`", text_of("editors", "emacs", "README.md"))
     with temporary() as room:
         own = {**os.environ, "HOME": room, "LC_ALL": "C.UTF-8"}
-        shutil.copytree(os.path.join(TOP, "editors", "emacs"), os.path.join(room, "ob0", "editors", "emacs"))
+        copy(os.path.join(TOP, "editors", "emacs"), os.path.join(room, "ob0", "editors", "emacs"))
         write(os.path.join(room, "new.mod"), SAMPLE)
         write(os.path.join(room, "init.el"), lines)
         words = ["emacs", "--batch", "--eval", "(progn (require 'package) (package-initialize))"]
@@ -459,7 +480,7 @@ def managed_in_emacs() -> None:
         same(run_plainly([*words, "-l", "init.el", *modes], own, room)[1].splitlines()[-1], "ob0-mode (eglot-ensure)", "by use-package")
 
 
-@test("syntax files: the lines that Vim's help page has for settings are those of the editors' pages")
+@test("syntax files: the lines for settings on Vim's help page are the same as on the editors' pages")
 def help_blocks() -> None:
     text = text_of("editors", "vim", "doc", "ob0.txt")
     blocks = ["".join(f"{it[1:]}\n" for it in found.splitlines()) for found in re.findall(r" >\n\n((?:\t.*\n)+)<", text)]
@@ -508,6 +529,9 @@ def in_kakoune() -> None:
         holds("Undeclared" not in text_of(report, "mended"), "lint: " + text_of(report, "mended"))
         same(text_of(report, "unsaved"), "", "the type of a new file")
         same(text_of(report, "saved"), "ob0", "the type of a new file once it is saved")
+        same(text_of(report, "formatted"), "MODULE N;\nBEGIN\n  WriteLn\nEND N.\n", "the text after :format")
+        faulty = "MODULE N;BEGIN x END N.\n formatter returned an error (exit code 1)"
+        same(text_of(report, "faulty_formatted"), faulty, "a module with an error after :format, and what is said")
         same(text_of(report, "commented"), "MODULE N; END N.\n", "the text after :comment-line")
 
 
@@ -524,7 +548,7 @@ def kakoune_indents() -> None:
             script = f"edit '{file}'; execute-keys -with-hooks 'i{'<ret>'.join(lines)}<esc>'; write; kill!"
             status, said = run_plainly(["timeout", "-k", "10", "300", "kak", "-ui", "dummy", "-e", script], own, room)
             holds(os.path.exists(file), f"{name}: Kakoune ended with {status}: {said[-500:]}")
-            same(text_of(file), text, f"{name} as it was typed")
+            same(text_of(file), text, f"{name}, unchanged")
 
 
 @test("syntax files: settings of Kate and VS Code name the server and files that exist")
@@ -533,11 +557,11 @@ def settings() -> None:
     same(server["command"], ["ob0", "serve"], "Kate's command")
     holds(re.search(server["highlightingModeRegex"], "Oberon-0"), "Kate's mode")
     package = json.loads(text_of("editors", "vscode", "package.json"))
-    # (VS Code looks at the first line alone, in files that nothing else takes)
+    # (VS Code reads only the first line, in files that no other rule claims)
     first = re.compile(package["contributes"]["languages"][0]["firstLine"])
     for file, text, taken in FILES:
         line = text.split("\n")[0]
-        if "MODULE" in line and "(* two" not in line:
+        if "module" in line.lower() and "(* two" not in line and file != "go.mod":
             same(bool(first.search(line)), taken, f"whether VS Code takes {line} as Oberon-0")
     for it in package["main"], package["contributes"]["languages"][0]["configuration"], package["contributes"]["grammars"][0]["path"]:
         holds(os.path.isfile(os.path.join(TOP, "editors", "vscode", it)), f"package.json names {it}")

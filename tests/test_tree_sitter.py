@@ -5,13 +5,12 @@ import functools
 import json
 import os
 import re
-import shutil
 from typing import Any
 
 import random_texts
 from common import match_of
-from harness import TOP, Server, did_open, examples, holds, need_program, same, test, text_of, want
-from homes import at_home, run_plainly, temporary, write
+from harness import TOP, Server, did_open, examples, holds, names_in, need_program, same, test, text_of, want
+from homes import at_home, copy, run_plainly, temporary, write
 from snippets import fenced
 
 FOLDER = os.path.join(TOP, "editors", "tree-sitter")
@@ -37,11 +36,11 @@ COLOURS = [
     ("~", "operator", "operator"), ("OR", "keyword.operator", "keyword.operator"), ("TRUE", "boolean", "constant.builtin.boolean"),
     ("Write", "function.builtin", "function.builtin"),
 ]  # fmt: skip
-# where the queries of Neovim and of Helix are, below the folder `queries`
+# the queries of Neovim and of Helix, below the folder `queries`
 QUERIES = ["highlights", "folds", "helix/highlights", "helix/indents"]
 # the lines (counted from 0) of what can be folded over several
 FOLDS = [(4, 5), (6, 10), (7, 10)]
-# of these faults the grammar knows nothing, or what follows them isn't reported
+# faults that the grammar doesn't know, or after which nothing is reported
 OTHER_FAULTS = {"NumberTooLarge", "TooDeep", "TooLong"}
 LEXICAL = {"BadChar", "NumberJoinsLetter"}
 
@@ -75,7 +74,7 @@ def read_by_neovim(texts: tuple[str, ...]) -> Any:
 def correct_texts() -> list[str]:
     """The modules of the examples, of the answers to the exercises, and of the tutorial, but for the one without a tree."""
     answers = os.path.join("tests", "answers")
-    found = [text_of(it) for it in [*examples(), *(os.path.join(answers, it) for it in sorted(os.listdir(os.path.join(TOP, answers))))]]
+    found = [text_of(it) for it in [*examples(), *(os.path.join(answers, it) for it in names_in(answers))]]
     return found + [text for language, text in fenced("docs/TUTORIAL.md") if language == "oberon" and "MODULE Broken" not in text]
 
 
@@ -102,7 +101,7 @@ def agrees() -> None:
             wanted.append(None if unclear else bool(found & {"Syntax", "OpenComment", *LEXICAL}))
     holds(wanted.count(True) > 50 and wanted.count(False) > 50, f"{wanted.count(True)} with and {wanted.count(False)} without a fault")
     got = read_by_neovim(tuple(texts))["faulty"]
-    same([text for text, due, came in zip(texts, wanted, got) if due is not None and due != came], [], "the texts that are taken in another way")
+    same([text for text, due, came in zip(texts, wanted, got) if due is not None and due != came], [], "the texts that are read differently")
 
 
 @test("tree-sitter: colours of a sample by the queries of Neovim and of Helix, folds in Neovim, and Helix's indents are read")
@@ -144,7 +143,7 @@ def trees_of_corpus() -> None:
     holds(len(cases) > 8, f"{len(cases)} cases")
 
 
-@test("tree-sitter: its files are those of its conventions, of the grammar's name")
+@test("tree-sitter: its files follow its conventions, and have the grammar's name")
 def conventions() -> None:
     about = json.loads(text_of(FOLDER, "tree-sitter.json"))
     (grammar,) = about["grammars"]
@@ -189,7 +188,7 @@ def installed() -> None:
 def generated() -> None:
     want("tree-sitter 0.22")  # (tree-sitter-cli of Debian 13)
     with temporary() as room:
-        shutil.copy(os.path.join(FOLDER, "grammar.js"), room)
+        copy(os.path.join(FOLDER, "grammar.js"), room)
         status, said = run_plainly(["tree-sitter", "generate", "--no-bindings"], {**os.environ, "HOME": room}, room)
         same(status, 0, said)
         for it in ("parser.c", "grammar.json", "node-types.json"):

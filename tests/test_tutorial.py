@@ -14,7 +14,7 @@ from homes import write
 from snippets import fenced
 
 PAGE = os.path.join("docs", "TUTORIAL.md")
-# modules that are there to show what is reported of them
+# modules that show an error
 FAULTY = ["Broken", "Mended", "Types"]
 VALUES = {"TRUE": "1", "FALSE": "0"}
 
@@ -49,16 +49,16 @@ def commands() -> None:
         os.symlink(os.path.abspath(harness.BINARY), os.path.join(room, "bin", "ob0"))
         own = {**os.environ, "PATH": os.path.join(room, "bin") + os.pathsep + os.environ["PATH"]}
         for name, text in modules().items():
-            write(os.path.join(room, f"{name}.mod"), text)
+            write(os.path.join(room, f"{name}.ob0"), text)
         how: dict[str, Any] = {"cwd": room, "env": own, "stdin": subprocess.DEVNULL, "stdout": subprocess.PIPE, "stderr": subprocess.STDOUT}
         for words, wanted in (it for block in blocks for it in typed(block)):
             ran = subprocess.run(["sh", "-c", words], timeout=harness.SECONDS, check=False, **how)
             same(ran.stdout.decode(), wanted, f"what `{words}` prints")
-    used = {name for block in blocks for words, _ in typed(block) for name in re.findall(r"(\w+)\.mod", words)}
+    used = {name for block in blocks for words, _ in typed(block) for name in re.findall(r"(\w+)\.ob0", words)}
     same(sorted(used), sorted(modules()), "the modules that a command on the page names")
 
 
-@test("tutorial: its modules have no fault and are formatted as the server does it, but for those that show a fault")
+@test("tutorial: its modules are valid and formatted as by the server, except those that show an error")
 def laid_out() -> None:
     with Server() as server:
         for name, text in modules().items():
@@ -104,13 +104,3 @@ def translated() -> None:
     head = f"MODULE M; VAR {'; '.join(variables)}; PROCEDURE {largest}; END Max; PROCEDURE {go}; END Go; BEGIN "
     for (statement,) in found:
         ends(on_file("check", f"{head}{statement} END M."), "", 0)
-
-
-@test("tutorial: README and the page of examples lead to it")
-def led_to() -> None:
-    holds("(docs/TUTORIAL.md)" in text_of("README.md"), "README has no link to it")
-    holds("Install it first: [README](../README.md#how-to-get-it)" in text_of(PAGE), "it doesn't say how to get the program")
-    holds("\n## How to get it\n" in text_of("README.md"), "README doesn't say how to get the program")
-    holds("(../docs/TUTORIAL.md)" in text_of("examples", "README.md"), "examples/README.md has no link to it")
-    for target in re.findall(r"\]\(([^)#:]+)(?:#[^)]*)?\)", text_of(PAGE)):
-        holds(os.path.exists(os.path.join(TOP, "docs", target)), f"it has a link to {target}")

@@ -36,7 +36,7 @@ def indentation() -> None:
     holds(count > 400, f"{count} lines")
 
 
-@test("VS Code: the manifest names files that are there, commands that are registered, and what may run in a folder that isn't trusted")
+@test("VS Code: the manifest lists files that exist, registered commands, and what may run in a folder that isn't trusted")
 def conventions() -> None:
     about = json.loads(text_of(FOLDER, "package.json"))
     contributed, program = about["contributes"], text_of(FOLDER, about["main"])
@@ -105,7 +105,7 @@ def packed() -> None:
         holds(b"](../" not in held["extension/README.md"], "a link out of the extension")
         listed = xml.etree.ElementTree.fromstring(held["extension.vsixmanifest"])
         paths = [it.get("Path") for it in listed.iter() if it.tag.endswith("}Asset")]
-        same([it for it in paths if it not in names], [], "files that the list names and that aren't there")
+        same([it for it in paths if it not in names], [], "files of the list that don't exist")
         holds(len(paths) == 5 and f'Version="{package.version()}"' in held["extension.vsixmanifest"].decode(), str(paths))
         endings = {it.get("Extension") for it in xml.etree.ElementTree.fromstring(held["[Content_Types].xml"])}
         same({os.path.splitext(it)[1] for it in names if it != "[Content_Types].xml"} - endings, set(), "endings without a kind")
@@ -127,4 +127,4 @@ def not_packed() -> None:
                 if os.path.exists(low):
                     os.unlink(low)
         with mock.patch.object(vsix, "modules", lambda: None):
-            same(package.extension(), {}, "what is made without the client")
+            same(package.extension(), {}, "the files that are made without the client")

@@ -4,10 +4,12 @@ from __future__ import annotations
 
 import os
 import random
+import re
 import shutil
 import signal
 import subprocess
 import sys
+import time
 from collections.abc import Iterable
 from typing import Any, Callable, Dict, List, Optional, Tuple
 
@@ -266,6 +268,7 @@ BROKEN: Dict[str, Tuple[str, Fault]] = {
     "a fraction as the id": ("readable", told('{"id":1.5,"method":"shutdown"}')),
     "a change without a version": ("readable", told(did_change([], version=None))),
     "a document without a uri": ("readable", told(notice("textDocument/didClose", {"textDocument": {}}))),
+    "a line of a head that ends with two CR": ("readable", lambda talk: talk.watcher.take("editor", b"Content-Length: 2\r\r\n\r\n{}", 0.0)),
     "a head without a length": ("readable", lambda talk: talk.watcher.take("editor", b"Content-Type: x\r\n\r\n", 0.0)),
     "a change as a request": ("readable", told({**did_change("x"), "id": 1})),
     "an id of a request for edits that waits": ("ids", lambda talk: (talk.asks(), talk.sends(request(1, "textDocument/hover")))),
@@ -275,8 +278,8 @@ BROKEN: Dict[str, Tuple[str, Fault]] = {
 }
 # and what is harmless by itself
 NOTED: Dict[str, Tuple[str, Fault]] = {
-    "a range past the end of a line": ("ranges", changed([{"range": extent("0:99-1:0"), "text": "\n"}])),
-    "a range past the end of the text": ("ranges", changed([inserted(place(99, 0), "x")])),
+    "a range after the end of a line": ("ranges", changed([{"range": extent("0:99-1:0"), "text": "\n"}])),
+    "a range after the end of the text": ("ranges", changed([inserted(place(99, 0), "x")])),
     "a range that ends before it starts": ("ranges", changed([{"range": extent("1:0-0:3"), "text": "\n"}])),
     "an inlining in a range that ends before it starts": (
         "ranges",
@@ -310,7 +313,7 @@ NOTED: Dict[str, Tuple[str, Fault]] = {
 ALLOWED: Dict[str, Fault] = {
     "versions that fall, come again, are negative and large": lambda talk: [talk.changes(TYPED, it) for it in (5, 4, 4, 0, -1, 2**63 - 1)],
     "an edit of a version that comes again": lambda talk: (talk.is_answered(replacements("tot")), talk.changes(IN_TURN, 1)),
-    "an edit in a text that is as it was, in a later version": lambda talk: (
+    "an edit in an equal text, in a later version": lambda talk: (
         talk.is_answered(replacements("tot")),
         [talk.changes(it) for it in (TYPED, [{"range": extent("0:0-0:1"), "text": ""}], IN_TURN)],
     ),
@@ -386,17 +389,35 @@ def beginnings() -> None:
         same([(it.rule, it.is_broken) for it in watcher.findings], [("start", False)] * is_noted, f"{early} before the answer")
 
 
-@test("watch: positions are counted in the unit that was agreed on, and edits with CR LF for LF are noted")
-def units_and_ends() -> None:
+@test("watch: positions are counted in the unit that was agreed on")
+def counted_units() -> None:
     talk = Talk(EMOJI, general={"positionEncodings": ["utf-16", "utf-8"]})
     talk.is_answered([replacements("7", ["2:23-2:24"])], ACTION)
     talk.changes(EMOJI.replace("(k)", "(7)"))
     same((talk.found(True), talk.watcher.watched["wrong-places"]), (set(), 1), "by bytes")
-    text = "MODULE M;\r\nVAR n: INTEGER;\r\nEND M.\r\n"
-    talk = Talk(text)
-    talk.is_answered([{"range": extent("1:3-1:4"), "text": "\n  "}, {"range": extent("1:6-1:7"), "text": "  "}], FORMAT)
-    talk.changes(text.replace("VAR ", "VAR\r\n  ").replace(": ", ":  "))
-    same((talk.found(True), talk.found(False)), (set(), {"line-ends"}), "with CR LF")
+
+
+# the line end of a text, the one that an editor writes for each LF of an edit, and whether it isn't the text's own
+LINE_ENDS = [
+    ("\n", "\n", False),
+    ("\r\n", "\n", False),
+    ("\r\n", "\r\n", False),
+    ("\r", "\r", False),
+    ("\n", "\r\n", True),
+    ("\r\n", "\r", True),
+]
+
+
+@test("watch: an edit that is made with the text's own line end for each LF is made as it should be, and another line end is noted")
+def line_ends() -> None:
+    for end, written, is_noted in LINE_ENDS:
+        text = "MODULE M;\nVAR n: INTEGER;\nEND M.\n".replace("\n", end)
+        talk = Talk(text)
+        talk.is_answered([{"range": extent("1:3-1:4"), "text": "\n  "}, {"range": extent("1:6-1:7"), "text": "  "}], FORMAT)
+        talk.changes(text.replace("VAR ", f"VAR{written}  ").replace(": ", ":  "))
+        what = f"an edit with {written!r} in a text with {end!r}"
+        same((talk.found(True), talk.found(False)), (set(), {"line-ends"} if is_noted else set()), what)
+        same([talk.watcher.watched[it] for it in ("line-ends", "half-edit")], [1, 1], f"how often {what} is counted")
 
 
 @test("watch: a file that is written has a text that was told, else a change was lost")
@@ -417,6 +438,73 @@ def files() -> None:
                 same(talk.watcher.watched["lost-change"], 1, "how many were compared")
 
 
+@test("watch: an edit of many replacements, some with line ends, is told one at a time")
+def many_line_ends() -> None:
+    for end in ("\n", "\r\n"):
+        lines = ["MODULE M;", *["VAR a:INTEGER;"] * 11, "END M."]
+        text = end.join(lines)
+        talk = Talk(text)
+        places = [f"{line}:6-{line}:6" if line % 6 else f"{line}:3-{line}:4" for line in range(1, 12)]
+        edits = [{"range": extent(it), "text": " " if it[-1] == "6" else "\n  "} for it in places]
+        talk.is_answered(edits, FORMAT)
+        for it in reversed(edits):
+            talk.changes([{**it, "text": it["text"].replace("\n", end)}])
+        same((talk.found(True), talk.found(False)), (set(), set()), f"the layout of a text with {end!r}")
+        same(talk.watcher.watched["half-edit"], 1, "how often it is counted")
+
+
+def put(path: str, text: str) -> None:
+    """Replaces a file's text at once."""
+    write(path + ".new", text)
+    os.replace(path + ".new", path)
+
+
+@test("watch: a file that is half written when it is looked at, and opened again, is no lost change")
+def half_written() -> None:
+    with temporary() as room:
+        path = os.path.join(room, "m.mod")
+        write(path, TEXT)
+        talk = Talk(uri="file://" + path, file_of=WATCH.path_of)
+        with open(path, "w", encoding="utf-8") as file:  # (it is empty now)
+            talk.sends(did_close(talk.uri))
+            file.write(RENAMED)
+        talk.sends(did_open(RENAMED, talk.uri))
+        same(talk.found(True), set(), "with a file that is written while its document is closed")
+
+
+@test("watch: the state of a file is that of its opening and of its close, even if these are judged later")
+def late_judge() -> None:
+    with temporary() as room:
+        path = os.path.join(room, "m.mod")
+        write(path, TEXT)
+        opened = frame(did_open(TEXT, "file://" + path))
+        closed = frame(did_close("file://" + path))
+        states = WATCH.States()
+        for written, passes, is_lost in (("lost", b"", True), ("later", closed, False)):
+            put(path, TEXT)
+            at_opening, at_close = states.add(opened), states.add(passes)
+            put(path, written)
+            talk = Talk("", uri="file://" + path, file_of=WATCH.path_of)
+            for content, noted in ((opened, at_opening), (passes, at_close)):
+                talk.watcher.take_states(noted)
+                talk.watcher.take("editor", content, talk.now)
+            same(talk.found(True), {"lost-change"} if is_lost else set(), f"{written!r} is written after the opening and {passes!r}")
+
+
+FORGED = "file:///zz\n12:00:00.000 BROKEN late-edit: forged\u202e\ud83d"
+
+
+@test("watch: nothing that an editor sends makes a line of the report")
+def on_its_line() -> None:
+    talk = Talk()
+    talk.sends(did_change("x", "".join(it for it in FORGED if it != "\ud83d")), notice(FORGED[:-1], 1), '"\\n12:00:00.000 BROKEN x"')
+    talk.watcher.find("readable", FORGED)
+    talk.found(True)
+    for line in talk.watcher.report():
+        holds(line.isprintable() and line.count(" BROKEN ") < 3, repr(line))
+        holds(not line.startswith("12:00:00.000"), line)
+
+
 # ---- the program
 
 
@@ -425,7 +513,7 @@ def watch(room: str, *words: str, given: bytes = b"", first: Iterable[str] = ())
     report = os.path.join(room, "report")
     command = [sys.executable, *(first or [watched.SCRIPT]), "--report", report, "--", *words]
     ran = subprocess.run(command, input=given, capture_output=True, timeout=harness.SECONDS, check=False)
-    return ran.returncode, ran.stdout, ran.stderr, harness.text_of(report) if os.path.exists(report) else ""
+    return ran.returncode, ran.stdout, ran.stderr, watched.complete(report) if os.path.exists(report) else ""
 
 
 @test("watch: every byte is passed on, and the status is the server's")
@@ -475,7 +563,7 @@ def robust() -> None:
         holds(err.startswith(b"ob0-watch: the report can't be written: "), str(err))
 
 
-@test("watch: the command line, where the report is, and commands of ob0 that aren't watched")
+@test("watch: the command line, the place of the report, and commands of ob0 that aren't watched")
 def command_line() -> None:
     need_program()
     with temporary() as room:
@@ -496,9 +584,43 @@ def command_line() -> None:
         same(ran(given=INPUT, XDG_STATE_HOME=os.path.join(room, "state")), (0, OUTPUT))
         same(len(os.listdir(os.path.join(room, "state", "ob0"))), 1, "the report")
         same(ran("check", "m.mod"), (1, b"0:10: BadChar: bad character\n"), "ob0-watch check")
-        same(ran("--help")[0], 0, "the status with --help")
+        status, out = ran("--help")
+        same((status, [it for it in out.decode().splitlines() if len(it) > 80]), (0, []), "the status with --help, and lines of more than 80 columns")
+        same([ran(it) for it in ("-V", "--version")], [(0, f"ob0-watch {WATCH.VERSION}\n".encode())] * 2, "the version")
         same([ran(*it) for it in (["--reprot"], ["--"], ["--report"])], [(2, b"")] * 3, "a wrong command line")
         same([ran(PATH="/nowhere"), ran("--", "no-such-program", PATH="/nowhere")], [(4, b"")] * 2, "no program")
+
+
+@test("watch: a judge that is behind judges everything after the server has ended, and the report says how far it is meanwhile")
+def behind() -> None:
+    with temporary() as room:
+        report = os.path.join(room, "report")
+        slow = "import watched, time; it = watched.load(); it.BUSY = 0.1; real = it.Watcher.changed; "
+        slow += "it.Watcher.changed = lambda *more: (time.sleep(0.05), real(*more))[1]; import sys; it.end_as(it.main(sys.argv[1:]))"
+        talk = [harness.initialize(0), notice("initialized", {}), did_open(TEXT), *(did_change([], version=it) for it in range(100))]
+        given = harness.frames([*talk, did_change("x", "file:///last")])
+        words = [sys.executable, "-c", f"import sys; sys.path[:0] = {sys.path!r}; {slow}", "--report", report, "--", "cat"]
+        start = time.monotonic()
+        ran = subprocess.run(words, input=given, capture_output=True, timeout=harness.SECONDS, check=False)
+        same((ran.returncode, ran.stdout, ran.stderr), (0, given, b""), "what is passed on")
+        seconds, seen = time.monotonic() - start, set()
+        while not os.path.exists(report) or "The server ended" not in harness.text_of(report):
+            seen |= {*re.findall(r"^(\d+) messages of the editor were judged.\nIt goes on", harness.text_of(report), re.M)} if os.path.exists(report) else set()
+            time.sleep(0.02)
+        holds(seconds < 5 and len(seen) > 5, f"it has ended after {seconds} seconds, and the report has said {seen}")
+        found = harness.text_of(report)
+        holds("BROKEN open: message 104 " in found and found.endswith("\n104 messages of the editor were judged.\nThe server ended with status 0.\n"), found)
+
+
+@test("watch: a report isn't written through a link")
+def through_a_link() -> None:
+    with temporary() as room:
+        write(os.path.join(room, "victim"), "unchanged")
+        for name in ("report", "report.new"):
+            os.symlink("victim", os.path.join(room, name))
+        report = watch(room, "cat", given=INPUT)[3]
+        holds(report.startswith("ob0-watch (process ") and not os.path.islink(os.path.join(room, "report")), report)
+        same(harness.text_of(room, "victim"), "unchanged", "the file that the link names")
 
 
 def by_watched(room: str) -> None:
@@ -507,7 +629,7 @@ def by_watched(room: str) -> None:
     harness.BINARY = watched.put_program(room, [os.path.abspath(harness.BINARY)])
 
 
-@test("watch: the conversations of tests/inputs break no rule, but for the messages in them that can't be read")
+@test("watch: the conversations of tests/inputs break no rule, except messages in them that can't be read")
 def recorded() -> None:
     cases = {name: it for name, it in {**conversations.SHORT, **conversations.LONG}.items() if it.words == ["serve"]}
     for name, case in cases.items():
@@ -522,7 +644,7 @@ def recorded() -> None:
 
 
 # (a change by chance can equal a part of an answer: with these seeds none does)
-@test("watch: conversations of random changes and questions break no rule, but for the changes in them that can't be read")
+@test("watch: conversations of random changes and questions break no rule, except changes in them that can't be read")
 def random_talks() -> None:
     with temporary() as room:
         by_watched(room)

@@ -11,7 +11,7 @@ each crate how many modules were loaded and how many proved again; a crate is le
 read of those below: each proof that is kept says at its head which modules the checker saw for it, and each module of a library a
 sum over what it says, comments apart. What is kept is trusted, so this is not the gate.
 
-Two runs of rt in one tree wait for each other where they depend on the same crate. So each crate is proved in a tree of
+Two runs of rt in one tree wait for each other if they depend on the same crate. So each crate is proved in a tree of
 its own, a room: a copy of its sources, and of each crate below hard links to its sources and its proved library."""
 from __future__ import annotations
 
@@ -33,8 +33,6 @@ import notices
 from common import TOP, BINARY
 
 STEP = 15  # seconds between two lines about a crate that takes long
-# what ends a build: Ctrl-C, a job that is cancelled, a terminal that is closed
-ENDING = (signal.SIGINT, signal.SIGTERM, signal.SIGHUP)
 ROOMS = os.path.join(TOP, "bin", "rooms")
 # What rattle makes of a function's body and of its proof, by the last part of a module's name: no crate above can name these. (A
 # program and the tests see the code of all that they reach, and TheLink: what their last line says of that is left to the gate.)
@@ -62,7 +60,7 @@ def lanes() -> int:
 
 
 def link(old: str, new: str) -> None:
-    """A hard link, or a copy where there can be none."""
+    """Makes a hard link, or a copy if it can't be linked."""
     try:
         os.link(old, new)
     except OSError:
@@ -90,7 +88,7 @@ def furnish(room: str, name: str, named: dict[str, list[str]]) -> None:
 
 
 def link_tree(old: str, new: str, without: list[str]) -> None:
-    """A folder of hard links to what another folder has. (`rt` takes no symbolic links. There are some 300 files a library, so
+    """A folder of hard links to what another folder has. (`rt` follows no symbolic links. There are about 300 files a library, so
     nothing is done here that needn't be.)"""
     os.makedirs(new)
     for it in os.scandir(old):
@@ -131,7 +129,7 @@ class Sums:
         return self.sum_over(name, lambda it: self.own[it])
 
     def of_read(self, name: str) -> str:
-        """Nothing where a library below isn't there, or it isn't known what the crate's proofs have read."""
+        """Returns None if a library below is missing, or if it isn't known what the crate's proofs have read."""
         for it in common.below(name, self.named)[:-1]:
             if it not in self.shown:
                 self.shown[it] = Shown.by(it)
@@ -169,7 +167,7 @@ class Shown(NamedTuple):
 
     @classmethod
     def by(cls, name: str) -> Shown | None:
-        """None where a crate has no library, or one of another form."""
+        """Returns None if a crate has no library, or one of another form."""
         library = library_of(name)
         files = []
         for part in ("interface", "below"):
@@ -238,7 +236,7 @@ class Proved:
 
     @property
     def text(self) -> str:
-        """What it says first where the crate is up to date."""
+        """Returns the text to print first if the crate is up to date."""
         return "\n".join([" ".join(self.words), self.sum, text_of(self.library), ""])
 
     @property
@@ -264,7 +262,7 @@ class Proved:
 
 
 def text_of(path: str) -> str:
-    """What a file says, and nothing where there is none."""
+    """Returns a file's text, or nothing if there is no file."""
     try:
         with open(path, encoding="utf-8") as file:
             return file.read()
@@ -289,7 +287,7 @@ def modules_of(name: str, said: str) -> Modules:
 
 
 class Work:
-    """One crate that is being proved, in a room of its own."""
+    """One crate that is being proved, in a separate room."""
 
     def __init__(self, name: str, named: dict[str, list[str]], jobs: int, is_check: bool) -> None:
         self.name, self.room = name, os.path.join(ROOMS, name)
@@ -305,7 +303,7 @@ class Work:
             self.process = subprocess.Popen(words, preexec_fn=os.setpgrp, stderr=subprocess.STDOUT, **how)
 
     def furnish(self, named: dict[str, list[str]]) -> None:
-        """Makes the room, and moves what was kept of the crate's own proofs there."""
+        """Makes the room, and moves the kept work on the crate's own proofs there."""
         furnish(self.room, self.name, named)
         if os.path.isdir(self.out):
             os.rename(self.out, self.moved)
@@ -333,7 +331,7 @@ class Work:
             return file.read()
 
     def modules(self) -> Modules:
-        """How many of the crate's modules were loaded, and how many proved again: none where its library is up to date."""
+        """Returns how many of the crate's modules were loaded and proved again: none if its library is up to date."""
         return modules_of(self.name, self.said())
 
     def errors(self) -> str:
@@ -353,7 +351,7 @@ def end_all(running: dict[str, Work]) -> None:
 
 
 def main(words: list[str]) -> int:
-    """Proves, and builds the program where that is wanted; returns the exit status."""
+    """Proves, and builds the program if that is requested; returns the exit status."""
     is_check = "--check" in words
     # (a program that is up to date needs no toolchain)
     if not is_check and common.is_current():
@@ -362,7 +360,8 @@ def main(words: list[str]) -> int:
             notices.of_program()
         return 0
     common.need("rt")
-    return carry_out(Plan(is_check))
+    with common.one_at_a_time():
+        return carry_out(Plan(is_check))
 
 
 def prove_libraries(names: Iterable[str]) -> int:
@@ -375,15 +374,15 @@ def carry_out(plan: Plan) -> int:
     the rooms what was proved. (A signal that is ignored, as `nohup` has it, stays ignored.)"""
     running: dict[str, Work] = {}
     came: list[int] = []
-    others = {it: signal.getsignal(it) for it in ENDING}
-    for it in (it for it in ENDING if others[it] != signal.SIG_IGN):
+    others = {it: signal.getsignal(it) for it in common.ENDING}
+    for it in (it for it in common.ENDING if others[it] != signal.SIG_IGN):
         signal.signal(it, lambda number, _: came.append(number))
     try:
         return prove_all(running, plan, came)
     finally:
         end_all(running)
         shutil.rmtree(ROOMS, ignore_errors=True)
-        for it in ENDING:
+        for it in common.ENDING:
             signal.signal(it, others[it])
 
 
@@ -403,7 +402,7 @@ class Plan:
         self.built: set[str] = set()  # of these, those whose library is made of the present sources
         self.again: set[str] = set()  # and those whose library is to be built again
         self.alike: set[str] = set()  # those whose proofs have read nothing that changed
-        self.open: set[str] = set()  # those of which kept work says nothing
+        self.open: set[str] = set()  # the crates about which kept work says nothing
 
     def command(self, name: str) -> list[str]:
         return command(name, self.named, self.is_check)
@@ -464,7 +463,7 @@ def prove_all(running: dict[str, Work], plan: Plan, came: list[int]) -> int:
     ready, most, shown_at = plan.ready(running), lanes(), time.monotonic()
     plan.say(f"{len(plan.done)} of {len(plan.all)} crates are up to date")
     while not plan.is_done:
-        # (a check with more jobs takes more of the processors in all, so it gets those alone that nobody else wants)
+        # (a check with more jobs takes more of the processors in all, so it gets only those that nobody else needs)
         jobs = max(1, processors() // max(1, min(most, len(ready) + len(running))))
         for name in ready:
             if len(running) < most:
@@ -498,14 +497,14 @@ def prove_all(running: dict[str, Work], plan: Plan, came: list[int]) -> int:
 
 
 def end(plan: Plan) -> int:
-    """Says what was done, and keeps the program where one was built."""
+    """Prints what was done, and keeps the program if one was built."""
     if plan.is_check:
         found = plan.done.values()
         again = sum(it.checked > 0 for it in found)
         total = Modules(*(sum(it) for it in zip(*found)))
         plan.say(f"{len(plan.all)} crates are proved over kept work: {total}, the latter in {again} of them")
         if plan.alike:
-            plan.say(f"{len(plan.alike)} were left, since nothing changed that their proofs have read of those below them")
+            plan.say(f"{len(plan.alike)} were skipped, since nothing that their proofs have read below them changed")
         plan.say("this is not the gate: `make test` is")
         return 0
     common.keep(os.path.join(TOP, "crates", "ob0", "out", "ob0"))

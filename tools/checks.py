@@ -23,11 +23,23 @@ UNREAD = re.compile(r"is not in scope|has no field|is no name|operand is missing
 NAMES_LOST = re.compile(r"has no field|is not in scope|has no `|was not admitted|that can be named from here")
 
 
+def messages_of(text: str) -> list[str]:
+    """What a check printed by messages: each is a line with the indented lines after it, in which the prover continues it."""
+    found: list[str] = []
+    for line in text.split("\n"):
+        if found and found[-1] and line[:1] in (" ", "\t") and line.strip():
+            found[-1] += f" {line.strip()}"
+        else:
+            found.append(line)
+    return found
+
+
 class Said:
     """What a check printed."""
 
     def __init__(self, text: str, status: int) -> None:
         self.text, self.status = text, status
+        self.messages = messages_of(text)
         self.verdicts: dict[str, str] = dict(VERDICT.findall(text))
         # (with --only the last line is another)
         self.ended = bool(re.search(r"^(?:logic=|only=\d+ (?:proved|holes)=\d+)", text, re.M))
@@ -68,7 +80,7 @@ class Said:
         *above, name = symbol.partition("::")[2].split("::")
         cycle = re.search(r"\+\w+$", proof)
         starts = tuple("/".join(["proofs", *above, it]) for it in (f"{cycle[0] if cycle else name}/", f"+{name}/", f"+{name}+"))
-        errors = ((it, ERROR.match(it)) for it in self.text.split("\n"))
+        errors = ((it, ERROR.match(it)) for it in self.messages)
         return [line for line, at in errors if at and at[1].startswith(starts)]
 
     def refusing(self, symbol: str, proof: str) -> list[str]:
@@ -94,7 +106,7 @@ class Said:
 
 def unreadable(said: Said, edit: Edit) -> str | None:
     """The error by which the compiler or antt could not read a mutant, if one is in what it turns."""
-    for line in said.text.split("\n"):
+    for line in said.messages:
         at = ERROR.match(line)
         if not at:
             continue

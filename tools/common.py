@@ -1,19 +1,31 @@
 """What the scripts share: where things are, what is missing and how to get it, and how long it took."""
 from __future__ import annotations
 
+import contextlib
+import fcntl
 import hashlib
 import os
+import pathlib
 import re
 import shutil
+import signal
 import subprocess
 import sys
+import tempfile
 import time
-from collections.abc import Iterable
-from typing import Any, NoReturn
+from collections.abc import Callable, Iterable, Iterator
+from typing import IO, Any, NoReturn
+
+import processes
 
 TOP = os.path.dirname(os.path.dirname(os.path.abspath(__file__)))
 BINARY = os.path.join(TOP, "bin", "ob0")
 STAMP = BINARY + ".stamp"
+
+# what ends a script: Ctrl-C, a job that is cancelled, a terminal that is closed
+ENDING = (signal.SIGINT, signal.SIGTERM, signal.SIGHUP)
+HELD: list[IO[str]] = []  # the lock of this checkout, while this script holds it
+LONGEST_TEMPORARY = 50  # bytes: a socket in a folder below it has a path of at most 107
 
 HOW_TO_GET = {
     "rt": "it is the command of the Rattle toolchain, with which this repository is proved: install the "
@@ -26,6 +38,83 @@ HOW_TO_GET = {
 def stop(why: str, status: int = 2) -> NoReturn:
     print(f"{os.path.basename(sys.argv[0])}: {why}", file=sys.stderr)
     sys.exit(status)
+
+
+def settle() -> None:
+    """Makes what is started from here independent of the user's shell: everybody can read the files that it makes, and git
+    finds the repository by the folder. (In a hook and in `git rebase -x` the variables of git can name another one.)"""
+    os.umask(0o022)
+    for name in [it for it in os.environ if it.startswith("GIT_")]:
+        del os.environ[name]
+
+
+def unfit(folder: str) -> str:
+    """Why tests can't keep their temporary files in a folder; empty if they can."""
+    if not os.access(folder, os.W_OK | os.X_OK):
+        return "it can't be written"
+    if os.statvfs(folder).f_flag & os.ST_NOEXEC:
+        return "it is mounted noexec"
+    if re.search(r"\s", folder):
+        return "its path has a blank"
+    if len(os.fsencode(folder)) > LONGEST_TEMPORARY:
+        return f"its path has more than {LONGEST_TEMPORARY} bytes"
+    above = [folder, *(str(it) for it in pathlib.PurePath(folder).parents)]
+    closed = next((it for it in above if not os.stat(it).st_mode & 0o001), None)
+    # (only root runs programs there as another user)
+    return f"other users can't enter {closed}" if closed and os.geteuid() == 0 else ""
+
+
+def choose_temporary() -> None:
+    """Chooses the folder for temporary files: the user's, or a system's if tests fail in that; ends the script if no folder fits."""
+    whys: list[str] = []
+    for folder in dict.fromkeys([tempfile.gettempdir(), "/tmp", "/var/tmp"]):
+        why = unfit(folder)
+        if not why:
+            if whys:
+                print(f"temporary files are in {folder}: {'; '.join(whys)}", file=sys.stderr, flush=True)
+            tempfile.tempdir = os.environ["TMPDIR"] = folder
+            return
+        whys.append(f"{folder} isn't used, since {why}")
+    stop(f"no folder for temporary files: {'; '.join(whys)}. Set TMPDIR to one that fits")
+
+
+@contextlib.contextmanager
+def one_at_a_time() -> Iterator[None]:
+    """Holds this checkout's lock, for which a second script waits: `make build`, `check`, `test` and `wrong-bodies` all move the kept
+    work of crates and remove bin/rooms. A script that holds the lock can take it again."""
+    if HELD:
+        yield
+        return
+    os.makedirs(os.path.dirname(BINARY), exist_ok=True)
+    with open(os.path.join(os.path.dirname(BINARY), "lock"), "w", encoding="utf-8") as file:
+        try:
+            fcntl.flock(file, fcntl.LOCK_EX | fcntl.LOCK_NB)
+        except OSError:
+            print("waiting until another `make` that proves something in this checkout has ended", flush=True)
+            fcntl.flock(file, fcntl.LOCK_EX)
+        HELD.append(file)
+        try:
+            yield
+        finally:
+            HELD.remove(file)
+
+
+@contextlib.contextmanager
+def ended_by_signals(where: Callable[[], str]) -> Iterator[None]:
+    """Has Ctrl-C, a cancelled job or a closed terminal end what this script started, the provers included, and then the script, which
+    says where it was. (A signal that is ignored, as `nohup` has it, stays ignored.)"""
+
+    def end(number: int, _: object) -> None:
+        for it in ENDING:
+            signal.signal(it, signal.SIG_IGN)
+        print(f"ended by {signal.Signals(number).name} {where()}", flush=True)
+        processes.interrupt(os.getpid())
+        sys.exit(128 + number)
+
+    processes.adopt_orphans()
+    for it in (it for it in ENDING if signal.getsignal(it) != signal.SIG_IGN):
+        signal.signal(it, end)
+    yield
 
 
 def need(command: str) -> str:
@@ -77,7 +166,7 @@ def libraries() -> dict[str, list[str]]:
 
 
 def write_list(path: str, names: Iterable[str]) -> None:
-    """Writes a crates.txt of these crates alone."""
+    """Writes a crates.txt of only these crates."""
     lines = listed()
     with open(path, "w", encoding="utf-8") as file:
         file.writelines(f"{name}: {' '.join(lines[name])}\n" for name in names)
@@ -121,7 +210,7 @@ def file_sum(path: str) -> str:
 
 
 def kit() -> str | None:
-    """The toolchain's line, or None where it isn't here."""
+    """Returns the toolchain's line, or None if it isn't installed."""
     if not shutil.which("rt"):
         return None
     how: dict[str, Any] = {"stdout": subprocess.PIPE, "stderr": subprocess.DEVNULL, "stdin": subprocess.DEVNULL}
@@ -174,10 +263,10 @@ def keep(linked: str) -> None:
     write_stamp({"kit": kit() or "", "sources": sum_of(sources(below("ob0"))), "program": file_sum(BINARY)})
 
 
-def keep_verdict(line: str) -> None:
-    """Adds the last line of `make test` to the stamp of the program that it tested."""
+def keep_verdict(line: str, share: str = "") -> None:
+    """Adds to the stamp of the program that it tested the last line of `make test`, and how many of the proofs that made itself."""
     if is_current():
-        write_stamp({**stamp(), "gate": line})
+        write_stamp({**stamp(), "gate": line, "proofs": share})
 
 
 def write_stamp(lines: dict[str, str]) -> None:

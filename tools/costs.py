@@ -1,11 +1,11 @@
 #!/usr/bin/env python3
-"""Says where the time of a crate's proof goes, by what its last check from nothing kept in crates/NAME/out/incremental.
+"""Lists the modules on which the proof of a crate spends its time, by the files of its last check from scratch in out/incremental.
 
-  tools/costs.py [--least SECONDS] CRATE..   the modules that took at least so long are listed: 2 seconds where none is given
+  tools/costs.py [--least SECONDS] CRATE..   the modules that took at least so long (2 seconds, if no number is given)
 
-A check of one job writes a file when a module is proved: the time since the file before is what the module cost. So the figures
-mean nothing of a crate that was checked in parts or by several jobs, and beside other work they are too high; which module costs
-most is seen all the same. (`make build` and `make check` keep it so that one crate has one job while all lanes are used.)"""
+A check of one job writes a file when a module is proved, so a module cost the time since the file before. The figures mean nothing
+for a crate that was checked in parts or by several jobs. If other work ran, they are too high, but still show which module costs
+most. (`make build` and `make check` give a crate one job while all lanes are used.)"""
 import argparse
 import collections
 import glob
@@ -16,7 +16,7 @@ from typing import Dict, Iterator, List, NamedTuple
 
 import common
 
-# Between two checks nothing is written: a time without any file that is longer is none of a module.
+# Between two checks nothing is written: no module takes longer than this without a file.
 PAUSE = 120.0
 # (what rattle makes for a function, by the last part of its module's name; all else of it is 'other modules')
 OF_FUNCTIONS = ("Lts", "Proof", "Tie", "Answers", "Invariants")
@@ -29,7 +29,7 @@ class Module(NamedTuple):
     seconds: float
 
     def kind(self, lemmas: List[str]) -> str:
-        """What a module is: one of our own files of definitions or lemmas, or one that rattle makes for a function."""
+        """Returns what a module is: one of our own files of definitions or lemmas, or one that rattle makes for a function."""
         part, _, inside = self.name.partition(".")
         if part == "specs" and "." not in inside:
             return "definitions"
@@ -45,7 +45,7 @@ class Module(NamedTuple):
         path = inside.split(".")
         if part != "proofs" or len(path) < 2:
             return self.name
-        # (a type's name is part of a function's path, what comes after the function isn't)
+        # (a type's name is part of a function's path, the words after the function aren't)
         end = len(path)
         while end > 1 and re.match(r"[A-Z]\w*(?:-[\w-]+)?$", path[end - 1]):
             end -= 1
@@ -76,7 +76,7 @@ def rows(sums: Dict[str, float], least: float, whole: float) -> Iterator[str]:
 
 
 def show(crate: str, least: float) -> bool:
-    """Prints where the time of one crate goes, and says whether anything of it is kept."""
+    """Prints the costs of one crate's modules, and returns whether it has kept files."""
     modules, lemmas = modules_of(crate), lemmas_of(crate)
     whole = sum(it.seconds for it in modules)
     if not modules:
@@ -94,13 +94,13 @@ def show(crate: str, least: float) -> bool:
 
 
 def main() -> int:
-    words = argparse.ArgumentParser(description="Says where the time of a crate's proof goes.")
+    words = argparse.ArgumentParser(description="Lists the modules on which the proof of a crate spends its time.")
     words.add_argument("--least", type=float, default=2.0, metavar="SECONDS")
     words.add_argument("crates", nargs="+", metavar="CRATE")
     chosen = words.parse_args()
     unknown = [it for it in chosen.crates if it not in common.listed()]
     if unknown:
-        common.stop(f"crates.txt names no crate {', '.join(unknown)}")
+        common.stop(f"crates.txt has no {', '.join(unknown)}")
     return 0 if all([show(it, chosen.least) for it in chosen.crates]) else 1
 
 

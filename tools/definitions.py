@@ -48,6 +48,8 @@ def names_in(code: list[str]) -> Iterator[str]:
     of_data = False
     for line in inside:
         found = re.match(rf"^{depth}(?:(?:abbrev|unfoldable|pub)\s+)*(?:(record|data)\s+)?(\S+)\s(?:.*\s)?:(?:\s|$)", line)
+        # (the parameters of a record may be in its next lines)
+        found = found or re.match(rf"^{depth}(?:pub\s+)*(record|data)\s+(\S+)$", line)
         if found and found[2] != "--" and not found[2].startswith("unfolding"):
             of_data = found[1] == "data"
             yield found[2]

@@ -1,9 +1,9 @@
 #!/usr/bin/env python3
 """Plays a conversation with the server, and prints what goes each way in readable form.
 
-It is played with bin/ob0 where that was proved and built from the sources as they are. Else the program is compiled by
-`rt try`, which proves nothing and takes one to three minutes; it gets all messages at once, since `rt try` reads its input to the
-end first."""
+It plays it with bin/ob0 if that was proved and built from the present sources. Otherwise `rt try` compiles the program, which
+proves nothing and takes one to three minutes. That program gets all messages at once, because `rt try` first reads its input to
+the end."""
 from __future__ import annotations
 
 import json
@@ -30,33 +30,33 @@ BEGIN y := x * x END Square;
 BEGIN n := 7; Square(n, n); Write(n) END Squares.
 """
 CHANGES = [
-    ("a letter joins a number, and a character begins no lexeme: two diagnostics", GOOD.replace("n := 7;", "n := 7x $;")),
-    ("an operand is missing: the parser says where", GOOD.replace("x * x", "x *")),
-    ("a truth value is assigned to a number: the checker says where", GOOD.replace("n := 7", "n := 7 = 7")),
-    ("mended: an empty list again", GOOD),
+    ("a letter follows a number, and `$` isn't in the language: two errors", GOOD.replace("n := 7;", "n := 7x $;")),
+    ("an operand is missing: one error, at its place", GOOD.replace("x * x", "x *")),
+    ("a truth value is assigned to an INTEGER: one error, at its place", GOOD.replace("n := 7", "n := 7 = 7")),
+    ("fixed: an empty list again", GOOD),
 ]
 STEP = 15  # seconds between two lines while the program is compiled
 
 
 def steps() -> Iterator[tuple[str, Message]]:
-    """The conversation: what is said before a message, and the message."""
+    """Yields the messages of the conversation, each with the line to print before it."""
     document = {"uri": URI}
     where: Message = {"position": place(4, 16), "textDocument": document}
     yield "the client begins", request(1, "initialize", {"capabilities": {}})
     yield "", notice("initialized", {})
-    yield "a module without a fault is opened: an empty list of diagnostics", did_open(GOOD, URI)
+    yield "the client opens a valid module: an empty list of diagnostics", did_open(GOOD, URI)
     for version, (what, text) in enumerate(CHANGES, 2):
         yield what, did_change(text, URI, version)
-    yield "which name is in line 4 at character 16, and where else?", request(2, "textDocument/hover", where)
+    yield "the name in line 4 at character 16: its declaration, and its uses", request(2, "textDocument/hover", where)
     yield "", request(3, "textDocument/references", {**where, "context": {"includeDeclaration": True}})
-    yield "rename it: three edits", request(4, "textDocument/rename", {**where, "newName": "Squared"})
+    yield "its renaming: three edits", request(4, "textDocument/rename", {**where, "newName": "Squared"})
     yield (
-        "rename it to a name that the module uses for something else: refused, with the place that would change its meaning",
+        "its renaming to a name that the module uses for something else: refused, with the place whose meaning would change",
         request(5, "textDocument/rename", {**where, "newName": "Write"}),
     )
     layout = {"textDocument": document, "options": {"tabSize": 2, "insertSpaces": True}}
-    yield "lay it out: an edit for each gap that changes", request(6, "textDocument/formatting", layout)
-    yield "the document is closed: its diagnostics are withdrawn", did_close(URI)
+    yield "formatting: one edit for each gap that changes", request(6, "textDocument/formatting", layout)
+    yield "the client closes the document: its diagnostics are withdrawn", did_close(URI)
     yield "the client ends", {**SHUTDOWN, "id": 7}
     yield "", EXIT
 
@@ -66,7 +66,7 @@ def is_answered(message: Message) -> bool:
 
 
 class Live:
-    """bin/ob0, in conversation."""
+    """Plays a conversation with bin/ob0."""
 
     def __init__(self) -> None:
         self.server = harness.Server(silent=True)
@@ -80,7 +80,7 @@ class Live:
 
 
 class Recorded:
-    """The program as `rt try` compiles and runs it, on all messages at once."""
+    """Runs the program by `rt try` on all messages at once, and returns its answers one after another."""
 
     def __init__(self) -> None:
         found = tried([it for _, it in steps()])
@@ -94,7 +94,7 @@ class Recorded:
 
 
 def tried(messages: list[Message]) -> tuple[bytes, int]:
-    """What the unproved program writes on these messages, and its status."""
+    """Returns what the unproved program writes on these messages, and its status."""
     with tempfile.TemporaryFile() as given, tempfile.TemporaryFile() as out, tempfile.TemporaryFile() as err:
         given.write(harness.frames(messages))
         given.seek(0)
@@ -113,14 +113,14 @@ def tried(messages: list[Message]) -> tuple[bytes, int]:
         err.seek(0)
         said = err.read().decode(errors="replace")
         if "run=ended" not in said:
-            common.stop(f"rt try did not run the program:\n{said[-2000:]}", 1)
+            common.stop(f"`rt try` didn't run the program:\n{said[-2000:]}", 1)
         print(f"[{timer}] compiled and run", flush=True)
         out.seek(0)
         return out.read(), process.returncode
 
 
 def lines_of(value: Any) -> list[str]:
-    """JSON in readable lines: what fits is on one line, texts of several lines are printed as lines."""
+    """Formats JSON in readable lines: a value on one line if it fits, and a text of several lines as these lines."""
     flat = json.dumps(value, ensure_ascii=False)
     if isinstance(value, str) and "\n" in value:
         return ['"', *("  | " + it for it in value.rstrip("\n").split("\n")), '"']
@@ -135,7 +135,7 @@ def lines_of(value: Any) -> list[str]:
 
 
 def show(arrow: str, what: str, message: Message, parts: list[str]) -> None:
-    """A message: its head, and the part of it that has something to say."""
+    """Prints a message: its head, and the first of these parts that it has."""
     print(f"\n{arrow} {what}")
     print(f"    Content-Length: {len(json.dumps(message, separators=(',', ':'), ensure_ascii=False).encode())}")
     value: Any = next((message[it] for it in parts if it in message), ())
@@ -172,9 +172,9 @@ def main() -> int:
     status = play(Recorded())
     say("that was the program without its proofs")
     print(
-        "`make build` proves every function and builds the program: half an hour to an hour on four processors. It says\n"
-        f"which crate is being proved, how many are left and the time so far, and leaves the proved program as\n"
-        f"{os.path.relpath(common.BINARY, os.getcwd())}. After that `make demo` plays this with it, and `make install` installs it."
+        "`make build` proves every function and builds the program: about an hour on four processors. It prints\n"
+        f"the crate that it proves, how many remain and the time so far, and writes the proved program to\n"
+        f"{os.path.relpath(common.BINARY, os.getcwd())}. Then `make demo` plays the conversation with it, and `make install` installs it."
     )
     return status
 

@@ -59,6 +59,15 @@ def tree_sitter() -> bool:
     return said.decode(errors="replace").startswith("tree-sitter 0.22.")
 
 
+# What root runs to become another user. (What it imports later, the other user may not be able to read.)
+BECOME = "import os, sys, warnings; os.setgroups([]); os.setgid(65534); os.setuid(65534)"
+
+
+def another_user() -> bool:
+    """Whether root can become another user, which it can't in a container without that capability; other users needn't."""
+    return os.geteuid() != 0 or ends_well([sys.executable, "-c", BECOME])
+
+
 PATHOGEN = "/usr/share/vim-pathogen/autoload/pathogen.vim"  # a plugin manager of Vim
 
 # Each table has the names of tools: how to see that one is here, and the package of Debian that has it (none: Debian 12 has none).
@@ -83,7 +92,7 @@ EDITORS = {
     vsix.CLIENT: (lambda: vsix.modules() is not None, ""),
     "nano": (here("nano"), "nano"),
 }
-# Desktop tools, which answer once and end: `make test` leaves a test out if one that it wants is missing.
+# Desktop tools, which answer once and end: `make test` leaves a test out if a tool that it needs is missing.
 DESKTOP = {
     "kate-syntax-highlighter": (here("kate-syntax-highlighter"), "libkf5syntaxhighlighting-tools"),
     "Ruby": (here("ruby"), "ruby"),
@@ -94,6 +103,7 @@ DESKTOP = {
     "dpkg": (here("dpkg-deb"), "dpkg"),
     "apt-get": (here("apt-get"), "apt"),
     "root": (lambda: os.geteuid() == 0, ""),  # (dpkg unpacks for root only, and only root has files of two users)
+    "another user": (another_user, ""),  # (for whom root's permissions don't hold)
     "Python 3.11": (lambda: sys.version_info >= (3, 11), ""),  # (the first that reads TOML)
     "lintian": (here("lintian"), "lintian"),
     "man": (here("man"), "man-db"),
@@ -122,6 +132,20 @@ LONGEST = 900  # seconds that everything may take that is installed
 @functools.lru_cache(None)
 def is_here(name: str) -> bool:
     return TOOLS[name][0]()
+
+
+# How to get what no package has.
+HOW_TO_GET = {
+    "root": "run the tests as root",
+    "another user": "run the tests as a user who isn't root, or in a container that has the capability CAP_SETUID",
+}
+
+
+def may_lack(name: str) -> bool:
+    """Whether `make test` may leave tests out for lack of a tool: for each that isn't required, or, if the variable OB0_MAY_LACK
+    lists tools, only for those."""
+    listed = os.environ.get("OB0_MAY_LACK")
+    return name not in REQUIRED and (listed is None or name in (it.strip() for it in listed.split(",")))
 
 
 def install(packages: list[str], end: float) -> str | None:
@@ -165,7 +189,7 @@ def main(words: list[str]) -> int:
         install_all(packages)
         is_here.cache_clear()
         missing = [it for it in missing if not is_here(it)]
-    print(f"missing: {', '.join(missing)}; `make test` names the tests that want them" if missing else "all editors and tools are here")
+    print(f"missing: {', '.join(missing)}; `make test` lists the tests that need them" if missing else "all editors and tools are here")
     return 0
 
 

@@ -1,11 +1,11 @@
 #!/usr/bin/env python3
-"""Runs the tests of editors on those of another release of Debian, in a root of its own, bin/roots/RELEASE.
+"""Runs the tests of editors on the editors of another release of Debian, in a separate root, bin/roots/RELEASE.
 
-  tools/editors_of.py RELEASE [WORD..]   such as trixie, or sid; with words the tests whose names hold one of them
+  tools/editors_of.py RELEASE [WORD..]   such as trixie, or sid; with words only the tests whose names contain one of them
 
-The root is made by debootstrap where it isn't there (some 2 GB, from Debian's mirror), and what the tests want is installed in
-it. The program is bin/ob0, or the one that the variable OB0 names. It wants to be root; nothing stays mounted when it ends.
-It says at last which versions were driven."""
+If the root is missing, debootstrap makes it (about 2 GB, from Debian's mirror). The editors and tools of the tests are installed in
+it. The program is bin/ob0, or the one that the variable OB0 specifies. Run it as root; nothing remains mounted when it ends.
+At the end it prints the versions that were tested."""
 from __future__ import annotations
 
 import json
@@ -20,12 +20,12 @@ import common
 ROOTS = os.path.join(common.TOP, "bin", "roots")
 # the tests of editors, by words in their names
 WORDS = ["Neovim", "Emacs", "lsp-mode", "Vim", "Kakoune", "Kate", "Helix", "VS Code", "nano", "GtkSourceView", "tree-sitter"]
-# packages of editors, whose versions are said; and what else is installed, since Debian 12 doesn't have it
+# packages of editors, whose versions are printed; and other packages to install, since Debian 12 doesn't have them
 EDITORS = ["neovim", "vim-nox", "vim-ale", "vim-youcompleteme", "emacs-nox", "elpa-lsp-mode", "kate", "hx", "kakoune", "nano", "nodejs"]
 MORE = ["hx", "tree-sitter-cli", "node-typescript", "node-semver", "node-minimatch", "node-vscode-languageserver-protocol"]
 CLIENT = "/usr/local/lib/node_modules/vscode-languageclient"
 
-# (the mounts are those of a name space of this command alone; a mirror's release file may be an old one)
+# (only this command's name space has the mounts; a mirror's release file may be an old one)
 ENTER = """room=$1; top=$2; shift 2
 mount -t proc proc "$room/proc"
 mount --rbind /dev "$room/dev"
@@ -35,7 +35,7 @@ echo 'Acquire::Check-Valid-Until "false";' > "$room/etc/apt/apt.conf.d/any-date"
 exec chroot "$room" /usr/bin/env -i PATH=/usr/local/sbin:/usr/local/bin:/usr/sbin:/usr/bin:/sbin:/bin HOME=/root \
   LANG=C.UTF-8 DEBIAN_FRONTEND=noninteractive OB0=/opt/ob0 sh -c 'cd /repository && exec "$@"' sh "$@"
 """
-# Debian has vscode-languageclient as a source package alone
+# Debian has vscode-languageclient only as a source package
 MAKE_CLIENT = f"""set -e
 test -e {CLIENT}/package.json && exit
 echo "deb-src http://deb.debian.org/debian $1 main" > /etc/apt/sources.list.d/sources.list
@@ -66,7 +66,7 @@ def make_root(release: str, room: str) -> None:
 
 
 def install(release: str, room: str) -> None:
-    """What the tests want, as far as the release has it."""
+    """Installs everything that the tests need and the release has."""
     inside(room, "python3", "tools/editors.py")
     for package in MORE:
         if inside(room, "apt-get", "install", "-y", "-q", "--no-install-recommends", package, stdout=subprocess.DEVNULL).returncode:
@@ -91,7 +91,7 @@ def main(release: str, *words: str) -> int:
     common.need("debootstrap")
     common.need("unshare")
     if os.geteuid():
-        common.stop("a root wants root: sudo make editors RELEASE=..")
+        common.stop("this needs root: sudo make editors RELEASE=..")
     program = os.environ.get("OB0") or common.BINARY
     if not os.access(program, os.X_OK):
         common.stop(f"there is no program {program}: make it with `make build`")

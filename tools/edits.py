@@ -1,12 +1,14 @@
 """The mutants of the crates: files of lines 'file: PATH', 'old: TEXT' and 'new: TEXT', in must-fail/ (`rt ci` tries those) and in
-wrong-bodies/ (`make wrong-bodies` tries those)."""
+wrong-bodies/ (`make wrong-bodies` tries those, and the edits of must-fail/ too).
+
+A line '# right: TEXT' after a 'new:' line, which the kit ignores, is the right text in the form of the new one. With it the function
+has to be proved: then the wrong value is what the prover refuses, and not the form."""
 from __future__ import annotations
 
-import hashlib
 import os
 import re
-from collections.abc import Callable, Iterable
-from typing import Dict, NamedTuple, Optional, Tuple
+from collections.abc import Iterable
+from typing import Dict, List, NamedTuple, Optional, Tuple
 
 import common
 import reading
@@ -14,6 +16,15 @@ import reading
 Lines = Dict[Tuple[str, int], str]  # the lines that an edit changes, by path and number
 OF_KIT, OTHERS = "must-fail", "wrong-bodies"
 PLACES = (OF_KIT, OTHERS)
+RIGHT_LINE, RIGHT = "# right:", ":right"  # how the line of a right text begins, and how the path of a right form ends
+LOOPS = r"\b(?:for|while|loop)\b"
+# What a mutant may add that makes goals without written answers.
+FORMS = {
+    "a branch": r"\b(?:if|match|else)\b",
+    "a return": r"\breturn\b",
+    "a function": r"\bfn\b",
+    "a closure": r"(?:^|[(,=]|\bmove) ?\|[^|]*\|(?!\|)",
+}
 CLAUSES = r"the clause|the one goal|the loop|the invariant|(?:the clause )?`\w+`(?: and `\w+`)*"
 FIRST_LINE = re.compile(rf"# (?:.*: r|R)efused by ({CLAUSES}) of `([\w:]+)`")
 
@@ -74,17 +85,33 @@ def claim_of(text: str) -> Optional[Claim]:
     return Claim(found[2], tuple(re.findall(r"`(\w+)`", found[1])) or (found[1],))
 
 
-class Edit:
-    """One mutant: the lines that it changes, the functions that these belong to, and the claim of its first line."""
+class Pair(NamedTuple):
+    """A text that an edit replaces: its file, the old text, the new one, and the right one in the new one's form, if the edit gives it."""
 
-    def __init__(self, crate: str, place: str, name: str) -> None:
-        self.crate, self.name = crate, f"{place}/{name}"
+    path: str
+    old: str
+    new: str
+    right: Optional[str]
+
+
+class Edit:
+    """One form of a mutant, the wrong one or the right one: the lines that it changes, the functions that these belong to, and the
+    claim of the mutant's first line. `why` says why it can't be tried."""
+
+    def __init__(self, crate: str, place: str, name: str, is_right: bool = False) -> None:
+        self.crate, self.name, self.is_right = crate, f"{place}/{name}", is_right
         self.file = os.path.join(common.TOP, "crates", crate, place, name)
-        self.lines, self.why = changed_lines(self.file, os.path.join(common.TOP, "crates", crate))
-        self.adds_loop = loops_added(self.file) > 0
-        self.turned: set[reading.Function] | None = None
         with open(self.file, encoding="utf-8") as it:
-            self.claim = claim_of(it.readline())
+            text = it.read()
+        self.claim = claim_of(text)
+        self.pairs, self.why = pairs_of(text)
+        if is_right and not self.why:
+            self.why = why_no_right_form(self.pairs)
+        self.lines: Lines = {}
+        if not self.why:
+            self.lines, self.why = changed_lines(self.replacements(), os.path.join(common.TOP, "crates", crate))
+        self.adds_loop = added(self.pairs, LOOPS) > 0
+        self.turned: set[reading.Function] | None = None
 
     @property
     def is_of_kit(self) -> bool:
@@ -93,27 +120,72 @@ class Edit:
 
     @property
     def path(self) -> str:
-        return f"{self.crate}/{self.name}"
+        return f"{self.crate}/{self.name}{RIGHT if self.is_right else ''}"
+
+    @property
+    def has_right_form(self) -> bool:
+        return any(it.right is not None for it in self.pairs)
+
+    @property
+    def needs_right_form(self) -> bool:
+        """Whether it adds a branch, a return, a function or a closure, so that the prover may refuse its form whatever it does."""
+        return any(added(self.pairs, it) > 0 for it in FORMS.values())
+
+    @property
+    def checked_as(self) -> List[str]:
+        """What the checker calls the functions that it changes and those that it adds beside them."""
+        turned = [it.checked_as for it in self.turned or ()]
+        names = [name for _, old, new in self.replacements() for name in re.findall(r"\bfn (\w+)", new) if f"fn {name}" not in old]
+        return turned + ["::".join([*turned[0].split("::")[:-1], it]) for it in names if turned]
+
+    def replacements(self) -> List[Tuple[str, str, str]]:
+        """The texts that this form replaces: (file, old text, new text)."""
+        return [(it.path, it.old, it.right if self.is_right and it.right is not None else it.new) for it in self.pairs]
 
     def find_turned(self, source: reading.Source) -> None:
         """Finds the functions that it changes: None where a line belongs to none, as a type's does."""
         self.turned = turned_by(source, self.lines)
 
-    def sum_over(self, source: reading.Source) -> str:
-        """A sum over what it changes: the words of each function with its contract, comments and layout apart, and its own lines
-        but the first."""
-        with open(self.file, encoding="utf-8") as file:
-            parts = [line.rstrip() for line in file if not line.startswith("#")]
-        if self.turned is None:
-            parts += [" ".join(source.all_words(path)) for path in sorted({path for path, _ in self.lines})]
-        else:
-            parts += sorted(f"{it.path} {' '.join(source.words_with_contract(it))}" for it in self.turned)
-        return hashlib.sha256("\n".join(parts).encode()).hexdigest()[:16]
+
+def added(pairs: Iterable[Pair], pattern: str, of_right: bool = False) -> int:
+    """How many matches of a pattern more the new texts have than the old ones, texts in quotes apart; or the right texts."""
+
+    def count(text: str) -> int:
+        return len(re.findall(pattern, re.sub(r'"[^"]*"', '""', text)))
+
+    return sum(count(it.right if of_right and it.right is not None else it.new) - count(it.old) for it in pairs)
+
+
+def why_no_right_form(pairs: Iterable[Pair]) -> Optional[str]:
+    """Why the right texts aren't the right body in the form of the new ones, if they aren't."""
+    pairs = list(pairs)
+    rights = [it.new if it.right is None else it.right for it in pairs]
+    if all(right.split() == it.old.split() for right, it in zip(rights, pairs)):
+        return "the right form is the old text, so the new form wasn't tried"
+    if all(right.split() == it.new.split() for right, it in zip(rights, pairs)):
+        return "the right form is the wrong one"
+    lacking = [name for name, it in FORMS.items() if added(pairs, it, True) < added(pairs, it)]
+    return f"the right texts lack {' and '.join(lacking)} of the new ones, so their form wasn't tried" if lacking else None
 
 
 def has(crate: str, place: str) -> bool:
     """Whether a crate has mutants in a folder."""
     return os.path.isdir(os.path.join(common.TOP, "crates", crate, place))
+
+
+def forms_of(crate: str, source: reading.Source | None = None) -> list[Edit]:
+    """A crate's mutants, of both places, each followed by its right form if it has one."""
+    found = [form for it in edits_of(crate) for form in (it, right_form(it)) if form]
+    if source:
+        for edit in found:
+            edit.find_turned(source)
+    return found
+
+
+def right_form(edit: Edit) -> Optional[Edit]:
+    """The right body in a mutant's form, if the mutant gives it."""
+    place, _, name = edit.name.partition("/")
+    return Edit(edit.crate, place, name, True) if edit.has_right_form else None
 
 
 def edits_of(crate: str, source: reading.Source | None = None) -> list[Edit]:
@@ -129,48 +201,48 @@ def edits_of(crate: str, source: reading.Source | None = None) -> list[Edit]:
     return found
 
 
-def changed_lines(file: str, folder: str) -> tuple[Lines, str | None]:
-    """The lines that an edit changes, as {(path, number): text}, or why it can't be applied."""
-    with open(file, encoding="utf-8") as it:
-        rows = it.read().split("\n")
+def pairs_of(text: str) -> Tuple[List[Pair], Optional[str]]:
+    """The texts that an edit replaces, or why it can't be applied."""
     path, old = "", ""
-    texts: dict[str, str] = {}
-    before: dict[str, str] = {}
-    for row in rows:
+    found: List[Pair] = []
+    for row in text.split("\n"):
         if row.startswith("file: "):
             path = row[len("file: ") :].strip()
         elif row.startswith("old: "):
             old = row[len("old: ") :]
         elif row.startswith("new:"):
             if not path.startswith(("src/", "specs/", "proofs/")) or not old:
-                return {}, "a 'new:' line is before any 'file:' or 'old:' line"
-            if path not in texts:
-                try:
-                    with open(os.path.join(folder, path), encoding="utf-8") as it:
-                        texts[path] = before[path] = it.read()
-                except OSError:
-                    return {}, f"there is no file {path}"
-            count = texts[path].count(old)
-            if count != 1:
-                return {}, f"an 'old:' text is in {path} {count} times, and not once"
-            texts[path] = texts[path].replace(old, re.sub(r"\A ", "", row[len("new:") :]))
+                return [], "a 'new:' line is before any 'file:' or 'old:' line"
+            found.append(Pair(path, old, re.sub(r"\A ", "", row[len("new:") :]), None))
             old = ""
-    if not texts:
-        return {}, "it has no 'old:' and 'new:' pair"
+        elif row.startswith(RIGHT_LINE):
+            if not found or old or found[-1].right is not None:
+                return [], "a right form isn't after its 'new:' line"
+            found[-1] = found[-1]._replace(right=row[len(RIGHT_LINE) + 1 :])
+    return found, None if found else "it has no 'old:' and 'new:' pair"
+
+
+def changed_lines(replacements: Iterable[Tuple[str, str, str]], folder: str) -> tuple[Lines, str | None]:
+    """The lines that replacements change, as {(path, number): text}, or why they can't be made."""
+    texts: dict[str, str] = {}
+    before: dict[str, str] = {}
+    for path, old, new in replacements:
+        if path not in texts:
+            try:
+                with open(os.path.join(folder, path), encoding="utf-8") as it:
+                    texts[path] = before[path] = it.read()
+            except OSError:
+                return {}, f"there is no file {path}"
+        count = texts[path].count(old)
+        if count != 1:
+            return {}, f"an 'old:' text is in {path} {count} times, and not once"
+        texts[path] = texts[path].replace(old, new)
     found: Lines = {}
     for path, text in texts.items():
         for number, (was, now) in enumerate(zip(before[path].split("\n"), text.split("\n")), 1):
             if was != now:
                 found[path, number] = now
     return found, None if found else "it changes nothing"
-
-
-def loops_added(file: str) -> int:
-    """How many loops more an edit's new texts have than its old ones."""
-    with open(file, encoding="utf-8") as it:
-        rows = [re.sub(r'"[^"]*"', "", row) for row in it.read().split("\n")]
-    count: Callable[[str], int] = lambda start: sum(len(re.findall(r"\b(?:for|while|loop)\b", row)) for row in rows if row.startswith(start))
-    return count("new:") - count("old: ")
 
 
 def turned_by(source: reading.Source, lines: Iterable[tuple[str, int]]) -> set[reading.Function] | None:

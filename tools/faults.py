@@ -1,10 +1,10 @@
 #!/usr/bin/env python3
-"""What is done to the program beyond the end-to-end tests, since it takes long: each allocation fails in turn, of longer
-conversations and commands, and of the tests of the crates that are made for it (`a_refused_..`); one long conversation; many
+"""Runs the tests that take longer than the end-to-end tests may: each allocation fails, one at a time, in longer conversations
+and commands, and in the tests of the crates that are made for it (`a_refused_..`); one long conversation; many
 random changes of documents; many random modules, run by the program and by the reference; one long conversation about several
-documents, each answer compared with that of a server that keeps nothing; many changes by keys in editors.
+documents, each answer compared with a new server's; many changes by keys in editors.
 
-  tools/faults.py [WORD..]   what has one of these words in its name; with no word all of it
+  tools/faults.py [WORD..]   only the tests with one of these words in their names
 
 It runs bin/ob0 (or the program that the variable OB0 names) and the programs of tests that `make test` or `rt test` left in
 crates/NAME/out. OB0_LONG is how many messages each long conversation has (100,000), OB0_CHANGES how many random changes are

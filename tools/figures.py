@@ -21,7 +21,7 @@ def rows() -> dict[str, str]:
 
 
 def summed(lines: list[str]) -> str:
-    """The phrases of several runs as those of one: the sum of the numbers before the same words, and how many runs they were."""
+    """Joins the phrases of several runs: the sum of the numbers before the same words, and the number of runs."""
     counts: Counter[str] = Counter()
     for phrase in "; ".join(lines).split("; "):
         number, _, words = phrase.partition(" ")
@@ -46,7 +46,7 @@ def keep(found: dict[str, str], program: str) -> None:
 
 
 def has(text: str, phrase: str) -> bool:
-    """Whether a phrase is in a text, and its first number isn't the end of another."""
+    """Returns whether a phrase is in a text, and its first number isn't the end of another."""
     return phrase in text and bool(re.search(rf"(?<![\d.,]){re.escape(phrase)}(?!\d|[.,]\d)", text))
 
 
@@ -73,7 +73,7 @@ def rows_of(page: str, phrases: str) -> list[str]:
 
 
 def has_row(page: str, words: str, phrase: str) -> bool:
-    """Whether a row of a page's tables has these words and this phrase."""
+    """Returns whether a row of a page's tables has these words and this phrase."""
     return any(words in line for line in rows_of(page, phrase))
 
 

@@ -9,7 +9,7 @@ SWEEPS = 12
 
 
 def depth_of(name: str, arrows: Arrows) -> int:
-    """How many arrows are below a node, on the longest way down."""
+    """Returns how many arrows are below a node, on the longest way down."""
     return max((1 + depth_of(it, arrows) for it in arrows[name]), default=0)
 
 

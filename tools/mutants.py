@@ -1,11 +1,12 @@
 #!/usr/bin/env python3
-"""Tries the mutants of crates/*/wrong-bodies: the prover has to refuse each by the clause that its first line names.
+"""Tries the mutants of the crates: the prover has to refuse each by the clause that its first line names, and to prove its right form.
 
-  tools/mutants.py [--lanes N] [--quiet] [CRATE..]  those that weren't refused yet in their present form, of all crates if none is named
-  tools/mutants.py CRATE/WORD..                     those of a crate with this word in their path, refused or not, of must-fail/ too
+  tools/mutants.py [--lanes N] [--quiet] [CRATE..]  those whose row isn't of their present form, of all crates if none is named
+  tools/mutants.py CRATE/WORD..                     those of a crate with this word in their path, whatever their rows say
   tools/mutants.py --all [CRATE..]                  all of them
-  tools/mutants.py --part N --from K                those that a run of `make test` has tried, by the two numbers that it printed
-  tools/mutants.py --left [CRATE..]                 lists those that weren't refused yet in their present form, and tries none
+  tools/mutants.py --from N                         those that a run of `make test` has tried, by the number that it printed
+  tools/mutants.py --left [CRATE..]                 lists those whose row isn't of their present form, and tries none
+  tools/mutants.py --renamed COMMIT                 keeps the rows of a commit if nothing but names changed since
 
 First the crates and those below them are proved over kept work, as `make check` does. Then up to some twenty mutants of a crate are
 in one check (`rattle check --only` the functions that they change, over a copy of the crate's kept proofs): the checker judges each
@@ -14,14 +15,15 @@ that isn't proved, and isn't refused by its clause, is tried again among others 
 there, or is proved, is tried alone.
 
 A mutant is refused by its clause if a goal of the clause that its first line names isn't proved, or an answer doesn't prove such a
-goal any more. One that only something else refuses, as what a callee requires, is listed as refused elsewhere. What each came to is written into tools/mutants.txt after each check (tools/verdicts.py),
-so a run that is ended can be resumed.
+goal any more. One that only something else refuses, as what a callee requires, is listed as refused elsewhere. A right form is in
+checks without wrong ones, and has to be proved. What each came to is written into tools/mutants.txt after each check
+(tools/verdicts.py), so a run that is ended can be resumed.
 
-`make test` calls `try_some` after `rt ci`, over the libraries that it has just proved. It tries two eightieths of the mutants: a part
-by the commit's hash, whatever their rows say, and as many that were refused before by their rows, drawn at random in the run: no
-committer chooses which rows are tested. The edits of crates/*/must-fail are tried by `rt ci` itself (tools/refusals.py).
+`make test` calls `try_some` after `rt ci`, over the libraries that it has just proved. It tries 24 mutants with their right forms,
+whatever their rows say: those from a number on that is drawn in the run, so no committer chooses which rows are tested. `rt ci` also
+tries the edits of crates/*/must-fail itself (tools/refusals.py).
 
-The status is 1 if a mutant isn't refused by its clause, or could not be tried; with --left, if there are any."""
+The status is 1 if a form isn't as it has to be, or could not be tried; with --left, if there are any."""
 from __future__ import annotations
 
 import argparse
@@ -40,6 +42,8 @@ import checks
 import common
 import edits
 import reading
+import renaming
+import sums
 from checks import Said
 from common import TOP
 from edits import Edit
@@ -48,10 +52,15 @@ from verdicts import Mutants, is_met
 
 # Where `make check` keeps a crate's proofs, and where a run of `try_some` does.
 OF_CRATE, OF_RUN = os.path.join(TOP, "crates", "{}", "out", "incremental"), os.path.join(build.ROOMS, "kept", "{}")
-PARTS = 80  # `make test` tries one of so many parts, and as many again
+DRAWN = 24  # how many mutants `make test` tries
 MOST = 24  # mutants in one check: with more it takes much memory, and the others wait for it
 REFUSED, ELSEWHERE, PROVED, NOT_JUDGED = "refused", "elsewhere", "PROVED", "not judged"
-WORDS = (REFUSED, ELSEWHERE, PROVED, NOT_JUDGED)
+RIGHT, RIGHT_REFUSED = "proved", "RIGHT FORM REFUSED"  # what a right form comes to
+WORDS = {
+    REFUSED: "refused by their clause", RIGHT: "right forms proved", ELSEWHERE: "refused elsewhere", PROVED: "proved",
+    RIGHT_REFUSED: "right forms not proved", NOT_JUDGED: "not judged",
+}  # fmt: skip
+AS_IT_MUST_BE = (REFUSED, RIGHT)
 # How a mutant is tried: among others, among others of which none stands on another, alone.
 AMONG, APART, ALONE = range(3)
 
@@ -67,6 +76,10 @@ class Verdict(NamedTuple):
     def row(self) -> str:
         """The verdict as tools/mutants.txt has it."""
         return self.goal if self.word == REFUSED else f"{self.word} {self.goal}".rstrip()
+
+    @property
+    def is_well(self) -> bool:
+        return self.word in AS_IT_MUST_BE
 
 
 # (what `rt ci` says of a crate that it has proved, or that an earlier run on the machine has)
@@ -91,6 +104,9 @@ def judge(edit: Edit, said: Said, source: reading.Source, alone: bool) -> Option
         return Verdict(NOT_JUDGED, f"it can't be read, so no contract was tried: {error}")
     symbols = checks.symbols_of(said, source.proved_with(edit.turned or ()))
     refused = [(it, proof) for it, proof in symbols.items() if said.own(it)]
+    if edit.is_right:
+        added = [it for it in said.verdicts if any(it.endswith(f"::{name}") for name in edit.checked_as)]
+        return judge_right(said, {**dict.fromkeys(added, ""), **symbols}, alone)
     if refused:
         found = refusal(edit, said, refused)
         # (of a function that stands on one that isn't proved not all goals need have been tried)
@@ -104,6 +120,21 @@ def judge(edit: Edit, said: Said, source: reading.Source, alone: bool) -> Option
         return Verdict(PROVED, "what it turns is still proved with it")
     others = [(it, "") for it in said.verdicts if said.own(it)]
     return refusal(edit, said, others) if others else Verdict(NOT_JUDGED, f"no function was judged: {said.text[-300:]}")
+
+
+def judge_right(said: Said, symbols: Dict[str, str], alone: bool) -> Optional[Verdict]:
+    """What a check says of a right form. (Among others one may wait for another that isn't proved.)"""
+    if symbols and all(said.verdicts[it].startswith("proved") for it in symbols) and (said.ended or not alone):
+        return Verdict(RIGHT, "proved")
+    if not alone:
+        return None
+    if not said.ended:
+        return Verdict(NOT_JUDGED, f"the check did not reach the prover: {said.text[-300:]}")
+    unproved = [(it, proof) for it, proof in symbols.items() if not said.verdicts[it].startswith("proved")]
+    if not unproved:
+        return Verdict(NOT_JUDGED, f"no function was judged: {said.text[-300:]}")
+    goals = [f"{edits.name_of(goal)} of {proof or '?'}" for it, proof in unproved for goal in said.refusing(it, proof)]
+    return Verdict(RIGHT_REFUSED, f"{unproved[0][0].partition('::')[2]}: {said.why(*unproved[0])}", goals[0] if goals else "")
 
 
 def refusal(edit: Edit, said: Said, refused: List[Tuple[str, str]]) -> Verdict:
@@ -137,7 +168,9 @@ class Crate:
         self.running, self.checks = 0, 0
 
     def first(self) -> List[Group]:
-        return [Group(it, AMONG) for it in self.groups([it for it in self.chosen if not it.why], False)]
+        """Right forms apart from wrong ones."""
+        forms = [[it for it in self.chosen if not it.why and it.is_right == is_right] for is_right in (False, True)]
+        return [Group(it, AMONG) for some in forms if some for it in self.groups(some, False)]
 
     def groups(self, left: List[Edit], is_apart: bool) -> List[List[Edit]]:
         """Groups of mutants, each for one check, of which no two have one proof. In a group few stand on another, or none."""
@@ -183,16 +216,19 @@ class Crate:
         apart = [it for it, how in self.next.items() if how == APART]
         alone = [it for it, how in self.next.items() if how == ALONE]
         self.next = {}
-        return [Group(it, APART) for it in self.groups(apart, True)] + [Group([it], ALONE) for it in alone]
+        found = [Group([it], ALONE) for it in alone]
+        for is_right in (False, True):
+            found += [Group(it, APART) for it in self.groups([it for it in apart if it.is_right == is_right], True)]
+        return found
 
-    def counts(self) -> List[int]:
-        return [sum(it.word == word for it in self.found.values()) for word in WORDS]
+    def counts(self) -> Dict[str, int]:
+        return {word: sum(it.word == word for it in self.found.values()) for word in WORDS}
 
 
 def check(crate: str, chosen: List[Edit], libraries: checks.Libraries, keeps: str) -> Said:
     """Checks the functions that some mutants of a crate change, over a copy of the kept proofs. (What a check keeps it writes into
     new files: the links leave what is kept as it is.) If nothing is kept there yet, it leaves what it keeps itself."""
-    asked: List[List[str]] = [sorted({it.checked_as for edit in chosen for it in edit.turned or ()}), []]
+    asked: List[List[str]] = [sorted({name for edit in chosen for name in edit.checked_as}), []]
     said, kept = Said("a library that it rests on is missing", 2), keeps.format(crate)
     for only in asked:
         words = libraries.words(crate, only)
@@ -225,10 +261,9 @@ def proofs(edit: Edit) -> Set[str]:
     return {it.proof for it in edit.turned or ()}
 
 
-def said_of(counts: Iterable[int]) -> str:
+def said_of(counts: Dict[str, int]) -> str:
     """The counts of a run."""
-    words = ("refused by their clause", "refused elsewhere", "proved", "not judged")
-    return ", ".join(f"{count} {word}" for count, word in zip(counts, words))
+    return ", ".join(f"{count} {WORDS[word]}" for word, count in counts.items())
 
 
 class Run:
@@ -274,87 +309,77 @@ class Run:
         """Says what the mutants of a crate came to."""
         for edit in crate.chosen:
             verdict = crate.found[edit]
-            if not self.is_quiet or verdict.word != REFUSED:
+            if not self.is_quiet or not verdict.is_well:
                 print(f"  {verdict.word:<10}  {edit.path}: {verdict.why}")
         print(f"{crate.name}: {said_of(crate.counts())}, in {crate.checks} checks", flush=True)
 
-    def counts(self) -> List[int]:
+    def counts(self) -> Dict[str, int]:
         """How many came to each word, over all crates."""
-        return [sum(it) for it in zip([0] * len(WORDS), *(it.counts() for it in self.crates))]
+        return {word: sum(it.counts()[word] for it in self.crates) for word in WORDS}
+
+    def failed(self) -> int:
+        """How many aren't as they have to be."""
+        return sum(count for word, count in self.counts().items() if word not in AS_IT_MUST_BE)
 
 
-def crates_of(chosen: Iterable[Edit], sources: Dict[str, reading.Source], most: int = MOST) -> List[Crate]:
+def crates_of(chosen: Iterable[Edit], parts: sums.Parts, most: int = MOST) -> List[Crate]:
     """The crates of some mutants, each with its own, and at most so many in one check."""
     found: Dict[str, List[Edit]] = {}
     for edit in chosen:
         found.setdefault(edit.crate, []).append(edit)
-    return [Crate(name, own, sources[name], most) for name, own in found.items()]
+    return [Crate(name, own, parts.source(name), most) for name, own in found.items()]
 
 
-def part_of_commit() -> int:
-    """The part, from 1, that the commit's hash names; 1 outside a repository of git."""
-    return int(common.commit(), 16) % PARTS + 1
+def draw(mutants: Mutants) -> int:
+    """A number of a mutant at random, from 1. The system draws it, so nobody can choose it by a commit, an option or a variable of
+    the environment."""
+    return secrets.randbelow(len(mutants.mutants)) + 1
 
 
-def part_of(paths: Iterable[str], number: int) -> List[str]:
-    """One of the parts of some paths, from 1. The paths of a crate are side by side, so a part needs few checks."""
-    found = sorted(paths)
-    return found[(number - 1) * len(found) // PARTS : number * len(found) // PARTS]
-
-
-def drawn_from(mutants: Mutants) -> int:
-    """A number at random, from 1, of a mutant that was refused before by its row; 1 if none was. The system draws it, so nobody can
-    choose it by a commit, an option or a variable of the environment."""
-    return secrets.randbelow(max(1, len(mutants.current))) + 1
-
-
-def neighbours(mutants: Mutants, number: int) -> List[str]:
-    """As many of the mutants that were refused before as a part has, from the one with this number on, and then from the first."""
-    found = mutants.current
-    return [found[(number - 1 + it) % len(found)] for it in range(min(len(found), len(mutants.edits) // PARTS))]
+def drawn_from(mutants: Mutants, number: int) -> List[Edit]:
+    """Some mutants, from the one with this number on, and then from the first; each with its right form. (Neighbours are of one crate
+    or two, so they need few checks.)"""
+    found = mutants.mutants
+    paths = [found[(number - 1 + it) % len(found)] for it in range(min(len(found), DRAWN))]
+    return [mutants.edits[it] for path in paths for it in (path, path + edits.RIGHT) if it in mutants.edits]
 
 
 def try_some(libraries: checks.Libraries) -> Tuple[int, int]:
-    """Tries the commit's part of the mutants, and some drawn ones that were refused before, over the libraries that `rt ci` proved.
-    Returns how many were refused by their clause, and how many weren't; a mutant over a crate that isn't proved counts among these.
-    Nothing is written."""
+    """Tries some drawn mutants over the libraries that `rt ci` proved. Returns how many forms are as they have to be, and how many
+    aren't; a mutant over a crate that isn't proved counts among these. Nothing is written."""
     mutants = Mutants()
-    of_commit, drawn = part_of_commit(), drawn_from(mutants)
-    chosen = [mutants.edits[it] for it in dict.fromkeys(part_of(mutants.edits, of_commit) + neighbours(mutants, drawn))]
-    print(f"part {of_commit} of {PARTS}, by the commit's hash, and of the {len(mutants.current)} that were refused before those from "
-          f"number {drawn} on, drawn in this run: {len(chosen)} of {len(mutants.edits)} mutants; "
-          f"`tools/mutants.py --part {of_commit} --from {drawn}` tries them again", flush=True)  # fmt: skip
+    number = draw(mutants)
+    chosen = drawn_from(mutants, number)
+    print(f"{DRAWN} of {len(mutants.mutants)} mutants, those from number {number} on, drawn in this run, with their right forms; "
+          f"`tools/mutants.py --from {number}` tries them again", flush=True)  # fmt: skip
     # (few in a check, so that all processors have some)
     lanes = build.lanes()
-    run = Run(crates_of(chosen, mutants.sources, -(-len(chosen) // (2 * lanes))), lanes, lambda settled: None)
+    run = Run(crates_of(chosen, mutants.parts, -(-len(chosen) // (2 * lanes))), lanes, lambda settled: None)
     run.try_all(libraries, OF_RUN)
-    counts = run.counts()
-    return counts[0], sum(counts[1:])
+    return len(chosen) - run.failed(), run.failed()
 
 
 def chosen_of(named: Dict[str, List[str]], mutants: Mutants, takes_all: bool) -> List[Edit]:
-    """The mutants of some crates that have one of some words in their path: without a word those that weren't refused yet in their
-    present form, or all."""
+    """The forms of some crates that have one of some words in their path: without a word those whose row isn't of their present form,
+    or all."""
     found = []
-    for crate, wanted in named.items():
-        source = mutants.sources.setdefault(crate, reading.Source(crate))
-        for edit in edits.edits_of(crate, source):
-            by_word = any(word and word in edit.name for word in wanted)
-            is_left = not edit.is_of_kit and "" in wanted and (takes_all or not mutants.is_current(edit.path))
-            found += [edit] * (by_word or is_left)
+    for path, edit in sorted(mutants.edits.items()):
+        wanted = named.get(edit.crate, [])
+        by_word = any(word and word in edit.name for word in wanted)
+        is_left = "" in wanted and (takes_all or not mutants.is_current(path))
+        found += [edit] * (by_word or is_left)
     return found
 
 
 def try_chosen(chosen: List[Edit], mutants: Mutants, options: argparse.Namespace) -> int:
     """Tries some mutants, and keeps what they came to."""
-    crates = crates_of(chosen, mutants.sources)
+    crates = crates_of(chosen, mutants.parts)
     if crates and build.prove_libraries([it.name for it in crates]):
         return 1
 
     def keep(settled: Dict[Edit, Verdict]) -> None:
         for edit, verdict in settled.items():
-            if not edit.is_of_kit:
-                mutants.keep(edit.path, mutants.sums[edit.path], verdict.row)
+            mutants.keep(edit.path, mutants.sums[edit.path], verdict.row)
         mutants.write()
 
     run = Run(crates, options.lanes, keep, options.quiet)
@@ -365,14 +390,15 @@ def try_chosen(chosen: List[Edit], mutants: Mutants, options: argparse.Namespace
     spent = os.times()
     took = f"{run.timer}, of the processors {common.clock(spent.children_user + spent.children_system)}"
     print(f"{said_of(run.counts())}, in {sum(it.checks for it in crates)} checks, {options.lanes} side by side: {took}")
-    return 1 if any(run.counts()[1:]) else 0
+    return 1 if run.failed() else 0
 
 
 def list_left(chosen: List[Edit], mutants: Mutants) -> int:
-    """Lists some mutants that weren't refused yet in their present form, each with what it came to in another."""
+    """Lists some forms whose row isn't of their present form, each with what it came to in another."""
     for edit in chosen:
         print(mutants.row(edit.path).line)
-    print(f"{len(chosen)} of {len(mutants.edits)} mutants weren't refused yet in their present form")
+    of_right = len(mutants.edits) - len(mutants.mutants)
+    print(f"{len(chosen)} of {len(mutants.mutants)} mutants and {of_right} right forms have no row of their present form")
     return 1 if chosen else 0
 
 
@@ -382,8 +408,8 @@ def main(given: List[str]) -> int:
     words.add_argument("--quiet", action="store_true")
     words.add_argument("--all", action="store_true")
     words.add_argument("--left", action="store_true")
-    words.add_argument("--part", type=int, metavar="N")
-    words.add_argument("--from", type=int, dest="start", metavar="K")
+    words.add_argument("--from", type=int, dest="start", metavar="N")
+    words.add_argument("--renamed", metavar="COMMIT")
     words.add_argument("crates", nargs="*", metavar="CRATE[/WORD]")
     options = words.parse_args(given)
     common.need("rt")
@@ -394,16 +420,13 @@ def main(given: List[str]) -> int:
     unknown = [it for it in named if it not in common.libraries()]
     if unknown:
         common.stop(f"crates.txt names no crate {', '.join(unknown)}")
-    has_numbers = options.part is not None or options.start is not None
-    if has_numbers and (options.crates or options.all or options.left or options.part not in {None, *range(1, PARTS + 1)}):
-        common.stop(f"--part takes 1 to {PARTS}, and --part and --from take no other words")
     mutants = Mutants()
-    if options.start is not None and options.start not in range(1, len(mutants.current) + 1):
-        common.stop(f"--from takes 1 to {len(mutants.current)}: so many were refused before")
-    if has_numbers:
-        of_part = [] if options.part is None else part_of(mutants.edits, options.part)
-        drawn = [] if options.start is None else neighbours(mutants, options.start)
-        chosen = [mutants.edits[it] for it in dict.fromkeys(of_part + drawn)]
+    if options.renamed:
+        return renaming.keep_rows(options.renamed, mutants)
+    if options.start is not None:
+        if options.crates or options.start not in range(1, len(mutants.mutants) + 1):
+            common.stop(f"--from takes 1 to {len(mutants.mutants)}, and no crates")
+        chosen = drawn_from(mutants, options.start)
     else:
         chosen = chosen_of(named, mutants, options.all and not options.left)
     if options.left:

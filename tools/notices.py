@@ -1,5 +1,5 @@
-"""The notices of the kit's crates that the program is linked with. They are collected when the program is built and kept beside it,
-so that packing needs no kit."""
+"""The notices of the kit's crates that the program is linked with. They are collected when the program is built, and kept next to
+it, so that packing needs no kit."""
 from __future__ import annotations
 
 import json
@@ -61,7 +61,7 @@ def head() -> dict[str, str | None]:
 
 
 def keep() -> Notices:
-    """Collects the notices and writes them beside the program."""
+    """Collects the notices and writes them next to the program."""
     found = collected()
     with open(KEPT + ".new", "w", encoding="utf-8") as file:
         json.dump({**head(), "crates": found}, file, indent=1)
@@ -70,7 +70,7 @@ def keep() -> Notices:
 
 
 def of_program() -> Notices:
-    """The notices of the program that was built: those that were kept with it, or else those of the toolchain that is here."""
+    """Returns the notices of the built program: the ones kept with it, or else the notices of the installed toolchain."""
     try:
         with open(KEPT, encoding="utf-8") as file:
             kept = json.load(file)
@@ -90,7 +90,7 @@ def without(found: Notices) -> list[str]:
 
 
 def short_name(crate: str, file: str) -> str:
-    """How a page of copyrights names a notice."""
+    """Returns the name of a notice on a page of copyrights."""
     return crate + file.replace("LICENSE", "").replace("-MIT", "")
 
 

@@ -1,8 +1,9 @@
 #!/usr/bin/env python3
 """Packs and installs bin/ob0, the proved program, with its manual page, completions, editor files, pages and examples.
 
-  tools/package.py package                   a Debian package and a .tar.gz with the same tree, a .vsix with the extension for
-                                             VS Code if the modules that it needs are here, and their SHA256SUMS, in bin/
+  tools/package.py package [FOLDER]          a Debian package and a .tar.gz with the same tree, a .vsix with the extension for
+                                             VS Code if the modules that it needs are here, and their SHA256SUMS, in bin/ or
+                                             a folder; beside them TESTED, which says what was tested here and what wasn't
   tools/package.py vsix                      that .vsix alone
   tools/package.py install PREFIX DESTDIR    copies that tree to PREFIX
   tools/package.py uninstall PREFIX DESTDIR  removes what was installed there, or unpacked there from the .tar.gz
@@ -32,6 +33,7 @@ from typing import Any, Dict, NamedTuple, Tuple, Union
 
 import common
 import glibc
+import manual_page
 import notices
 import vsix
 from common import TOP, match_of
@@ -46,10 +48,13 @@ EXERCISES = "share/ob0/exercises"
 SHARED = {"bin", "share", "share/man"}
 # the one file that others hold the copyright of
 PARSER, PARSER_HOLDER = "editors/tree-sitter/src/tree_sitter/parser.h", "2018-2024 Max Brunsfeld"
+# the scripts beside the program, each with a manual page
+SCRIPTS = ("ob0-check", "ob0-format", "ob0-rename", "ob0-trace", "ob0-watch")
 DEFAULT_NAME, DEFAULT_ADDRESS = "The authors of ob0", "ob0@example.org"
 
-# where a file or a folder of the repository goes
+# the places of the repository's files and folders
 COPIED = {
+    "share/ob0": "share/ob0",
     "share/ob0.bash": "share/bash-completion/completions/ob0",
     "share/_ob0": "share/zsh/vendor-completions/_ob0",
     "share/ob0.fish": "share/fish/vendor_completions.d/ob0.fish",
@@ -75,8 +80,8 @@ COPIED = {
 # other names of a file or a folder of the tree (each file of EXERCISES has one below DOC); bash and fish load completions by the
 # command's name
 LINKED = {
-    **{f"share/bash-completion/completions/{it}": "share/bash-completion/completions/ob0" for it in ("ob0-format", "ob0-watch")},
-    **{f"share/fish/vendor_completions.d/{it}.fish": "share/fish/vendor_completions.d/ob0.fish" for it in ("ob0-format", "ob0-watch")},
+    **{f"share/bash-completion/completions/{it}": "share/bash-completion/completions/ob0" for it in SCRIPTS},
+    **{f"share/fish/vendor_completions.d/{it}.fish": "share/fish/vendor_completions.d/ob0.fish" for it in SCRIPTS},
     f"{NVIM}/ob0-vim": VIM,
     "share/zsh/site-functions/_ob0": "share/zsh/vendor-completions/_ob0",
     "share/gtksourceview-4/language-specs/oberon0.lang": "share/gtksourceview-5/language-specs/oberon0.lang",
@@ -182,16 +187,26 @@ def files_of(source: str) -> list[tuple[str, str]]:
     return [(os.path.relpath(it, source), it) for it in names_below(source) if keeps_pages or not it.endswith(".md")]
 
 
+PASSED = "`make test` has passed on this program"
+
+
 def verdict() -> str:
-    """The result of `make test` on the program that is packed."""
+    """The result of `make test` on the program that is packed. (How many tests were left out, and how many proofs were kept, depends
+    on the machine, so that is in the file TESTED and not in the package: each machine that tests a commit packs the same bytes.)"""
     line = common.stamp().get("gate")
     if not line:
         return "NOT TESTED: each function of this program is proved, and `make test` has not ended on it"
-    return line if " 0 failed" in line else f"FAILED: {line}, by `make test` on this program, each of whose functions is proved"
+    return PASSED if " 0 failed" in line else f"FAILED: {line}, by `make test` on this program, each of whose functions is proved"
+
+
+def tested() -> str:
+    """What was tested on this machine, and how much of the proofs was kept."""
+    found = common.stamp()
+    return f"{verdict()}\n" + "".join(f"{name}: {found[name]}\n" for name in ("gate", "proofs") if found.get(name))
 
 
 def proved() -> bytes:
-    """What is known of the proofs of the program that is packed."""
+    """Facts about the proofs of the packed program."""
     found = common.stamp()
     changed = ", with changes that are not committed" if has_changes() else ""
     rows = {
@@ -296,6 +311,12 @@ def indented(text: str) -> str:
     return "".join(f" {it.strip() and it or '.'}\n" for it in text.strip("\n").split("\n"))
 
 
+def messages_page() -> bytes:
+    """The manual page ob0-messages, of the day of all packed files."""
+    day = datetime.datetime.fromtimestamp(moment(), datetime.timezone.utc)
+    return manual_page.of_messages(read("docs", "MESSAGES.md").decode(), version(), f"{day:%Y-%m-%d}")
+
+
 def emacs_package() -> bytes:
     """The file by which Emacs knows the installed package."""
     line = f"""(define-package "ob0-mode" "{version()}" "Major mode for Oberon-0" '((emacs "26.1")))"""
@@ -320,11 +341,9 @@ def tree() -> Tree:
     """The paths below the prefix, each with its content (or its link) and its mode."""
     found: Tree = {
         "bin/ob0": (read("bin", "ob0"), 0o755),
-        "bin/ob0-format": (read("share", "ob0-format"), 0o755),
-        "bin/ob0-watch": (read("share", "ob0-watch"), 0o755),
-        "share/man/man1/ob0.1.gz": (squeezed(read("share", "ob0.1")), 0o644),
-        "share/man/man1/ob0-format.1.gz": (squeezed(read("share", "ob0-format.1")), 0o644),
-        "share/man/man1/ob0-watch.1.gz": (squeezed(read("share", "ob0-watch.1")), 0o644),
+        **{f"bin/{it}": (read("share", it), 0o755) for it in SCRIPTS},
+        **{f"share/man/man1/{it}.1.gz": (squeezed(read("share", f"{it}.1")), 0o644) for it in ("ob0", *SCRIPTS)},
+        "share/man/man7/ob0-messages.7.gz": (squeezed(messages_page()), 0o644),
         f"{DOC}/PROVED": (proved(), 0o644),
         f"{DOC}/changelog.gz": (squeezed(changelog()), 0o644),
         f"{DOC}/copyright": (copyright_page(), 0o644),
@@ -376,12 +395,12 @@ def archive(found: Tree, top: str, with_folders: bool) -> bytes:
 
 
 def list_of(files: Iterable[str], folders: Iterable[str]) -> str:
-    """The lines of the list: what is removed, in this order. A folder is removed where nothing else is in it."""
+    """The lines of the list: what is removed, in this order. A folder is removed if nothing else is in it."""
     return "".join(f"{it}\n" for it in [*files, *(f"{it}/" for it in sorted(folders, reverse=True))])
 
 
 def with_list(found: Tree) -> Tree:
-    """The tree with a list for its removal, which names the folders that ob0 may have been the first to need."""
+    """The tree with a list for its removal, which contains the folders that ob0 may have been the first to need."""
     folders = {*folders_of([*found, LIST])} - SHARED
     return {**found, LIST: (list_of([*found, LIST], folders).encode(), 0o644)}
 
@@ -398,15 +417,17 @@ Suggests: bash-completion, neovim | vim-ale | elpa-eglot | kate, kakoune
 Section: devel
 Priority: optional
 Description: language server, checker and interpreter for Oberon-0
- ob0 reports what is wrong with modules of Oberon-0, the small language of
- Niklaus Wirth's Compiler Construction, and runs them. For editors that speak
- the Language Server Protocol it answers hover, definition and references,
- and its renames, inlining of constants and layout keep what a module does.
+ ob0 reports the errors of modules in Oberon-0, the small language of Niklaus
+ Wirth's Compiler Construction, and runs valid modules. For editors that speak
+ the Language Server Protocol it answers hover, definition and references.
+ Its edits (rename, inlining a constant, formatting) keep what a module does.
  .
  The package has files for Neovim, Vim, Emacs, Kate, Kakoune, nano and editors
- with GtkSourceView, completions for bash, zsh and fish, and two scripts:
- ob0-format lays files out by what the server answers, and ob0-watch reports
- whether an editor keeps the rules under which ob0's promises hold.
+ with GtkSourceView, completions for bash, zsh and fish, and scripts:
+ ob0-check lists the errors of several files, ob0-format formats files,
+ ob0-rename renames in a file, ob0-trace says where a run ended with a fault,
+ and ob0-watch reports whether an editor keeps the rules under which ob0's
+ promises hold.
 """.encode()
 
 
@@ -458,7 +479,7 @@ def write_files(files: dict[str, bytes], folder: str) -> None:
 
 
 def write_packages(found: Tree, folder: str) -> None:
-    """Writes the packages of a tree to a folder, with their sums, and takes away those of earlier builds."""
+    """Writes the packages of a tree to a folder, with their sums, and removes the packages of earlier builds."""
     number = build_version()
     made = {
         f"ob0_{number}_amd64.deb": debian_package(found),
@@ -466,16 +487,31 @@ def write_packages(found: Tree, folder: str) -> None:
         **extension(),
     }
     sums = "".join(f"{hashlib.sha256(content).hexdigest()}  {name}\n" for name, content in made.items())
-    write_files({**made, "SHA256SUMS": sums.encode()}, folder)
-    for path in (it for pattern in EARLIER for it in glob.glob(os.path.join(folder, pattern))):
-        if os.path.basename(path) not in made:
-            remove(path)
+    write_files({**made, "SHA256SUMS": sums.encode(), "TESTED": tested().encode()}, folder)
+    remove_earlier(folder, made)
     print(sums, end="")
 
 
-def package() -> None:
-    write_packages(tree(), os.path.dirname(common.BINARY))
-    if not re.match(r"\d+ passed, 0 failed", verdict()):
+def remove_earlier(folder: str, made: Iterable[str] = ()) -> None:
+    """Removes the packages of earlier builds from a folder, except those that were just made."""
+    for path in (it for pattern in EARLIER for it in glob.glob(os.path.join(folder, pattern))):
+        if os.path.basename(path) not in made:
+            remove(path)
+
+
+def remove_untested() -> None:
+    """Removes packages from bin/ that say that their program isn't tested, with their sums."""
+    folder = os.path.dirname(common.BINARY)
+    path = os.path.join(folder, "TESTED")
+    if os.path.exists(path) and not read(path).startswith(PASSED.encode()):
+        remove_earlier(folder)
+        for it in ("SHA256SUMS", "TESTED"):
+            remove(os.path.join(folder, it))
+
+
+def package(folder: str) -> None:
+    write_packages(tree(), folder)
+    if verdict() != PASSED:
         print(f"this is not a package for others. PROVED says of its program: {verdict()}")
     if not os.environ.get("DEBEMAIL"):
         print(f"the maintainer's address is {DEFAULT_ADDRESS}, which is nobody's: DEBFULLNAME and DEBEMAIL name yours")
@@ -562,6 +598,7 @@ def room_of(prefix: str, root: str) -> str:
 
 def main(words: list[str]) -> None:
     command, *places = words
+    common.settle()
     try:
         if command == "notes":
             return notes()
@@ -569,7 +606,7 @@ def main(words: list[str]) -> None:
             return write_files(extension(), os.path.dirname(common.BINARY))
         if command == "package":
             need_program()
-            return package()
+            return package(*places or [os.path.dirname(common.BINARY)])
         prefix, root, *_ = (*places, "", "")
         room = room_of(prefix, root)
         if command == "uninstall":

@@ -1,18 +1,22 @@
 #!/usr/bin/env python3
-"""Counts how pages and comments are worded: forty phrases that a reader stumbles over, long sentences, comments without a verb.
+"""Counts how ob0's texts are worded: forty phrases that a reader stumbles over, long sentences, comments without a verb.
 
-  tools/prose.py              prints the totals, by phrase, of pages and of comments
+  tools/prose.py              prints the totals, by phrase and by kind of file
   tools/prose.py FILE..       prints each phrase and each long sentence of these files, with the words around it
   tools/prose.py --write      writes tests/prose.txt again, in which counts may fall and no sentence may be added
   tools/prose.py --write-all  writes it again, whatever rose
 
-tests/prose.txt has a line for each file with such phrases, and one for each long sentence of a page, with its first words."""
+The texts are pages, comments of crates, strings and comments of Python, whole files of editors, shells and examples, and the first lines
+of mutants. tests/prose.txt lists the files (of mutants the folders) with such phrases, and the first words of each long sentence."""
 from __future__ import annotations
 
+import ast
 import glob
+import io
 import os
 import re
 import sys
+import tokenize
 from collections import Counter
 from collections.abc import Iterator
 from typing import NamedTuple
@@ -20,9 +24,21 @@ from typing import NamedTuple
 import common
 
 LIST = os.path.join(common.TOP, "tests", "prose.txt")
-PAGES = ["*.md", "docs/**/*.md", "editors/**/*.md", "examples/**/*.md", "share/*.1"]
-GENERATED = ["docs/STATEMENT.md", "docs/SURFACE.md"]
-COMMENTED = ["crates/*/src/**/*.rt", "crates/*/specs/**/*.antt", "crates/*/proofs/**/*.antt"]
+# the files of each kind; of a folder of mutants the first lines are counted together
+KINDS = {
+    "pages": ["*.md", "docs/**/*.md", "editors/**/*.md", "examples/**/*.md", "share/*.1", "tools/statement.in"],
+    "crates": ["crates/*/src/**/*.rt", "crates/*/specs/**/*.antt", "crates/*/proofs/**/*.antt"],
+    "Python": ["tools/*.py", "tests/**/*.py", "bench/*.py", "examples/exercises/*.py", "share/ob0-format", "share/ob0-watch"],
+    "files": [
+        *("Makefile", "examples/*.mod", "share/_ob0", "share/*.bash", "share/*.fish", "share/emacs/*.el", "editors/**/*.el"),
+        *("editors/**/*.lua", "editors/**/*.vim", "editors/**/*.kak", "editors/**/*.toml", "editors/**/*.xml", "editors/**/*.lang"),
+        *("editors/*/*.js", "editors/nano/*", "editors/vim/doc/*.txt", "editors/vscode/*.json", "editors/tree-sitter/queries/**/*.scm"),
+    ],
+    "mutants": ["crates/*/wrong-bodies", "crates/*/must-fail"],
+}
+# made pages, and the two files that have the phrases themselves
+LEFT_OUT = {"docs/STATEMENT.md", "tools/prose.py", "tests/test_prose.py"}
+PRINTED = "crates/ob0_cli/src/line.rt"  # whose strings are help
 MOST_WORDS = 35
 SHOWN_WORDS = 8  # how many first words of a long sentence stand in the list
 
@@ -82,10 +98,10 @@ class Counts(NamedTuple):
     headless: int
 
 
-def files_of(patterns: list[str]) -> list[str]:
-    """The files that these patterns find, by their paths from the top, in order."""
-    found = {os.path.relpath(it, common.TOP) for each in patterns for it in glob.glob(os.path.join(common.TOP, each), recursive=True)}
-    return sorted(found - {*GENERATED})
+def files_of(kind: str) -> list[str]:
+    """Returns the paths of the files of this kind from the top, in order."""
+    paths = (it for pattern in KINDS[kind] for it in glob.glob(os.path.join(common.TOP, pattern), recursive=True))
+    return sorted({os.path.relpath(it, common.TOP) for it in paths} - LEFT_OUT)
 
 
 def read(path: str) -> str:
@@ -121,6 +137,11 @@ def paragraphs_of(page: str) -> list[str]:
     return [" ".join(it.split()) for it in re.split(r"\n\s*\n", text) if it.strip()]
 
 
+def without_code(text: str) -> str:
+    """Returns a text on one line, with a word for each part in backticks."""
+    return " ".join(re.sub(r"`[^`]*`", "`code`", text).split())
+
+
 def comments_of(path: str) -> list[str]:
     """The comments of a file of code or definitions, each on one line: those on lines of their own, one after the other, are one."""
     mark = "//[/!]?" if path.endswith(".rt") else "--"
@@ -131,8 +152,59 @@ def comments_of(path: str) -> list[str]:
             found[-1].append(comment[1] or "")
         elif found[-1]:
             found.append([])
-    texts = (re.sub(r"`[^`]*`", "`code`", " ".join(it)) for it in found)
-    return [" ".join(it.split()) for it in texts if it.strip()]
+    return [without_code(" ".join(it)) for it in found if "".join(it).strip()]
+
+
+def strings_of(tree: ast.AST) -> Iterator[str]:
+    """Yields the strings of a part of Python that have a blank. A string with values in it has a word for each."""
+    if isinstance(tree, ast.JoinedStr):
+        text = "".join(str(it.value) if isinstance(it, ast.Constant) else "`code`" for it in tree.values)
+    else:
+        text = tree.value if isinstance(tree, ast.Constant) and isinstance(tree.value, str) else ""
+        for it in ast.iter_child_nodes(tree):
+            yield from strings_of(it)
+    if " " in text:
+        yield text
+
+
+def comments_in_python(text: str) -> Iterator[str]:
+    """Yields the comments of a file in Python: those on lines one after the other are one."""
+    found: list[str] = []
+    line = 0
+    for it in tokenize.generate_tokens(io.StringIO(text).readline):
+        if it.type == tokenize.COMMENT:
+            if found and it.start[0] != line + 1:
+                yield " ".join(found)
+                found = []
+            found.append(it.string.lstrip("#! "))
+            line = it.start[0]
+    yield " ".join(found)
+
+
+def lines_of(path: str) -> str:
+    """Returns a file's text without the marks of comments at the starts of lines."""
+    return re.sub(r"^\s*(?:--|//|;+|#|\")+ ?", "", read(path), flags=re.M)
+
+
+def first_lines(folder: str) -> Iterator[str]:
+    """Yields the first line of each mutant of a folder."""
+    for file in sorted(glob.glob(os.path.join(common.TOP, folder, "*.edit"))):
+        yield read(file).partition("\n")[0].lstrip("# ")
+
+
+def texts_of(kind: str, path: str) -> list[str]:
+    """Returns the texts of a file that are counted, each on one line."""
+    if kind == "pages":
+        return paragraphs_of(path)
+    if kind == "crates":
+        printed = re.findall(r'(?<!//)"(?:[^"\\]|\\.)*"', read(path), re.S) if path == PRINTED else []
+        return comments_of(path) + [without_code(it.replace("\\\n", "")) for it in printed]
+    if kind == "Python":
+        text = read(path)
+        found = [*strings_of(ast.parse(text)), *comments_in_python(text)]
+    else:
+        found = [*first_lines(path)] if kind == "mutants" else [lines_of(path)]
+    return [without_code(it) for it in found if it.strip()]
 
 
 def sentences_of(paragraph: str) -> list[str]:
@@ -153,11 +225,14 @@ def phrases_in(texts: list[str]) -> Counter[str]:
 
 
 def counts() -> dict[str, Counts]:
-    """The counts of each file that has any."""
-    pages = {it: Counts(sum(phrases_in(paragraphs_of(it)).values()), 0) for it in files_of(PAGES)}
-    comments = {it: comments_of(it) for it in files_of(COMMENTED)}
-    others = {it: Counts(sum(phrases_in(texts).values()), sum(map(is_headless, texts))) for it, texts in comments.items()}
-    return {path: it for path, it in {**pages, **others}.items() if any(it)}
+    """Returns the counts of each file, or folder of mutants, that has any."""
+    found = {}
+    for kind in KINDS:
+        for path in files_of(kind):
+            texts = texts_of(kind, path)
+            headless = sum(map(is_headless, texts)) if kind in ("crates", "Python") else 0
+            found[path] = Counts(sum(phrases_in(texts).values()), headless)
+    return {path: it for path, it in found.items() if any(it)}
 
 
 def long_sentences(page: str) -> list[str]:
@@ -167,7 +242,7 @@ def long_sentences(page: str) -> list[str]:
 
 def beginnings() -> list[str]:
     """The page and the first words of each long sentence."""
-    return sorted(f"{page}: {' '.join(it.split()[:SHOWN_WORDS])} .." for page in files_of(PAGES) for it in long_sentences(page))
+    return sorted(f"{page}: {' '.join(it.split()[:SHOWN_WORDS])} .." for page in files_of("pages") for it in long_sentences(page))
 
 
 def lines() -> Iterator[str]:
@@ -194,35 +269,38 @@ def risen() -> list[str]:
     return higher + [*(Counter(beginnings()) - Counter(sentences)).elements()]
 
 
+def kind_of(path: str) -> str:
+    """Returns the kind of a file, or ends the program."""
+    kinds = [kind for kind in KINDS if path in files_of(kind)]
+    if not kinds:
+        common.stop(f"{path} isn't counted")
+    return kinds[0]
+
+
 def show(paths: list[str]) -> None:
     """Prints each phrase of these files with what is around it, each comment without a verb, and each long sentence."""
     for path in paths:
-        is_page = path.endswith((".md", ".1"))
-        texts = paragraphs_of(path) if is_page else comments_of(path)
+        kind = kind_of(path)
+        texts = texts_of(kind, path)
         for text in texts:
             for name, found in FOUND_BY.items():
                 for it in found.finditer(text):
                     print(f"{path}: {name}: .. {text[max(0, it.start() - 40) : it.end() + 40]} ..")
-        for text in [] if is_page else filter(is_headless, texts):
+        for text in filter(is_headless, texts if kind in ("crates", "Python") else []):
             print(f"{path}: no verb: {text[:100]}")
-        for text in long_sentences(path) if is_page else []:
+        for text in long_sentences(path) if kind == "pages" else []:
             print(f"{path}: {len(text.split())} words: {text}")
 
 
 def show_totals() -> None:
-    """Prints how often each phrase is in pages and in comments, and the other totals."""
-    pages = phrases_in([it for path in files_of(PAGES) for it in paragraphs_of(path)])
-    comments: Counter[str] = Counter()
-    headless = 0
-    for path in files_of(COMMENTED):
-        texts = comments_of(path)
-        comments += phrases_in(texts)
-        headless += sum(map(is_headless, texts))
+    """Prints how often each phrase is in each kind of file, and the other totals."""
+    found = {kind: phrases_in([it for path in files_of(kind) for it in texts_of(kind, path)]) for kind in KINDS}
+    print(f"{'':24}" + "".join(f"{kind:>8}" for kind in KINDS))
     for name in PHRASES:
-        print(f"{name:24}{pages[name]:6}{comments[name]:6}")
-    print(f"{'phrases, of pages and of comments':34}{sum(pages.values())} {sum(comments.values())}")
-    print(f"{'comments without a verb':34}{headless}")
-    print(f"{'long sentences of pages':34}{len(beginnings())}")
+        print(f"{name:24}" + "".join(f"{found[kind][name]:8}" for kind in KINDS))
+    print(f"{'phrases':24}" + "".join(f"{sum(found[kind].values()):8}" for kind in KINDS))
+    print(f"{'comments without a verb':24}        {sum(it.headless for it in counts().values())}")
+    print(f"{'long sentences of pages':24}        {len(beginnings())}")
 
 
 def main(words: list[str]) -> int:

@@ -1,8 +1,8 @@
 #!/usr/bin/env python3
-"""Lists the public functions of each crate with the mutants that change them, and its public types, in docs/SURFACE.md; writes into
-README how many mutants there are.
+"""Writes bin/SURFACE.md, which lists each crate with its public functions and types, and the counts of mutants into README.
 
-Methods of this repository's traits, and of std's Read and Write, are public functions if their type is public. It fails if no mutant
+A crate has the first paragraph of its `src/lib.rt` and the nearest crates that it rests on; a function has the first paragraph of its
+comment, the definitions that its contract cites, and the mutants that change it; a type has its variants or public fields. Methods of this repository's traits, and of std's Read and Write, are public functions if their type is public. It fails if no mutant
 changes a public function with a result, or one that writes through an argument, unless tools/surface_reasons.txt says why: lines
 'crate::path::name: reason'. With --check neither page is written."""
 from __future__ import annotations
@@ -14,25 +14,23 @@ import sys
 import common
 import edits
 import reading
+import rooms
 import verdicts
 from common import TOP
 
-PAGE = os.path.join(TOP, "docs", "SURFACE.md")
+PAGE = os.path.join(TOP, "bin", "SURFACE.md")
 REASONS = os.path.join(TOP, "tools", "surface_reasons.txt")
-HEAD = """# Public functions and types
+HEAD = """# The crates, with their public functions and types
 
-Made by `make surface`: the functions that each crate has for others with the mutants that change them, and its public types with
-their variants or public fields in order. `rt ci` tries the mutants of `must-fail/`; `tools/mutants.txt` says what
-refused those of `wrong-bodies/` when they were last tried. A function with neither a result nor an argument that it writes is a law:
-its contract is all there is of it.
+Made by `make surface` from `crates.txt`, the comments of the sources and the mutants. *Contract*: the definitions that the contract
+cites. *Mutants*: `rt ci` tries those of `must-fail/`; `tools/mutants.txt` has what refused those of `wrong-bodies/` when they were last
+tried. A function with neither a result nor an argument that it writes is a law: its contract is everything that it states.
 """
 # Traits of std whose methods other crates call on this repository's types.
 OF_STD = ("Read", "Write")
 README = os.path.join(TOP, "README.md")
 COUNTS = re.compile(
-    r"(every proof, )\d+( wrong\s+versions.*?\bof\s+)\d+(\s+others\s+)\d+(\s+were\s+refused\s+in\s+their\s+present\s+form\s+and\s+)"
-    r"\d+(\s+not\s+tried\s+since)",
-    re.S,
+    r"(every proof, )\d+( wrong\s+versions.*?\bof\s+)\d+(\s+others,\s+)(?:all|\d+)(\s+refused\s+in\s+their\s+present\s+form)", re.S
 )
 
 
@@ -58,11 +56,52 @@ class Row:
         """Whether a mutant of it is wanting."""
         return self.function.gives and not self.turning and self.path not in known
 
+    def turned_by(self, known: "dict[str, str]") -> str:
+        """Returns the names of the mutants, or why there is none."""
+        if self.turning:
+            return ", ".join(os.path.splitext(edit.name)[0] for edit in self.turning)
+        if not self.function.gives:
+            return "law"
+        return f"none: {known[self.path]}" if self.path in known else "none"
+
     def line(self, known: "dict[str, str]") -> str:
-        turning = ", ".join(os.path.splitext(edit.name)[0] for edit in self.turning)
-        if not turning:
-            turning = "law" if not self.function.gives else f"none: {known[self.path]}" if self.path in known else "none"
-        return f"| `{self.function.path}` | {turning} |"
+        cells = (f"`{self.function.path}`", promise_of(self.function), cited_by(self.function), self.turned_by(known))
+        return "| " + " | ".join(it.replace("|", "\\|") for it in cells) + " |"
+
+
+def rows_of_file(crate: str, file: str) -> "list[str]":
+    with open(os.path.join(common.TOP, "crates", crate, file), encoding="utf-8") as source:
+        return source.read().split("\n")
+
+
+def paragraph(lines: "list[str]", mark: str) -> str:
+    """Returns the first paragraph of a comment, on one line."""
+    words = [it.strip()[len(mark) :].strip() for it in lines]
+    return " ".join(words[: words.index("") if "" in words else len(words)])
+
+
+def promise_of(function: reading.Function) -> str:
+    """Returns the first paragraph of a function's comment. A method of a trait has the trait's."""
+    rows = rows_of_file(function.crate, function.file)
+    first = at = function.first - 1
+    while at and rows[at - 1].strip().startswith(("///", "#[")):
+        at -= 1
+    while rows[first].strip().startswith(("///", "#[")):
+        first += 1
+    comment = [it for it in rows[at:first] if it.strip().startswith("///")]
+    return paragraph(comment, "///") or (f"as the trait `{function.trait}` states" if function.trait else "")
+
+
+def cited_by(function: reading.Function) -> str:
+    """Returns the definitions that a function's contract cites."""
+    rows = rows_of_file(function.crate, function.file)
+    uses = re.findall(r"^ghost use Rattle\.ob0_\w+\.specs\.[\w.]+\.\{([^}]*)\}", "\n".join(rows), re.M)
+    names = {it.split(" as ")[-1].strip() for part in uses for it in part.split(",")}
+    # (a method of a trait has its contract at the head of its impl)
+    begins = min(function.block_from or function.first, function.first) if function.trait else function.first
+    contract = "\n".join(rows[begins - 1 : function.opens]).partition("ensures")[2]
+    found = dict.fromkeys(it for it in re.findall(r"\w{3,}", contract) if it in names)
+    return ", ".join(f"`{it}`" for it in found)
 
 
 def rows_of(source: reading.Source, traits: "list[str]") -> "list[Row]":
@@ -77,37 +116,34 @@ def type_line(item: reading.TypeItem) -> str:
     return f"| `{item.kind} {item.path}` | {parts} |"
 
 
-def section(source: reading.Source, rows: "list[Row]", known: "dict[str, str]") -> "list[str]":
-    """A crate's part of the page: its public functions and types."""
+def head_of(crate: str, lower: "list[str]") -> "list[str]":
+    """Returns what a crate is for, and what it rests on."""
+    is_program = not os.path.exists(os.path.join(common.TOP, "crates", crate, "src", "lib.rt"))
+    rows = rows_of_file(crate, "src/main.rt" if is_program else "src/lib.rt")
+    head = rows[: next(at for at, it in enumerate([*rows, ""]) if not it.startswith("//!"))]
+    return [f"\n## {crate}\n", *filter(None, [paragraph(head, "//!"), f"\nRests on {', '.join(lower)}." if lower else ""])]
+
+
+def section(source: reading.Source, rows: "list[Row]", known: "dict[str, str]", lower: "list[str]") -> "list[str]":
+    """A crate's part of the page: what it is for, its public functions and types."""
     types = [type_line(it) for it in source.public_types()]
-    found = ["\n| Function | Mutants |", "|---|---|", *(it.line(known) for it in rows)] if rows else []
-    found += ["\n| Type | Variants or public fields |", "|---|---|", *types] if types else []
-    return [f"\n## {source.crate}", *found] if found else []
+    found = head_of(source.crate, lower)
+    found += ["\n| Function | What it promises | Contract | Mutants |", "|---|---|---|---|", *(it.line(known) for it in rows)] if rows else []
+    return found + (["\n| Type | Variants or public fields |", "|---|---|", *types] if types else [])
 
 
-def keep(text: str, only_looks: bool) -> None:
-    """Writes the page, or says that it isn't of these sources."""
-    if not only_looks:
-        with open(PAGE, "w", encoding="utf-8") as file:
-            file.write(text)
-        return
-    with open(PAGE, encoding="utf-8") as file:
-        if file.read() != text:
-            print("docs/SURFACE.md isn't of these sources: make surface writes it")
-
-
-def counts() -> "tuple[int, int, int, int]":
-    """How many edits `rt ci` tries; how many others there are, were refused in their present form, and weren't."""
-    of_kit = sum(it.is_of_kit for crate in common.listed() for it in edits.edits_of(crate))
+def counts() -> "tuple[int, int, int]":
+    """How many edits `rt ci` tries; how many others there are, and were refused in their present form."""
     mutants = verdicts.Mutants()
-    return of_kit, len(mutants.edits), len(mutants.edits) - len(mutants.stale), len(mutants.stale)
+    others = [it for it in mutants.mutants if not mutants.edits[it].is_of_kit]
+    return len(mutants.mutants) - len(others), len(others), sum(mutants.is_current(it) for it in others)
 
 
 def with_counts(text: str) -> str:
     """README's text with the counts of mutants. It has to have the sentence that says them."""
     common.match_of(COUNTS.pattern, text, COUNTS.flags)
-    of_kit, others, refused, left = counts()
-    return COUNTS.sub(rf"\g<1>{of_kit}\g<2>{others}\g<3>{refused}\g<4>{left}\g<5>", text)
+    of_kit, others, refused = counts()
+    return COUNTS.sub(rf"\g<1>{of_kit}\g<2>{others}\g<3>{'all' if refused == others else refused}\g<4>", text)
 
 
 def keep_counts() -> None:
@@ -118,32 +154,42 @@ def keep_counts() -> None:
         file.write(with_counts(text))
 
 
-def main(words: list[str]) -> int:
+def page_and_rows(known: "dict[str, str]") -> "tuple[str, list[Row]]":
+    """Returns the page, and the rows of all public functions."""
     named = common.libraries()
     order = list(dict.fromkeys(it for top in named for it in common.below(top, named)))
     sources = [reading.Source(it) for it in order]
     traits = [*OF_STD, *(name for source in sources for name, is_pub in source.traits.items() if is_pub)]
-    known, page, rows = reasons(), [HEAD.rstrip("\n")], []
+    nearest, lines, rows = rooms.nearest(named), [HEAD.rstrip("\n")], []
     for source in sources:
         found = rows_of(source, traits)
         rows += found
-        page += section(source, found, known)
-    keep("\n".join(page) + "\n", "--check" in words)
+        lines += section(source, found, known, nearest[source.crate])
+    return "\n".join(lines) + "\n", rows
+
+
+def main(words: list[str]) -> int:
+    known = reasons()
+    page, rows = page_and_rows(known)
     if "--check" not in words:
+        os.makedirs(os.path.dirname(PAGE), exist_ok=True)
+        with open(PAGE, "w", encoding="utf-8") as file:
+            file.write(page)
         keep_counts()
-    print(f"{len(rows)} public functions in {len(order)} crates")
+    print(f"{len(rows)} public functions in {page.count(chr(10) + '## ')} crates")
     return complain(rows, known)
 
 
 def complain(rows: "list[Row]", known: "dict[str, str]") -> int:
-    """Prints the functions that lack a mutant, and reasons of functions that aren't there; returns the status."""
+    """Prints the functions that lack a mutant or a comment, and reasons of functions that don't exist; returns the status."""
     stale = set(known) - {it.path for it in rows}
     lacking = [it.path for it in rows if it.lacks(known)]
+    silent = [it.path for it in rows if not promise_of(it.function)]
     for what, paths in (("reasons in tools/surface_reasons.txt are of no public function", sorted(stale)),
-                        ("public functions have no mutant", lacking)):
+                        ("public functions have no mutant", lacking), ("public functions have no comment", silent)):
         if paths:
             print(f"{len(paths)} {what}:", *(f"\n  {it}" for it in paths))
-    return 1 if lacking or stale else 0
+    return 1 if lacking or stale or silent else 0
 
 
 if __name__ == "__main__":

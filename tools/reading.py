@@ -25,8 +25,7 @@ class Function:
         self.impl_words, self.is_test = scope.impl_words, scope.is_test
         self.name, self.is_pub, self.words = name, is_pub, [it.text for it in words]
         self.file, self.first, self.last = scope.file, words[0].line, words[-1].line
-        # (a method of a trait has its contract at the head of its impl)
-        self.contract_from = min(scope.block_from or self.first, self.first) if scope.trait else self.first
+        self.block_from = scope.block_from
         self.head, self.has_body = heading(self.words), self.words[-1] == "}"
         # (the line on which its body begins)
         self.opens = words[min(len(self.head), len(words) - 1)].line
@@ -272,6 +271,7 @@ class Source:
         self.functions: list[Function] = []
         self.constants: dict[str, tuple[str, int, int]] = {}  # the file, the first line and the last
         self.types: dict[str, tuple[Module, bool]] = {}  # the module, and whether it is public
+        self.models: dict[str, tuple[str, int, int]] = {}  # of a type: the file, the first line and the last
         self.traits: dict[str, bool] = {}  # whether it is public
         self.type_items: list[TypeItem] = []
         self.declared: set[tuple[Module, str]] = set()
@@ -357,6 +357,8 @@ class Source:
             trait = "" if cut is None else head[0]
             inner = scope.inside(owner=owner, trait=trait, impl_words=words_said, block_from=words[0].line)
             inner.is_of_reference = of[:1] == ["&"] and "[" not in of
+            if trait == "Model":
+                self.models[owner] = scope.file, words[0].line, words[-1].line
         self.items(words[opens + 1 : -1], inner)
 
     def all_words(self, path: str, first: int = 0, last: int = 1 << 30) -> list[str]:
@@ -364,9 +366,20 @@ class Source:
         text = self.texts.get(os.path.join(self.folder, path))
         return [word for line, word in text.all if first <= line <= last] if text else []
 
-    def words_with_contract(self, function: Function) -> list[str]:
-        """The words of a function and of its contract."""
-        return self.all_words(function.file, function.contract_from, function.last)
+    def words_of(self, function: Function) -> list[str]:
+        """The words of a function, with a contract that is at it."""
+        return self.all_words(function.file, function.first, function.last)
+
+    def head_of_block(self, function: Function) -> list[str]:
+        """The words of the impl that a trait's method is in, up to its first method: what the trait means for the type."""
+        if not function.trait:
+            return []
+        first = min(it.first for it in self.functions if (it.file, it.block_from) == (function.file, function.block_from))
+        return self.all_words(function.file, function.block_from, first - 1)
+
+    def model_of(self, owner: str) -> list[str]:
+        """The words of a type's model; none if it has none here."""
+        return self.all_words(*self.models[owner]) if owner in self.models else []
 
     def is_public(self, module: Module, name: str) -> bool:
         """Whether other crates can name an item of a module."""

@@ -6,6 +6,7 @@ from __future__ import annotations
 import re
 from typing import Dict, Optional, Tuple
 
+import checks
 import common
 import edits
 import reading
@@ -14,7 +15,9 @@ TRIED = re.compile(r"rt: must-fail (\w+)/(\S+\.edit): (.*)")
 REFUSED = re.compile(r"refused, as it must be: (.*)")
 # A goal that isn't proved, and an answer that doesn't prove its goal any more.
 GOAL = re.compile(r"note: (src/\S+?):(\d+):\d+: .*?\(`(\S+?)`\)")
-ANSWER = re.compile(r"(?:\./)?proofs/(\S+)/Answers\.antt:\d+:\d+: error: `(\S+?)`: ")
+ANSWER = re.compile(r"(?:\./)?proofs/(\S+)/Answers\.antt:\d+:\d+: error: `(\S+?)`: (.*)")
+# How a message begins that says that a name is gone. (The kit prints its first line only, and the rest of these is in the next one.)
+NAME_IS_GONE = re.compile(r"`[^`]*`: (?:module|record|namespace|data)\b")
 
 
 class Refusals:
@@ -72,7 +75,9 @@ def goal_of(said: str) -> Optional[Tuple[str, str]]:
     if goal:
         return f"{goal[1]}:{goal[2]}", goal[3]
     answer = ANSWER.match(said)
-    return (answer[1], answer[2]) if answer else None
+    if not answer or NAME_IS_GONE.match(answer[3]) or checks.NAMES_LOST.search(answer[3]):
+        return None
+    return answer[1], answer[2]
 
 
 def is_at(place: str, function: reading.Function) -> bool:

@@ -3,8 +3,9 @@
 
   tools/rooms.py           draws the rooms from crates.txt and writes them into the page, and makes the page's two pictures
 
-The picture of the rooms has what the page's text has, and that of a message has the rows of the page's block. A room is a heading of crates.txt, `# NAME: TEXT`, with the crates below it. It rests on the rooms whose crates its own
-crates name; the picture has the nearest: not those that one of the others rests on too."""
+The picture of the rooms shows what the page's text lists, and the picture of a message the rows of the page's block. A room is a
+heading of crates.txt, `# NAME: TEXT`, with the crates below it. It rests on the rooms whose crates its own crates use. The
+picture shows the nearest ones: not a room on which another of them also rests."""
 from __future__ import annotations
 
 import os
@@ -32,7 +33,7 @@ class Room:
 
 
 def read_rooms() -> list[Room]:
-    """The rooms in the order of crates.txt, lowest first; the crates of tests are in a room of their own."""
+    """Returns the rooms in the order of crates.txt, lowest first; the crates of tests are in a separate room."""
     rooms: list[Room] = []
     with open(os.path.join(common.TOP, "crates.txt"), encoding="utf-8") as file:
         for line in file:
@@ -57,7 +58,7 @@ def all_below(name: str, named: dict[str, list[str]]) -> set[str]:
 
 
 def nearest(named: dict[str, list[str]]) -> dict[str, list[str]]:
-    """What each name rests on, without what another of these rests on too."""
+    """Returns the names on which each name rests, without names on which another of these also rests."""
     below = {name: all_below(name, named) for name in named}
     return {name: [it for it in given if not any(it in below[other] for other in given)] for name, given in named.items()}
 
@@ -72,7 +73,7 @@ def rooms_below(rooms: list[Room]) -> dict[str, list[str]]:
 
 
 def draw() -> str:
-    """The picture: a line for each room but that of the tests, highest first, with the nearest rooms that it rests on."""
+    """Returns the picture: a line for each room except the tests', highest first, with the nearest rooms on which it rests."""
     rooms = read_rooms()
     arrows = nearest(rooms_below(rooms))
     shown = [room for room in reversed(rooms) if room.name != "tests"]

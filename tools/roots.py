@@ -50,7 +50,7 @@ def inside(root: str, line: str) -> str:
 
 
 def content_of(path: str, mode: int) -> str | None:
-    """A sum over a file's bytes, or a link's target; None of everything else."""
+    """Returns a sum over a file's bytes, or a link's target; None for everything else."""
     if stat.S_ISLNK(mode):
         return os.readlink(path)
     return common.file_sum(path) if stat.S_ISREG(mode) else None
@@ -106,6 +106,7 @@ def works(root: str, usr: str) -> None:
     """Runs the program and the scripts of an installation on its examples."""
     examples = f"{usr}/{package.DOC}/examples"
     inside(root, f"ob0 check {examples}/Gcd.mod; ob0-format --check {examples}/*.mod; ob0 run {examples}/Gcd.mod < {examples}/Gcd.in")
+    inside(root, f"ob0-check {examples}")
     inside(root, f"ob0-watch check {examples}/Gcd.mod")
 
 

@@ -42,7 +42,11 @@ class Scene(NamedTuple):
 
 SCENES = [
     Scene("A name that isn't declared is marked as you write", ["16Gzz", "A", " - lwo", "Escape"], "not declared"),
-    Scene("Renaming a to low is refused: in line 15 it would mean another variable", ["4Gzt", "jw", "grn", "C-u", "low", "Enter"], "would mean another declaration"),
+    Scene(
+        "Renaming a to low is refused: in line 15 it would refer to another variable",
+        ["4Gzt", "jw", "grn", "C-u", "low", "Enter"],
+        "would refer to another",
+    ),
 ]
 # (ob0's files as they are in the repository, the keys of their page, and a screen without what differs from run to run)
 SETTINGS = """
@@ -155,7 +159,7 @@ def picture_of(screens: list[str], version: str) -> str:
 
 
 class Terminal:
-    """Neovim in a terminal of tmux, with a home of its own."""
+    """Neovim in a terminal of tmux, with a separate home."""
 
     def __init__(self, room: str) -> None:
         # (each has its own server: one that is told to end may still answer the next)
@@ -207,7 +211,7 @@ def version() -> str:
 
 
 def played() -> list[str]:
-    """The screen of each scene, each in an editor of its own."""
+    """Returns the screen of each scene, each in a new editor."""
     screens = []
     for scene in SCENES:
         with tempfile.TemporaryDirectory() as room:

@@ -6,7 +6,7 @@ needs. Each definition is on one of the two pages once, with its comment.
   tools/statement.py --check   writes neither; fails if docs/STATEMENT.md isn't of these sources
   tools/statement.py --print   prints the second page
 
-Their prose is docs/STATEMENT.in.md. A line `<!-- definitions CRATE/FILE: NAME .. -->` is replaced by these definitions, `{law CRATE/FILE
+Their prose is tools/statement.in. A line `<!-- definitions CRATE/FILE: NAME .. -->` is replaced by these definitions, `{law CRATE/FILE
 NAME}` by a contract, `<!-- part NAME -->` by the definitions of a part of the second page, and `<!-- sizes -->`, `<!-- elsewhere -->`, `<!--
 names NAME -->` by tables; `{size}` and `{first}` are times. Its last tables say in words what the first page names and doesn't unfold
 (`believed`), and what neither page unfolds (`closed`)."""
@@ -24,7 +24,7 @@ import common
 from common import TOP
 from definitions import OPERATOR, WORD, Block, Declared, File, Item, Sources, lines_of, words_of
 
-TEMPLATE = os.path.join(TOP, "docs", "STATEMENT.in.md")
+TEMPLATE = os.path.join(TOP, "tools", "statement.in")
 PAGE = os.path.join(TOP, "docs", "STATEMENT.md")
 REST = os.path.join(TOP, "bin", "DEFINITIONS.md")
 SECOND = "<!-- page bin/DEFINITIONS.md -->"
@@ -254,7 +254,7 @@ class Page:
         try:
             return self.sources.files[key[0], key[1]].named[key[2]]
         except KeyError:
-            common.stop(f"docs/STATEMENT.in.md names {key[2]} of {key[1]} of {key[0]}, which isn't there")
+            common.stop(f"tools/statement.in names {key[2]} of {key[1]} of {key[0]}, which isn't there")
 
     def grouped(self) -> dict[str, list[Group]]:
         """The definitions of the second page, by its parts."""

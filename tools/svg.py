@@ -1,6 +1,6 @@
 """Draws text, boxes, arrows and curves as SVG, in colours that can be read on light and on dark screens.
 
-Letters have a width of their own (`textLength`), so a picture looks the same with every font. The same calls give the same bytes."""
+Letters have a fixed width (`textLength`), so a picture looks the same with every font. The same calls give the same bytes."""
 from __future__ import annotations
 
 from html import escape

@@ -1,18 +1,17 @@
 #!/usr/bin/env python3
 """Runs the tables of `check`, `run` and `rename` on the program before anything is proved.
 
-  tools/try_cases.py [WORD..]   the tests whose names hold one of the words; with no word those of check, run, edits and messages
+  tools/try_cases.py [WORD..]   the tests whose names contain one of the words; without words the tests of check, run, edits and messages
 
-The cases are those of the end-to-end tests: what these would run is noted, all of it is run by `rt try`, which compiles the program
-without its proofs, and then the tests are played with what came. A test that wants something else than these commands on a small
-file (a conversation, a device, a file that isn't there, what an earlier run printed) is left out, by name. Whether an output ends
+The cases are the end-to-end tests'. First it notes the commands that the tests would run. Then `rt try`, which compiles the program
+without its proofs, runs all of them, and the tests are played with the results. A test that needs anything except these commands on
+a small file (a conversation, a device, a missing file, the output of an earlier run) is left out, by name. Whether an output ends
 with a line feed isn't seen. The last line is 'N passed, M failed', and ', K skipped' if tests were left out; a run of no test fails.
 
-What takes time is the compile (some 100 seconds of a processor) and then 0.7 seconds for each case, whatever it does: `rt try` makes
-the program ready for an interpreter too, each time, which then runs nothing that reads arguments. So the cases are dealt out to as
-many `rt try` as every second processor carries, each with a compile of its own; and all but a few of the modules that are to be
-checked are opened in one conversation, whose diagnostics are those that `check` prints, and all but a few of the renamings are
-requested there: the edits of the answer make the text that `rename` prints, and a refusal is the one that it names."""
+The compile takes time (about 100 seconds of a processor), and each case 0.7 seconds, whatever it does, because `rt try` also prepares
+the program for an interpreter each time. So the cases are dealt out to one `rt try` for every second processor, and each compiles the
+program. Most modules to check are opened in one conversation, whose diagnostics are the ones that `check` prints. Most renamings are
+requested there: the edits of the answer make the text that `rename` prints, and a refusal is the same."""
 from __future__ import annotations
 
 import json
@@ -46,7 +45,7 @@ CHECK = ("check", "FILE")
 
 
 class Unknown(Exception):
-    """A test that wants what can't be had here."""
+    """A test needs something that `rt try` doesn't offer."""
 
 
 class Case(NamedTuple):
@@ -57,18 +56,18 @@ class Case(NamedTuple):
     given: bytes
 
     def is_writable(self) -> bool:
-        """Whether `rt try` takes these words: one a line, and none empty."""
+        """Returns whether `rt try` takes these words: one a line, and none empty."""
         return all(it and "\n" not in it for it in self.words)
 
     def is_request(self) -> bool:
-        """Whether this is a renaming of a small text at a place."""
+        """Returns whether this is a renaming of a small text at a place."""
         words = self.words
         is_renaming = len(words) == 5 and words[:2] == ("rename", "FILE") and words[2].isdigit() and words[3].isdigit()
         return is_renaming and self.text is not None and is_text(self.text) and b"\r" not in self.text and not self.given
 
 
 class Cases:
-    """What the tests run, and what came of it."""
+    """The cases that the tests run, and their results."""
 
     def __init__(self) -> None:
         self.wanted: dict[Case, None] = {}
@@ -85,7 +84,7 @@ class Cases:
         if words[:1] and words[0] in COMMANDS and not wants_help:
             at = next((at for at, it in enumerate(words) if at and os.path.isfile(os.path.join(cwd or ".", it))), None)
             if at is None or os.path.getsize(os.path.join(cwd or ".", words[at])) > LARGEST[words[0]]:
-                raise Unknown("a file that isn't there, or a long one")
+                raise Unknown("a missing file, or a long one")
             with open(os.path.join(cwd or ".", words[at]), "rb") as file:
                 text = file.read()
             plain[at] = "FILE"
@@ -100,7 +99,7 @@ class Cases:
         return self.found[case]
 
     def note(self, name: str, function: harness.Test) -> tuple[str, Exception | None]:
-        """Notes what a test runs. Where it wants what can't be had, nothing of it is run, and the reason is given with its name."""
+        """Notes the cases of a test. If it needs something that isn't offered, none of them is run; returns the reason."""
         before = dict(self.wanted)
         why = play(function)
         if not isinstance(why, (Unknown, harness.Skipped)):
@@ -109,11 +108,11 @@ class Cases:
         return name, why
 
     def unless_noting(self, check: Callable[..., None]) -> Callable[..., None]:
-        """A check of the harness, which holds nothing while the cases are noted."""
+        """Returns a check of the harness that checks nothing while the cases are noted."""
         return lambda *words, **named: None if self.noting else check(*words, **named)
 
     def put_together(self) -> None:
-        """Takes the modules that are to be checked and the renamings, but for a few, out of the cases and into one conversation, a
+        """Moves most modules to check and most renamings from the cases into one conversation, a
         case by itself."""
         checks = [it for it in self.wanted if it.words == CHECK and it.text is not None and is_text(it.text) and not it.given]
         renamings = [it for it in self.wanted if it.is_request()]
@@ -134,7 +133,7 @@ class Cases:
             self.wanted[Case(("serve",), None, conversation)] = None
 
     def take_conversation(self, said: bytes) -> None:
-        """What `check` prints of each module that was opened, by its diagnostics, and `rename` by the answer to the request."""
+        """Notes what `check` prints about each opened module, by its diagnostics, and `rename` by the answer to the request."""
         contents, printed = [json.loads(it) for it in harness.unframed(said)], {}
         for params in (it["params"] for it in contents if "params" in it):
             at = int(params["uri"].rpartition("/")[2])
@@ -148,8 +147,8 @@ class Cases:
 
     def write(self, room: str, lanes: int) -> tuple[dict[str, Case], list[list[str]]]:
         """Writes the cases as files for `rt try`, dealt out to this many folders, and returns their names and for each folder the
-        flags that give it the modules that are run. It copies each of these for each case: so a module is there once, and where a
-        case reads no input it is the module itself."""
+        flags that give it the modules to run. It copies each of these for each case: so a module is a file once, and if a
+        case reads no input, that file is the module itself."""
         names: dict[str, Case] = {}
         modules: dict[bytes, str] = {}
         flags: list[dict[str, str]] = [{} for _ in range(lanes)]
@@ -187,7 +186,7 @@ class Cases:
 
 
 def is_text(content: bytes) -> bool:
-    """Whether an editor can open this."""
+    """Returns whether an editor can open this."""
     try:
         content.decode()
     except UnicodeDecodeError:
@@ -196,7 +195,7 @@ def is_text(content: bytes) -> bool:
 
 
 def renamed(text: str, answer: dict[str, Any]) -> harness.Ended:
-    """What `rename` prints, by the answer to the request: the refusal, or the text with the edits, each on one line."""
+    """Returns what `rename` prints, by the answer to the request: the refusal, or the text with the edits, each on one line."""
     if "error" in answer:
         return harness.Ended(b"", f"refused: {answer['error']['message']}\n".encode(), 1)
     lines = [it.encode("utf-16-le") for it in text.split("\n")]
@@ -208,13 +207,13 @@ def renamed(text: str, answer: dict[str, Any]) -> harness.Ended:
 
 
 def lanes_for(count: int) -> int:
-    """How many `rt try` are run side by side: each is two processes while it compiles."""
+    """Returns how many `rt try` are run side by side: each is two processes while it compiles."""
     memory = os.sysconf("SC_PAGE_SIZE") * os.sysconf("SC_PHYS_PAGES")
     return max(1, min(len(os.sched_getaffinity(0)) // 2, memory // MEMORY, count // 8))
 
 
 def compiled(cases: Cases) -> None:
-    """Runs all that is wanted, and notes what came."""
+    """Runs all noted cases, and notes their results."""
     cases.put_together()
     lanes, timer = lanes_for(len(cases.wanted)), common.Timer()
     with tempfile.TemporaryDirectory() as room:
@@ -250,17 +249,17 @@ class Try:
         return self.process.poll() is None
 
     def said(self) -> tuple[bytes, bytes]:
-        """What it has printed on both outputs."""
+        """Returns what it has printed on both outputs."""
         out, err = (os.pread(it.fileno(), os.fstat(it.fileno()).st_size, 0) for it in (self.out, self.err))
         return out, err
 
     def ended(self) -> int:
-        """How many cases have ended."""
+        """Returns how many cases have ended."""
         return len(re.findall(rb"^case=", self.said()[1], re.M))
 
 
 def play(function: harness.Test) -> Exception | None:
-    """Plays a test: None where it passed, else why it didn't."""
+    """Plays a test, and returns None if it passed, otherwise why it didn't."""
     try:
         function()
     except FileNotFoundError as why:
@@ -303,7 +302,7 @@ def without_last_line_feed(found: harness.Ended, out: str | bytes, status: int, 
 
 
 class Conversation:
-    """In place of `harness.Server`, and of what else speaks with a server."""
+    """Takes the place of `harness.Server`, and of everything else that speaks with a server."""
 
     def __init__(self, *_: object, **__: object) -> None:
         raise Unknown("a conversation")
@@ -318,7 +317,7 @@ def judge(chosen: list[tuple[str, harness.Test]], left_out: dict[str, Exception]
             print(f"ok       {name}")
         elif isinstance(why, (Unknown, harness.Skipped)):
             skipped += 1
-            print(f"left out {name}: it wants {why}")
+            print(f"left out {name}: it needs {why}")
         else:
             failed += 1
             print(f"FAILED   {name}\n    {why}")

@@ -1,9 +1,9 @@
-"""Reads and writes tools/mutants.txt: what each mutant of crates/*/wrong-bodies came to when it was last tried.
+"""Reads and writes tools/mutants.txt: what each mutant of crates/*/must-fail and crates/*/wrong-bodies came to when it was last tried.
 
-A line is 'PATH SUM VERDICT': the mutant, a sum over what it changes (the words of each function with its contract, comments and
-layout apart, and the edit), and what refused it, 'GOAL of FUNCTION', or a word for another verdict. A mutant that was never tried has
-'-' for its sum. A verdict is of the present sources as long as the sum is, so a change elsewhere leaves it: tools/mutants.py tries
-the others again, and with --all each of them."""
+A line is 'PATH SUM VERDICT': the mutant, a sum over what its verdict stands on (tools/sums.py), and what refused it, 'GOAL of
+FUNCTION', or a word for another verdict. The path of a right form ends in ':right', and its verdict is 'proved' if it is as it has to
+be. A form that was never tried has '-' for its sum. A row is of the present sources as long as its sum is; tools/mutants.py tries the
+others again, and with --all each of them."""
 from __future__ import annotations
 
 import os
@@ -12,12 +12,13 @@ from typing import Dict, List, NamedTuple, Optional
 
 import common
 import edits
-import reading
+import sums
 from common import TOP
 
 PATH = os.path.join(TOP, "tools", "mutants.txt")
 NEVER = "-"
 NOT_TRIED = "not tried"
+IS_PROVED = "proved"
 REFUSED = re.compile(r"(\S+) of (\S+)$")
 
 
@@ -32,8 +33,10 @@ class Row(NamedTuple):
     def line(self) -> str:
         return f"{self.path} {self.sum} {self.verdict}"
 
-    def is_refused(self, edit: edits.Edit) -> bool:
-        """Whether a goal of the clause that the mutant's first line names refused it."""
+    def is_well(self, edit: edits.Edit) -> bool:
+        """Whether a goal of the clause that the mutant's first line names refused it; of a right form, whether it was proved."""
+        if edit.is_right:
+            return self.verdict == IS_PROVED
         found = REFUSED.match(self.verdict)
         return bool(found) and is_met(edit, found[1], found[2]) if found else False
 
@@ -49,50 +52,48 @@ def is_met(edit: edits.Edit, goal: str, proof: str) -> bool:
 
 
 class Mutants:
-    """All mutants of crates/*/wrong-bodies with their present sums, and the rows that are kept of them."""
+    """The forms of all mutants with their present sums, and the rows that are kept of them."""
 
     def __init__(self, path: str = PATH) -> None:
-        self.path = path
-        self.sources: Dict[str, reading.Source] = {}
+        self.path, self.parts = path, sums.Parts()
         self.edits: Dict[str, edits.Edit] = {}
-        self.sums: Dict[str, str] = {}
+        self.words: Dict[str, List[sums.Part]] = {}
         for crate in sorted(common.listed()):
-            if edits.has(crate, edits.OTHERS):
+            if any(edits.has(crate, it) for it in edits.PLACES):
                 self.read(crate)
+        self.sums = {path: sums.sum_of(words) for path, words in self.words.items()}
         self.rows = {it.path: it for it in rows_of(path)}
 
     def read(self, crate: str) -> None:
         """Reads a crate's sources and mutants."""
-        source = self.sources[crate] = reading.Source(crate)
-        for edit in edits.edits_of(crate, source):
-            if not edit.is_of_kit:
-                self.edits[edit.path], self.sums[edit.path] = edit, edit.sum_over(source)
+        for edit in edits.forms_of(crate, self.parts.source(crate)):
+            self.edits[edit.path], self.words[edit.path] = edit, self.parts.of(edit)
 
     def row(self, path: str) -> Row:
-        """The row of a mutant; one that was never tried if there is none."""
+        """The row of a form; one that was never tried if there is none."""
         return self.rows.get(path, Row(path, NEVER, NOT_TRIED))
 
     def is_current(self, path: str) -> bool:
-        """Whether a mutant was refused by its clause in its present form."""
+        """Whether a form came to what it has to, and its row is of the present sources."""
         row = self.row(path)
-        return row.sum == self.sums[path] and row.is_refused(self.edits[path])
-
-    @property
-    def current(self) -> List[str]:
-        """The paths of those that were refused by their clause in their present form, in order."""
-        return [it for it in sorted(self.edits) if self.is_current(it)]
+        return row.sum == self.sums[path] and row.is_well(self.edits[path])
 
     @property
     def stale(self) -> List[str]:
         """The paths of the others, in order."""
         return [it for it in sorted(self.edits) if not self.is_current(it)]
 
+    @property
+    def mutants(self) -> List[str]:
+        """The paths of the mutants without their right forms, in order."""
+        return sorted(path for path, edit in self.edits.items() if not edit.is_right)
+
     def keep(self, path: str, tried_on: str, verdict: str) -> None:
-        """Keeps what a mutant came to, with the sum of what it was tried on."""
+        """Keeps what a form came to, with the sum of what it was tried on."""
         self.rows[path] = Row(path, tried_on, verdict)
 
     def write(self) -> None:
-        """Writes a row for each mutant, sorted."""
+        """Writes a row for each form, sorted."""
         with open(self.path + ".new", "w", encoding="utf-8") as file:
             file.writelines(self.row(it).line + "\n" for it in sorted(self.edits))
         os.replace(self.path + ".new", self.path)

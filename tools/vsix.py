@@ -48,7 +48,7 @@ def read(path: str) -> bytes:
 
 
 def needed(found: Modules, names: list[str]) -> list[str]:
-    """The names of modules and of all that they need, by what each says of itself."""
+    """Returns the names of modules and of everything that they need, according to their manifests."""
     waiting, known = list(names), set()
     while waiting:
         name = waiting.pop()

@@ -27,7 +27,8 @@
   :type 'string)
 
 (defcustom ob0-mod t
-  "Whether files that end in .mod or .Mod are Oberon-0 if they begin with MODULE."
+  "Whether files that end in .mod or .Mod are Oberon-0 if they begin with MODULE.
+The case of this word doesn't matter."
   :type 'boolean)
 
 (defcustom ob0-indent-offset 2
@@ -93,7 +94,7 @@
 (defun ob0--program ()
   "Return the program, or report an error that names the option for another."
   (or (executable-find ob0-program)
-      (user-error "There is no program %s; the option `ob0-program' names another" ob0-program)))
+      (user-error "There is no program %s: set the option `ob0-program' to its path" ob0-program)))
 
 (defun ob0--saved-file ()
   "The file of this buffer, with what the buffer has."
@@ -319,14 +320,20 @@ From a start go to the one before; with a negative ARG to the next."
   (add-hook 'electric-indent-functions #'ob0--ends-word nil t))
 
 (defun ob0-begins-with-module ()
-  "Whether the first word of this buffer, comments left out, is MODULE.
-What follows doesn't matter: a slip there is for the server to tell."
+  "Whether the first word of this buffer, after comments, is MODULE in any case.
+The rest doesn't matter, since the server reports a slip there.  In Go's files a
+path follows `module', or the file is go.mod."
   (save-excursion
     (goto-char (point-min))
     (with-syntax-table ob0-mode-syntax-table
       (forward-comment (buffer-size)))
-    (let ((case-fold-search nil))
-      (looking-at "MODULE\\(?:[^A-Za-z0-9_]\\|\\'\\)"))))
+    (let ((word "MODULE\\(?:[^A-Za-z0-9_]\\|\\'\\)") (case-fold-search nil))
+      (or (looking-at word)
+          (progn
+            (setq case-fold-search t)
+            (and (looking-at word)
+                 (not (looking-at "MODULE[ \t]+[^ \t\n]*[./][a-z0-9]"))
+                 (not (equal (file-name-nondirectory (or buffer-file-name "")) "go.mod"))))))))
 
 ;;;###autoload
 (defun ob0-maybe-mode ()
@@ -389,6 +396,136 @@ Where it is inside a character, go before that."
   ;; (eglot 1.9 looks without end for a column inside a character past U+FFFF, such as a diagnostic of an older text can have)
   (unless (boundp 'eglot-move-to-linepos-function)
     (add-hook 'eglot-managed-mode-hook #'ob0--count-columns)))
+
+;; What a client shows of a refusal is its text alone, or a line of Lisp. The words are those of docs/MESSAGES.md; NAME and LINE
+;; are those of the place in the answer.
+(defconst ob0--words
+  '(("NoName" . "no name here can be renamed: predeclared ones and the module's can't")
+    ("Predeclared" . "a predeclared name can't be renamed")
+    ("BadName" . "a name has letters and digits, a letter first, and isn't a reserved word")
+    ("Duplicate" . "`NAME` is declared in line LINE already")
+    ("Captures" . "with the new name, `NAME` in line LINE would refer to another declaration")
+    ("TooLong" . "the text would have more than 1,048,576 bytes")
+    ("TooDeep" . "the text would be nested more than 100 deep")
+    ("Shadowed" . "it would write TRUE or FALSE, which the module declares as something else")
+    ("CommentInside" . "there is a comment in the declaration that would be deleted")
+    ("ill-typed" . "the module has an error: fix the first one that is marked"))
+  "The words for each refusal of the server.")
+
+(defun ob0--name-at (line column)
+  "The name at COLUMN, in the server's units, of the LINE that is counted from 0."
+  (save-excursion
+    (save-restriction
+      (widen)
+      (goto-char (point-min))
+      (forward-line line)
+      (funcall (or (bound-and-true-p eglot-move-to-linepos-function) #'ob0--move-to-column) column)
+      (or (thing-at-point 'symbol t) ""))))
+
+(defun ob0--in-words (refusal)
+  "The words for a REFUSAL, with the line as Emacs counts it and the name there.
+Nil if it is none."
+  (let ((case-fold-search nil))
+    (if (not (string-match "\\(?:\\`\\|: \\)\\([A-Za-z]+\\) \\([0-9]+\\):\\([0-9]+\\)-[0-9]+:[0-9]+" refusal))
+        (cdr (assoc refusal ob0--words))
+      (let ((words (cdr (assoc (match-string 1 refusal) ob0--words)))
+            (line (string-to-number (match-string 2 refusal)))
+            (column (string-to-number (match-string 3 refusal))))
+        (when words
+          (setq words (replace-regexp-in-string "LINE" (number-to-string (1+ line)) words t t))
+          (replace-regexp-in-string "NAME" (ob0--name-at line column) words t t))))))
+
+(declare-function flymake-diagnostics "flymake")
+(declare-function lsp--get-buffer-diagnostics "ext:lsp-mode")
+(defun ob0--has-error ()
+  "Whether the client marks an error in this buffer."
+  (or (and (bound-and-true-p flymake-mode) (flymake-diagnostics))
+      (and (bound-and-true-p lsp-mode) (fboundp 'lsp--get-buffer-diagnostics) (lsp--get-buffer-diagnostics))))
+
+(defun ob0--tell-refusal (command &rest arguments)
+  "Call COMMAND with ARGUMENTS, and put a refusal of the server into words.
+If nothing is found because the module has an error, tell that."
+  (if (not (derived-mode-p 'ob0-mode))
+      (apply command arguments)
+    (condition-case refusal (apply command arguments)
+      (error
+       (let* ((said (or (alist-get 'jsonrpc-error-message (cdr-safe (cdr-safe refusal))) (car-safe (cdr-safe refusal))))
+              (words (and (stringp said) (ob0--in-words said))))
+         (when (and (not words) (eq (car refusal) 'user-error) (ob0--has-error))
+           (setq words (cdr (assoc "ill-typed" ob0--words))))
+         (if words (user-error "ob0: %s" words) (signal (car refusal) (cdr refusal))))))))
+
+(defun ob0--tell-no-name (at-point &rest _)
+  "Tell why nothing can be renamed, if AT-POINT is nil."
+  (when (and (derived-mode-p 'ob0-mode) (not at-point))
+    (user-error "ob0: %s" (cdr (assoc (if (ob0--has-error) "ill-typed" "NoName") ob0--words)))))
+
+(with-eval-after-load 'eglot
+  (dolist (it '(eglot-rename eglot-format))
+    (advice-add it :around #'ob0--tell-refusal)))
+(with-eval-after-load 'lsp-mode
+  (dolist (it '(lsp-rename lsp-format-buffer))
+    (advice-add it :around #'ob0--tell-refusal))
+  (when (fboundp 'lsp--read-rename)
+    (advice-add 'lsp--read-rename :before #'ob0--tell-no-name)))
+(with-eval-after-load 'xref
+  (advice-add 'xref-find-definitions :around #'ob0--tell-refusal))
+
+;; A text with half a surrogate pair, or with a byte that isn't UTF-8, can't be told: eglot then fails at each change, and the
+;; server keeps an older text. So such a buffer is closed there and opened again once, and after that at the next change.
+
+(defvar ob0--told nil
+  "The buffer whose text a server was told last.")
+(defvar-local ob0--tried nil
+  "Whether this buffer was opened again, and the server hasn't read it since.")
+(defvar-local ob0--closed nil
+  "Whether this buffer is closed at the server, since its text can't be told.")
+
+(defvar eglot--recent-changes)
+(declare-function eglot--signal-textDocument/didOpen "ext:eglot")
+(declare-function eglot--signal-textDocument/didClose "ext:eglot")
+(defun ob0--open-again (why)
+  "Close this buffer at the server, and open it again unless that was tried.
+WHY says what is wrong with it."
+  (eglot--signal-textDocument/didClose)
+  (let ((is-again ob0--tried))
+    (setq ob0--tried t ob0--closed is-again)
+    (message "ob0: the server can't read %s: %s (%s)" (buffer-name)
+             (if is-again "it stays closed until it is changed" "it is opened again") why)
+    (unless is-again
+      (condition-case problem (eglot--signal-textDocument/didOpen)
+        (error (ob0--open-again (error-message-string problem)))))))
+
+(defun ob0--tell-change (tell &rest arguments)
+  "Call TELL with ARGUMENTS, which tells the server what was changed here."
+  (if (not (derived-mode-p 'ob0-mode))
+      (apply tell arguments)
+    (setq ob0--told (current-buffer))
+    (let ((is-changed eglot--recent-changes))
+      (condition-case problem
+          (cond ((not ob0--closed) (apply tell arguments))
+                (is-changed (eglot--signal-textDocument/didOpen) (setq ob0--closed nil)))
+        (error (if ob0--closed
+                   (setq eglot--recent-changes nil)
+                 (ob0--open-again (error-message-string problem))))))))
+
+(defun ob0--take-answer (_ message &rest _)
+  "Take a MESSAGE of a server: whether it has read a text, or couldn't."
+  (let ((id (plist-get message :id))
+        (refusal (plist-get (plist-get message :error) :message))
+        (published (plist-get message :params)))
+    (cond ((and (plist-get message :method) (plist-get published :version))
+           (dolist (it (buffer-list))
+             (with-current-buffer it
+               (when (and ob0--tried (not ob0--closed) (derived-mode-p 'ob0-mode))
+                 (setq ob0--tried nil)))))
+          ((and (null id) (member refusal '("not JSON" "not a message")) (buffer-live-p ob0--told))
+           (with-current-buffer ob0--told
+             (unless ob0--closed (ob0--open-again refusal)))))))
+
+(with-eval-after-load 'eglot
+  (advice-add 'eglot--signal-textDocument/didChange :around #'ob0--tell-change)
+  (advice-add 'jsonrpc-connection-receive :before #'ob0--take-answer))
 
 (defvar lsp-language-id-configuration)
 (defvar lsp--formatting-indent-alist)

@@ -1,12 +1,20 @@
-# Oberon-0 for Kakoune: file type, colours, comments, and `lint` by `ob0 check`.
+# Oberon-0 for Kakoune: file type, colours, comments, `lint` by `ob0-check` and `format` by `ob0-format`.
 declare-option -docstring 'the program ob0: its name, or the path of its file' str ob0_program ob0
 
 hook global BufCreate .*\.ob0 %{ set-option buffer filetype ob0 }
-# (the endings .mod and .Mod belong to others too: such a file is taken only if its first word is MODULE, after comments,
-# whatever follows; a new file has no first word yet, so it is looked at when it is saved too)
+# (the endings .mod and .Mod belong to others too: such a file is taken only if its first word is MODULE in any case, after
+# comments, whatever follows, except a path as in Go's files; a new file has no first word yet, so it is examined when it is
+# saved too)
 define-command -hidden ob0-detect %{ try %{
     evaluate-commands -draft %{
-        execute-keys '%s\A(?:\s|\(\*(?:.|\n)*?\*\)|\*\))*MODULE\b<ret>'
+        execute-keys '%s\A(?:\s|\(\*(?:.|\n)*?\*\)|\*\))*\K(?i)MODULE\b[^\n]*<ret>'
+        evaluate-commands %sh{
+            case "${kak_bufname##*/} $kak_selection" in
+            *' MODULE'*) ;;
+            'go.mod '*) echo fail ;;
+            *) if printf %s "$kak_selection" | grep -Eq '^.{6}[[:blank:]]+[^[:blank:]]*[./][[:alnum:]]'; then echo fail; fi ;;
+            esac
+        }
         set-option buffer filetype ob0
     }
 } }
@@ -23,14 +31,19 @@ hook global WinSetOption filetype=ob0 %{
     hook -group ob0-indent window InsertChar \n ob0-indent-on-new-line
     hook -group ob0-indent window InsertChar [A-Z] ob0-indent-on-word
     hook -once -always window WinSetOption filetype=.* %{ remove-hooks window ob0-indent }
-    # `ob0 check` counts lines and columns from 0 and names no file; awk writes its lines as a compiler does
-    set-option window lintcmd "run() { ""%opt{ob0_program}"" check ""$1"" | awk -F: -v f=""$1"" '{ l=$1+1; c=$2+1; sub(/^[0-9]+:[0-9]+: /, """"); print f "":"" l "":"" c "": error: "" $0 }'; } && run"
+    # (sed adds the kind that lint wants)
+    set-option window lintcmd "run() { ob0-check ""$1"" | sed 's/^[^:]*:[0-9]*:[0-9]*:/& error:/'; } && run"
 }
 
 hook -group ob0-highlight global WinSetOption filetype=ob0 %{
     require-module ob0
     add-highlighter window/ob0 ref ob0
     hook -once -always window WinSetOption filetype=.* %{ remove-highlighter window/ob0 }
+}
+
+hook -group ob0-format global WinSetOption filetype=ob0 %{
+    # `ob0-format` formats files, and this command gets a text and writes one
+    set-option window formatcmd 'run() { t=$(mktemp -d) && cat >"$t/m.ob0" && ob0-format "$t/m.ob0" >/dev/null; s=$?; [ $s = 0 ] && cat "$t/m.ob0"; rm -r "$t"; return $s; } && run'
 }
 
 provide-module ob0 %§

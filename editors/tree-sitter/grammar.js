@@ -1,4 +1,4 @@
-// Oberon-0 for tree-sitter. The names of the rules are those of docs/LANGUAGE.md, Grammar, rule 1.
+// Oberon-0 for tree-sitter. The rules have the names of docs/LANGUAGE.md, Grammar, rule 1.
 const list = (separator, rule) => seq(rule, repeat(seq(separator, rule)));
 const declarations = ($) => seq(optional($.constants), optional($.types), optional($.variables), repeat(seq($.procedure, ";")));
 // (a statement may be empty: there may be any number of semicolons between two)

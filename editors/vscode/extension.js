@@ -6,7 +6,7 @@ const { LanguageClient } = require("vscode-languageclient/node");
 let client;
 
 function notThere(name) {
-  return `There is no program ${name}; the setting ob0.path names another.`;
+  return `There is no program ${name}: set ob0.path to its path.`;
 }
 
 function program() {
@@ -88,15 +88,36 @@ function asItIs(document) {
   return () => !document.isClosed && document.version === version;
 }
 
-const REFUSALS = { Captures: "would mean another declaration", Duplicate: "is declared there already" };
+// The words of docs/MESSAGES.md for what the server answers. NAME and LINE are those of the place in the answer.
+const WORDS = {
+  NoName: "no name here can be renamed: predeclared ones and the module's can't",
+  Predeclared: "a predeclared name can't be renamed",
+  BadName: "a name has letters and digits, a letter first, and isn't a reserved word",
+  Duplicate: "`NAME` is declared in line LINE already",
+  Captures: "with the new name, `NAME` in line LINE would refer to another declaration",
+  TooLong: "the text would have more than 1,048,576 bytes",
+  TooDeep: "the text would be nested more than 100 deep",
+  Shadowed: "it would write TRUE or FALSE, which the module declares as something else",
+  CommentInside: "there is a comment in the declaration that would be deleted",
+  "ill-typed": "the module has an error: fix the first one that is marked",
+};
 
-// The text of a refusal, with the line as VS Code counts it and the name that stands there.
+// The words for a refusal, with the line as VS Code counts it and the name at that place.
 function inWords(refusal, document) {
-  if (refusal === "ill-typed") return "the module has an error: fix the first one that is marked (ill-typed)";
   const [, kind, line, start, end] = /^(\w+) (\d+):(\d+)-\d+:(\d+)$/.exec(refusal) || [];
-  if (!REFUSALS[kind]) return refusal;
-  const name = document.lineAt(Number(line)).text.slice(start, end);
-  return `line ${Number(line) + 1}: \`${name}\` ${REFUSALS[kind]} (${kind})`;
+  const words = WORDS[kind || refusal];
+  if (!words || !kind) return words || refusal;
+  const name = document.lineAt(Number(line)).text.slice(Number(start), Number(end));
+  return words.replace("NAME", name).replace("LINE", Number(line) + 1);
+}
+
+function show(words) {
+  vscode.window.setStatusBarMessage(`ob0: ${words}`, 10000);
+}
+
+function hasError(document) {
+  const { diagnostics } = client;
+  return Boolean(diagnostics && (diagnostics.get(document.uri) || []).length);
 }
 
 async function unlessLate(document, ...more) {
@@ -109,6 +130,36 @@ async function unlessLate(document, ...more) {
     if (isCurrent()) refusal.message = inWords(refusal.message, document);
     throw refusal;
   }
+}
+
+// VS Code doesn't show why a text isn't formatted, and asks at each save if the user wants that: so the status bar shows it. In a
+// text with CR LF the layout has an edit for each line end, which VS Code would write as CR LF again: such an edit changes nothing.
+async function layoutUnlessLate(document, ...more) {
+  try {
+    const edits = await unlessLate(document, ...more);
+    return edits && edits.filter((it) => document.getText(it.range).replace(/\r\n/g, "\n") !== it.newText);
+  } catch (refusal) {
+    show(refusal.message);
+    return undefined;
+  }
+}
+
+// Hover and jumps find nothing while the module has an error.
+async function findOrTell(document, ...more) {
+  const next = more.pop();
+  const found = await next(document, ...more);
+  if (!found && hasError(document)) show(WORDS["ill-typed"]);
+  return found;
+}
+
+async function prepareOrTell(document, ...more) {
+  const next = more.pop();
+  const found = await next(document, ...more).catch((why) => {
+    // (the client's own words for an answer that is null)
+    if (!/can't be renamed/.test(why.message)) throw why;
+  });
+  if (!found) throw new Error(`ob0: ${WORDS[hasError(document) ? "ill-typed" : "NoName"]}`);
+  return found;
 }
 
 // An action waits in a list until it is chosen: its edit is made then, by a command that looks once more.
@@ -127,11 +178,65 @@ async function apply(edit, isCurrent) {
   else vscode.window.showWarningMessage("The text was changed since the action was offered: ask for it again.");
 }
 
+// The server answers what it can't read (half a surrogate pair, say) without an id, and then has an older text. So the document that
+// it was told of last is closed and opened again, once; if that isn't read either, it is opened at the next change.
+const unread = { told: undefined, tried: new Map(), closed: new Set() };
+
+function openAgain(why) {
+  const { told, tried, closed } = unread;
+  const uri = told && String(told.uri);
+  if (!told || told.isClosed || closed.has(uri)) return;
+  client.sendNotification("textDocument/didClose", { textDocument: { uri } });
+  const count = tried.get(uri) || 0;
+  tried.set(uri, count + 1);
+  if (count) closed.add(uri);
+  else openNow(told);
+  const how = count ? "it stays closed until it is changed" : "it is opened again";
+  if (count < 2) vscode.window.showWarningMessage(`The server can't read ${told.fileName}: ${how} (${why}).`);
+}
+
+function openNow(document) {
+  const { uri, languageId, version } = document;
+  const textDocument = { uri: String(uri), languageId, version, text: document.getText() };
+  return client.sendNotification("textDocument/didOpen", { textDocument });
+}
+
+const messageStrategy = {
+  handleMessage(message, next) {
+    const { method, params, id, error } = message;
+    if (method === "textDocument/publishDiagnostics" && params.version !== undefined) unread.tried.delete(params.uri);
+    if (id === null && error && /^not (JSON|a message)$/.test(error.message)) openAgain(error.message);
+    else next(message);
+  },
+};
+
+function opened(document, next) {
+  unread.told = document;
+  return next(document);
+}
+
+function changed(change, next) {
+  unread.told = change.document;
+  return unread.closed.delete(String(change.document.uri)) ? openNow(change.document) : next(change);
+}
+
+function closed(document, next) {
+  for (const it of [unread.tried, unread.closed]) it.delete(String(document.uri));
+  return next(document);
+}
+
 const middleware = {
+  didOpen: opened,
+  didChange: changed,
+  didClose: closed,
+  provideHover: findOrTell,
+  provideDefinition: findOrTell,
+  prepareRename: prepareOrTell,
   provideRenameEdits: unlessLate,
-  provideDocumentFormattingEdits: unlessLate,
+  provideDocumentFormattingEdits: layoutUnlessLate,
   provideCodeActions: actionsUnlessLate,
 };
+const NEVER = 4; // of RevealOutputChannelOn: the client shows no message of its own for a request that is refused
 
 function isThere(name) {
   return new Promise((settle) => execFile(name, ["--version"], (error) => settle(!(error && error.syscall))));
@@ -144,7 +249,8 @@ async function start() {
     return;
   }
   const documentSelector = ["file", "untitled"].map((scheme) => ({ language: "oberon0", scheme }));
-  client = new LanguageClient("ob0", "Oberon-0", { command: name, args: ["serve"] }, { documentSelector, middleware });
+  const options = { documentSelector, middleware, revealOutputChannelOn: NEVER, connectionOptions: { messageStrategy } };
+  client = new LanguageClient("ob0", "Oberon-0", { command: name, args: ["serve"] }, options);
   await client.start();
 }
 

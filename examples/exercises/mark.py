@@ -6,7 +6,7 @@
 A path is a module that is named like an exercise (Clock.mod, Clock.Mod or Clock.ob0), or a folder with such modules. Each is
 checked, and run on each input of its exercise. README.md has the exercises; Clock.txt has the inputs of Clock (`in:`) with the
 lines that are to be printed (`out:`). The status is 0 if each path has a module to mark and all of them are right, 1 if not, 2 if
-there was nothing to mark in any path, or the command line is refused, 4 if what was found can't be printed."""
+there was nothing to mark in any path, or the command line is refused, 4 if the result can't be printed."""
 from __future__ import annotations
 
 import argparse
@@ -26,6 +26,7 @@ from typing import IO, Any, Dict, Iterator, List, NamedTuple, NoReturn, Optional
 HERE = os.path.dirname(os.path.abspath(__file__))
 ENDINGS = (".mod", ".Mod", ".ob0")
 WHERE = " (docs/MESSAGES.md says what that means)"
+UNCHECKED = {"fault: Utf8": "it isn't UTF-8: save it as UTF-8", "fault: File": "it can't be read"}
 MOST_PRINTED = 1 << 20  # bytes
 MOST_MEMORY = 2 << 30  # bytes
 CAUSES = {
@@ -40,7 +41,7 @@ CAUSES = {
 }
 
 STOPPING = (signal.SIGINT, signal.SIGTERM, signal.SIGHUP)
-FORMULA = ("=", "+", "-", "@", "\t", "\r")  # what a spreadsheet takes as the start of a formula
+FORMULA = tuple("=+-@\uff1d\uff0b\uff0d\uff20")  # the signs (also in full width) that begin a formula in a spreadsheet
 
 Lines = List[List[str]]
 
@@ -50,7 +51,7 @@ class Refused(Exception):
 
 
 class Unprinted(Exception):
-    """What was found can't be printed."""
+    """The result can't be printed."""
 
 
 class Stopped(BaseException):
@@ -65,7 +66,7 @@ class Case(NamedTuple):
 
 
 class Ended(NamedTuple):
-    """What a command wrote, and its status: None where it was stopped after the time that it may take."""
+    """The output of a command, and its status: None if it was stopped after the time that it may take."""
 
     out: str
     err: str
@@ -92,7 +93,7 @@ class Marked(NamedTuple):
 
 
 class Result(NamedTuple):
-    """What was found in a path: its modules, and lines about the rest."""
+    """The result of a path: its modules, and lines about the rest."""
 
     path: str
     modules: List[Marked]
@@ -119,8 +120,11 @@ def say(line: Union[str, bytes], stream: Optional[TextIO] = sys.stdout) -> None:
 
 
 def on_a_line(name: str) -> str:
-    """Returns a name with a number for each control character, so that it is a part of one line."""
-    return re.sub(r"[\x00-\x1f\x7f]", lambda it: f"\\x{ord(it[0]):02x}", name)
+    """Returns a name with a number for each character that isn't shown as it is, such as a line end or a control of the terminal, so that
+    it is a part of one line. Its bytes that aren't UTF-8 are unchanged."""
+    letters = os.fsencode(name).decode("utf-8", "surrogateescape")
+    shown = (it if it.isprintable() or "\udc80" <= it <= "\udcff" else it.encode("unicode_escape").decode() for it in letters)
+    return os.fsdecode("".join(shown).encode("utf-8", "surrogateescape"))
 
 
 def numbers_of(lines: List[str]) -> Lines:
@@ -166,11 +170,11 @@ def inputs_in(folder: str) -> Dict[str, List[Case]]:
     return found
 
 
-def call(marking: Marking, words: List[str], given: str = "") -> Ended:
-    """Runs the program with these words on this input, under the limits."""
+def call(marking: Marking, words: List[str], given: str = "", program: str = "") -> Ended:
+    """Runs the program, or another one, with these words on this input, under the limits."""
 
     def limit() -> None:
-        """Bounds what a run may write and take. (Its processor time is bounded too, in case this script is killed before it ends.)"""
+        """Bounds what a run may write and take. (Its processor time is also bounded, in case this script is killed before it ends.)"""
         seconds = int(marking.seconds) + 2
         for which, most in ((resource.RLIMIT_FSIZE, MOST_PRINTED), (resource.RLIMIT_DATA, MOST_MEMORY), (resource.RLIMIT_CPU, seconds)):
             hard = resource.getrlimit(which)[1]
@@ -184,7 +188,7 @@ def call(marking: Marking, words: List[str], given: str = "") -> Ended:
         # (a signal waits until the process that it has to end is known)
         signal.pthread_sigmask(signal.SIG_BLOCK, STOPPING)
         try:
-            with subprocess.Popen([marking.program, *words], **how) as process:
+            with subprocess.Popen([program or marking.program, *words], **how) as process:
                 try:
                     signal.pthread_sigmask(signal.SIG_UNBLOCK, STOPPING)
                     process.communicate(given.encode(), marking.seconds)
@@ -200,7 +204,7 @@ def call(marking: Marking, words: List[str], given: str = "") -> Ended:
 
 
 def text_in(file: IO[bytes]) -> str:
-    """Returns what was written to a file, from its start, in ASCII."""
+    """Returns the contents of a file, from its start, in ASCII."""
     file.seek(0)
     return file.read().decode("ascii", "backslashreplace")
 
@@ -227,14 +231,14 @@ def fault_of(marking: Marking, file: str) -> Optional[str]:
         return None
     place = re.match(r"(\d+):(\d+): (?:Syntax: )?(.*)", found.out)
     if place is None:
-        return f"it can't be checked: {found.err.strip()}{WHERE}"
+        return UNCHECKED.get(found.err.strip(), f"it can't be checked: {found.err.strip()}{WHERE}")
     line, column = int(place[1]) + 1, int(place[2]) + 1
     cause = "save it without a byte order mark" if begins_with_mark(file) else place[3] + WHERE
     return f"line {line}, column {column}: {cause}"
 
 
 def begins_with_mark(file: str) -> bool:
-    """Whether a file begins with a byte order mark."""
+    """Returns whether a file begins with a byte order mark."""
     with open(file, "rb") as it:
         return it.read(3) == codecs.BOM_UTF8
 
@@ -250,9 +254,21 @@ def why_wrong(marking: Marking, file: str, case: Case) -> Optional[str]:
         return f"ob0 was stopped by signal {-found.status}"
     if found.status:
         name = found.err.strip().partition("fault: ")[2]
-        return f"the run ends with {name}: {CAUSES[name]}" if name in CAUSES else found.err.strip()
+        where = line_of_fault(marking, file, case)
+        return f"the run ends with {name}{where}: {CAUSES[name]}" if name in CAUSES else found.err.strip()
     printed = numbers_of(found.out.split("\n"))
     return None if printed == case.wanted else difference(case.wanted, printed)
+
+
+def line_of_fault(marking: Marking, file: str, case: Case) -> str:
+    """Returns the line in which a run ends with a fault, in words, if the script ob0-trace is installed and finds it."""
+    folders = [os.path.dirname(marking.program), os.path.join(HERE, "..", "..", "share"), os.environ.get("PATH", "")]
+    tracer = shutil.which("ob0-trace", path=os.pathsep.join(folders))
+    if tracer is None:
+        return ""
+    found = call(marking, ["--program", marking.program, "--", file], case.given, tracer)
+    place = re.search(r":(\d+):\d+: [A-Z]\w+: ", found.err) if found.status == 1 else None
+    return f" in line {place[1]}" if place else ""
 
 
 def why_not_right(marking: Marking, exercise: str, file: str) -> Optional[str]:
@@ -285,7 +301,9 @@ def modules_in(marking: Marking, path: str) -> List[str]:
     """Returns the modules of a folder that are named like exercises, in the order of the exercises; or the one module."""
     if not os.path.isdir(path):
         return [path]
-    return [it for name in marking.cases for it in (os.path.join(path, name + ending) for ending in ENDINGS) if os.path.isfile(it)]
+    found = [os.path.join(path, name + ending) for name in marking.cases for ending in ENDINGS]
+    # (a link could lead to another's answer)
+    return [it for it in found if os.path.isfile(it) and not os.path.islink(it)]
 
 
 def unmarked(marking: Marking, path: str) -> Iterator[str]:
@@ -299,15 +317,19 @@ def why_unmarked(marking: Marking, path: str) -> str:
     """Why an entry of a folder isn't marked."""
     stem, ending = os.path.splitext(os.path.basename(path))
     meant = next((it for it in marking.cases if it.lower() == stem.lower()), None)
+    if os.path.islink(path):
+        return "it is a link"
     if not os.path.isfile(path):
         return "it is a folder" if os.path.isdir(path) else "it isn't a file"
+    if stem not in marking.cases and ending in ENDINGS and os.path.isfile(os.path.join(HERE, f"{stem}.txt")):
+        return f"the inputs have no {stem}.txt"
     if meant and ending.lower() in ENDINGS:
         return f"is it {meant}{ending if ending in ENDINGS else ending.lower()}? Upper and lower case differ"
     return "it isn't named like an exercise"
 
 
 def mark(marking: Marking, path: str, is_said: bool) -> Result:
-    """Marks a path, and prints what is found if `is_said`."""
+    """Marks a path, and prints the result if `is_said`."""
     result = Result(path, [], [])
 
     def found(line: str, is_other: bool = False) -> None:
@@ -339,25 +361,26 @@ def mark(marking: Marking, path: str, is_said: bool) -> Result:
             found(f"  it can't be read: {why.strerror}", True)
         rights = result.exercises()
         missing = [it for it in marking.cases if it not in rights]
-        found(f"  {sum(rights.values())} of {len(marking.cases)} right" + (f"; not there: {', '.join(missing)}" if missing else ""))
+        found(f"  {sum(rights.values())} of {len(marking.cases)} right" + (f"; missing: {', '.join(missing)}" if missing else ""))
     return result
 
 
 def plain(text: str) -> str:
-    """Returns a text for a cell of a table: in UTF-8, and no formula."""
-    shown = os.fsencode(text).decode(errors="backslashreplace")
+    """Returns a text for a cell of a table: in UTF-8, on a line, and no formula, also if a spreadsheet takes `;` for the end of a cell."""
+    shown = os.fsencode(on_a_line(text)).decode(errors="backslashreplace").replace(";", "\\x3b")
     return "'" + shown if shown.startswith(FORMULA) else shown
 
 
 def row_of(marking: Marking, result: Result) -> bytes:
     """Returns a line of a table in CSV: a path's name, how many exercises are right, a cell for each exercise, and the rest."""
-    cells = ["; ".join(it.said() for it in result.modules if it.exercise == exercise) for exercise in marking.cases]
-    return csv_line([name_of(result.path), str(sum(result.exercises().values())), *cells, "; ".join(result.others)])
+    cells = [" / ".join(it.said() for it in result.modules if it.exercise == exercise) for exercise in marking.cases]
+    return csv_line([name_of(result.path), str(sum(result.exercises().values())), *cells, " / ".join(result.others)])
 
 
 def csv_line(cells: List[str]) -> bytes:
+    """Returns a line of a table, with each cell in quotes."""
     file = io.StringIO()
-    csv.writer(file).writerow([plain(it) for it in cells])
+    csv.writer(file, quoting=csv.QUOTE_ALL).writerow([plain(it) for it in cells])
     return file.getvalue().encode()[:-1]
 
 
@@ -366,7 +389,7 @@ def name_of(path: str) -> str:
 
 
 def mark_all(marking: Marking, paths: List[str], is_table: bool) -> int:
-    """Marks each path, prints what is found, and returns the status."""
+    """Marks each path, prints the results, and returns the status."""
     if is_table:
         say(csv_line(["name", "right", *marking.cases, "others"]))
     results = []
@@ -392,7 +415,7 @@ def seconds_of(word: str) -> float:
 def parsed(words: List[str]) -> argparse.Namespace:
     """Returns what a command line gives."""
     parser = argparse.ArgumentParser(description="Marks modules of Oberon-0 by the exercises of this folder.")
-    parser.add_argument("--program", default="ob0", help="the program ob0, where it isn't on PATH")
+    parser.add_argument("--program", default="ob0", help="the program ob0, if it isn't on PATH")
     parser.add_argument("--seconds", type=seconds_of, default=10, help="the longest that one run may take (10)")
     parser.add_argument("--inputs", metavar="FOLDER", default=HERE, help="a folder with other inputs, such as a file Clock.txt")
     parser.add_argument("--table", action="store_true", help="print a table in CSV: a row for each path, a column for each exercise")
@@ -414,13 +437,13 @@ def main(words: List[str]) -> int:
     try:
         program = shutil.which(given.program)
         if program is None:
-            raise Refused(f"there is no program {given.program}: --program names another")
+            raise Refused(f"there is no program {given.program}: give its path with --program")
         return mark_all(Marking(os.path.abspath(program), given.seconds, inputs_in(given.inputs)), given.paths, given.table)
     except Refused as refused:
         say(str(refused), sys.stderr)
         return 2
     except Unprinted as why:
-        say(f"what was found can't be printed: {why}", sys.stderr)
+        say(f"the result can't be printed: {why}", sys.stderr)
         return 4
     except Stopped as stopped:
         signal.signal(stopped.args[0], signal.SIG_DFL)

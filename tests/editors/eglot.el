@@ -157,6 +157,60 @@
     (ob0-report "changes" (- (buffer-chars-modified-tick) tick)))
   (ob0-report "text again" (ob0-text)))
 
+(defun ob0-said-by (command)
+  "What the user reads after a COMMAND that is refused."
+  (condition-case why (progn (funcall command) "nothing") (error (error-message-string why))))
+
+(defun ob0-refused ()
+  "Renames that are refused, and what is asked while the module has an error."
+  (dolist (it (alist-get 'renames ob0-given))
+    (apply #'ob0-goto (car it))
+    (ob0-report (cadr it) (ob0-said-by (lambda () (eglot-rename (cadr it))))))
+  (ob0-after (lambda () (ob0-goto 0 0) (end-of-line) (insert "$")))
+  (ob0-goto 1 4)
+  (ob0-report "rename" (ob0-said-by (lambda () (eglot-rename "q"))))
+  (ob0-report "definition" (ob0-said-by (lambda () (xref-find-definitions "LSP identifier at point."))))
+  (ob0-report "format" (ob0-said-by #'eglot-format-buffer)))
+
+(defun ob0-unread ()
+  "What is told to the server of a text that can't be told, and after a message that it can't read."
+  (let* ((told nil)
+         (said nil)
+         (tell (lambda (_ method &rest _) (push (substring (symbol-name method) 14) told)))
+         (say (lambda (text &rest more) (when text (push (apply #'format text more) said))))
+         (after (lambda (step does count)
+                  (setq told nil said nil)
+                  (funcall does)
+                  (ob0-await "what is told" (lambda ()
+                                            (eglot--signal-textDocument/didChange)
+                                            (accept-process-output nil 0.05)
+                                            (>= (length told) count)))
+                  (ob0-report step (vector (string-join (reverse told) " ")
+                                         (string-join (seq-filter (lambda (it) (string-prefix-p "ob0: " it)) (reverse said)) " | "))))))
+    (advice-add 'jsonrpc-notify :before tell)
+    (advice-add 'message :before say)
+    (ob0-goto 1 0)
+    (funcall after "half a pair" (lambda () (insert "(* " #xd83d " *)")) 4)
+    (funcall after "still" (lambda () (insert " ")) 1)
+    (funcall after "mended" (lambda () (erase-buffer) (insert "MODULE M;\n$END M.\n")) 1)
+    (advice-remove 'message say)
+    (ob0-await "diagnostics" (lambda () (= (length ob0-said) 1)))
+    (advice-add 'message :before say)
+    (funcall after "no message" (lambda () (process-send-string (jsonrpc--process (eglot-current-server)) "Content-Length: 1\r\n\r\n{")) 2)
+    (advice-remove 'message say)
+    (advice-remove 'jsonrpc-notify tell)))
+
+(defun ob0-formatted ()
+  "A layout and whether it changes something, the same once more, and the file that is written then."
+  (dotimes (_ 2)
+    (let ((tick (buffer-chars-modified-tick)))
+      (eglot-format-buffer)
+      (ob0-report "changes" (if (> (buffer-chars-modified-tick) tick) t :false))))
+  (save-buffer)
+  (ob0-report "file" (with-temp-buffer
+                     (let ((coding-system-for-read 'utf-8-unix)) (insert-file-contents (getenv "OB0_FILE")))
+                     (buffer-string))))
+
 (defun ob0-end (server)
   "Shuts the SERVER down as eglot does, and waits for its end."
   (let ((process (jsonrpc--process server)))

@@ -1,6 +1,6 @@
 #!/bin/sh
 # Kakoune without a screen: the file type of each file that is named, into OB0_REPORT, what `lint` finds in a faulty file
-# before and after it is mended, the type of a new file before and after it is saved, and what :comment-line does.
+# before and after it is mended, the type of a new file before and after it is saved, and what :format and :comment-line do.
 #
 # What is said in two calls can change places, so each has an answer, which is awaited before the next one is said. It is a
 # file, which has its name once it is whole.
@@ -35,5 +35,7 @@ await finds_none mended
 answer unsaved "edit '$OB0_WORK/new.mod'; execute-keys 'iMODULE N; END N.<esc>'" '%opt{filetype}'
 answer saved write '%opt{filetype}'
 answer commented "try comment-line; execute-keys '%'" '%val{selection}'
+answer formatted "edit '$OB0_WORK/new.mod'; execute-keys '%cMODULE N;BEGIN WriteLn END N.<esc>'; format; execute-keys '%'" '%val{selection}'
+answer faulty_formatted "execute-keys '%cMODULE N;BEGIN x END N.<esc>'; try %{ format } catch %{ set-register f %val{error} }; execute-keys '%'" '%val{selection} %reg{f}'
 printf 'kill!\n' | kak -p ob0test
 wait $editor

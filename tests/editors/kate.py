@@ -1,9 +1,9 @@
 #!/usr/bin/env python3
 """Drives Kate by its keys, on a screen that nobody sees: run by xvfb-run and dbus-run-session.
 
-Variables: OB0_FILE (the file to edit), OB0_REPORT (where the findings go, a line of JSON each), OB0_STEPS (the name of a list
+Variables: OB0_FILE (the file to edit), OB0_REPORT (the file for the findings, a line of JSON each), OB0_STEPS (the name of a list
 of steps below), OB0_GIVEN (a place in the file, as JSON), OB0_WIRE (the folder of tests/lib/holding.py, which is between Kate and
-the server). What is reported is what went over the wire, and what Kate saved."""
+the server). The report lists the messages on the wire, and the text that Kate saved."""
 from __future__ import annotations
 
 import functools
@@ -70,28 +70,28 @@ def told(*words: str) -> list[str]:
 
 
 def is_shown(name: str) -> bool:
-    """Whether a window of this name is there."""
+    """Returns whether a window of this name exists."""
     return bool(told("search", "--onlyvisible", "--name", name))
 
 
 def windows() -> set[str]:
-    """The windows that are there. (Lists of commands and menus have no name.)"""
+    """Returns the present windows. (Lists of commands and menus have no name.)"""
     return {*told("search", "--onlyvisible", "--class", "kate")}
 
 
 def new_window(before: set[str]) -> set[str]:
-    """What is there beside these windows."""
+    """Returns the windows except these."""
     return windows() - before
 
 
 def takes_keys(name: str) -> bool:
-    """Whether the window that takes the keys has this name."""
+    """Returns whether the window that takes the keys has this name."""
     return bool({*told("getactivewindow")} & {*told("search", "--onlyvisible", "--name", name)})
 
 
 def command(name: str, comes: Callable[[], Any]) -> Any:
     """Chooses a command by its name, as often as it takes to be taken."""
-    # (Kate 25 lists a switch whose name begins alike above one of them; chosen twice that is as it was)
+    # (Kate 25 lists a switch whose name begins alike above one of them; chosen twice, it is unchanged)
     for below in 0, 0, 1, 1:
         try:
             before = windows()
@@ -114,13 +114,13 @@ def name_asked(name: str) -> None:
 
 
 def is_answered() -> bool:
-    """Whether the last text that was sent has its diagnostics."""
+    """Returns whether the last text that was sent has its diagnostics."""
     sent = WIRE.sent("textDocument/didOpen", "textDocument/didChange")
     return bool(WIRE.published()[-1]["version"] == sent[-1]["params"]["textDocument"]["version"])
 
 
 def is_quiet() -> bool:
-    """Whether that is so, and for a second nothing more was sent: the edits of one answer can be several changes."""
+    """Returns whether that is so, and for a second nothing more was sent: the edits of one answer can be several changes."""
     before = len(WIRE.events())
     time.sleep(1)
     return is_answered() and len(WIRE.events()) == before

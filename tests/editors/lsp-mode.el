@@ -101,6 +101,32 @@
   (ob0-report "formatted" (ob0-after #'lsp-format-buffer))
   (ob0-report "text" (ob0-text)))
 
+(defun ob0-said-by (command)
+  "What the user reads after a COMMAND that is refused."
+  (condition-case why (progn (funcall command) "nothing") (error (error-message-string why))))
+
+(defun ob0-refused ()
+  "Renames that are refused, and what is asked while the module has an error."
+  (dolist (it (alist-get 'renames ob0-given))
+    (apply #'ob0-goto (car it))
+    (ob0-report (cadr it) (ob0-said-by (lambda () (lsp-rename (cadr it))))))
+  (ob0-after (lambda () (ob0-goto 0 0) (end-of-line) (insert "$")))
+  (ob0-goto 1 4)
+  (ob0-report "rename" (ob0-said-by (lambda () (lsp-rename "q"))))
+  (ob0-report "definition" (ob0-said-by (lambda () (xref-find-definitions (xref-backend-identifier-at-point 'xref-lsp)))))
+  (ob0-report "format" (ob0-said-by #'lsp-format-buffer)))
+
+(defun ob0-formatted ()
+  "A layout and whether it changes something, the same once more, and the file that is written then."
+  (dotimes (_ 2)
+    (let ((tick (buffer-chars-modified-tick)))
+      (lsp-format-buffer)
+      (ob0-report "changes" (if (> (buffer-chars-modified-tick) tick) t :false))))
+  (save-buffer)
+  (ob0-report "file" (with-temp-buffer
+                     (let ((coding-system-for-read 'utf-8-unix)) (insert-file-contents (getenv "OB0_FILE")))
+                     (buffer-string))))
+
 (defun ob0-run-steps ()
   "Opens the file, which starts the server on it, takes the steps and ends."
   (find-file (getenv "OB0_FILE"))

@@ -257,30 +257,102 @@ function steps.emptied(client)
   end
 end
 
--- What is said of edits that are refused.
-function steps.refused()
-  say("opened", diagnosed(0))
-  local said = nil
+-- What is said after each of some steps: everything that Neovim and ob0's files say.
+local function said_by(does)
+  local said = {}
   vim.notify = function(text)
-    said = text
+    table.insert(said, text)
   end
   vim.api.nvim_echo = function(chunks)
-    said = chunks[1][1]
+    table.insert(said, chunks[1][1])
   end
   vim.api.nvim_err_writeln = vim.notify
-  for _, name in ipairs(given.names) do
-    said = nil
-    go(given.place)
-    vim.lsp.buf.rename(name)
-    await("what is said", function()
-      return said ~= nil
-    end)
-    say(name, (said:gsub("^.-: %-?%d+: ", "")))
+  does()
+  await("what is said", function()
+    return #said > 0
+  end)
+  vim.wait(100)
+  return table.concat(said, " | ")
+end
+
+local asked_in_error = {
+  rename = function()
+    vim.lsp.buf.rename("q")
+  end,
+  hover = vim.lsp.buf.hover,
+  definition = vim.lsp.buf.definition,
+  format = lay_out,
+}
+
+-- What is said of edits that are refused, and of what is asked while the module has an error.
+function steps.refused()
+  say("opened", diagnosed(0))
+  for _, it in ipairs(given.renames) do
+    say(it[2], said_by(function()
+      go(it[1])
+      vim.lsp.buf.rename(it[2])
+    end))
   end
   after(keys("ggO$<Esc>"))
-  said = nil
-  lay_out()
-  say("format", said)
+  for _, name in ipairs({ "rename", "hover", "definition", "format" }) do
+    go(given.renames[1][1])
+    say(name, said_by(asked_in_error[name]))
+  end
+end
+
+-- What is told to the server of a text that it can't read, until it can; and what is shown then.
+function steps.unread(client)
+  say("opened", diagnosed(0))
+  local told, said = {}, {}
+  local notify = client.rpc.notify
+  client.rpc.notify = function(method, params)
+    table.insert(told, method:match("did%a+"))
+    return notify(method, params)
+  end
+  vim.notify = function(text)
+    table.insert(said, text)
+  end
+  local function after_telling(line, count)
+    vim.api.nvim_buf_set_lines(0, 1, 2, true, { line })
+    await("what is told", function()
+      return #told >= count
+    end)
+    vim.wait(500)
+    say(line:gsub("[^%w ]", ""), { table.concat(told, " "), table.concat(said, " | ") })
+    told, said = {}, {}
+  end
+  after_telling("(* a \237\160\189 *)", 4)
+  after_telling("(* b \237\160\189 *)", 2)
+  after_telling("$", 1)
+  say("read", diagnosed(published - 1))
+end
+
+-- A layout, how many changes it makes, the same once more, and the file that is written then.
+function steps.formatted()
+  say("opened", diagnosed(0))
+  for _ = 1, 2 do
+    local tick = vim.api.nvim_buf_get_changedtick(0)
+    lay_out()
+    say("changes", vim.api.nvim_buf_get_changedtick(0) > tick)
+  end
+  vim.cmd("write")
+  local written = assert(io.open(file, "rb"))
+  say("file", written:read("*a"))
+end
+
+-- What the prompt of a rename begins with.
+function steps.prompted()
+  say("opened", diagnosed(0))
+  local prompt = nil
+  vim.ui.input = function(settings)
+    prompt = settings.default
+  end
+  go(given.place)
+  vim.lsp.buf.rename()
+  await("the prompt", function()
+    return prompt
+  end)
+  say("prompted", prompt)
 end
 
 -- The messages that are shown with diagnostics where Neovim shows none.

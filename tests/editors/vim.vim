@@ -71,6 +71,35 @@ function! s:mending() abort
   call s:Tell('mended', s:After({-> [deletebufline('', 1, '$'), setline(1, split(s:given.mended, "\n"))]}))
 endfunction
 
+" The lines of ob0's files that come after something is asked.
+function! s:SaidBy(Ask) abort
+  messages clear
+  call a:Ask()
+  call s:Await('what is said', {-> execute('messages') =~# 'ob0: '})
+  return join(filter(split(execute('messages'), "\n"), 'v:val =~# "^ob0: "'), ' | ')
+endfunction
+
+function! s:Renamed(name) abort
+  let s:given.name = a:name
+  ALERename
+endfunction
+
+function! s:Inserted(text) abort
+  call setline(1, getline(1) . a:text)
+endfunction
+
+function! s:refused() abort
+  for [l:place, l:name] in s:given.renames
+    call s:Go(l:place)
+    call s:Tell(l:name, s:SaidBy({-> s:Renamed(l:name)}))
+  endfor
+  call s:After({-> s:Inserted('$')})
+  call s:Go([1, 4])
+  call s:Tell('rename', s:SaidBy({-> s:Renamed('q')}))
+  call s:Tell('hover', s:SaidBy({-> execute('ALEHover')}))
+  call s:Tell('definition', s:SaidBy({-> execute('ALEGoToDefinition')}))
+endfunction
+
 function! s:looking() abort
   for l:place in s:given.places
     call s:Go(l:place)
@@ -94,6 +123,13 @@ function! s:rename() abort
   call s:Go(s:given.place)
   call s:Tell('renamed', s:After({-> execute('ALERename')}))
   call s:Tell('text', s:Text())
+endfunction
+
+function! s:formatted() abort
+  call s:Tell('formatted', s:After({-> execute('ALEFix')}))
+  call s:Tell('text', s:Text())
+  write
+  call s:Tell('file', join(readfile($OB0_FILE, 'b'), "\n"))
 endfunction
 
 function! s:acting() abort

@@ -22,6 +22,12 @@ class LanguageClient {
     return new Promise((settle, fail) => (this.waiting[id] = [settle, fail]));
   }
   take(message) {
+    this.options.connectionOptions.messageStrategy.handleMessage(message, (it) => this.handle(it));
+  }
+  sendNotification(method, params) {
+    this.send({ method, params });
+  }
+  handle(message) {
     if (message.error) return this.waiting[message.id][1](new Error(message.error.message));
     if (message.id) return this.waiting[message.id][0](message.result);
     const diagnostics = message.params.diagnostics.map((it) => ({ code: it.code }));
@@ -47,10 +53,12 @@ class LanguageClient {
     const textDocument = { codeAction: { codeActionLiteralSupport: { codeActionKind: { valueSet: ["refactor"] } } } };
     await this.ask("initialize", { capabilities: { workspace: { workspaceEdit: { documentChanges: true } }, textDocument } });
     this.send({ method: "initialized", params: {} });
-    for (const document of vscode.workspace.textDocuments) this.opened(document);
-    vscode.workspace.onDidOpenTextDocument(this.opened, this);
-    vscode.workspace.onDidChangeTextDocument(this.changed, this);
-    vscode.workspace.onDidCloseTextDocument(this.closed, this);
+    const { middleware } = this.options;
+    const tells = (name, tell) => (what) => middleware[name](what, (it) => tell.call(this, it));
+    for (const document of vscode.workspace.textDocuments) tells("didOpen", this.opened)(document);
+    vscode.workspace.onDidOpenTextDocument(tells("didOpen", this.opened));
+    vscode.workspace.onDidChangeTextDocument(tells("didChange", this.changed));
+    vscode.workspace.onDidCloseTextDocument(tells("didClose", this.closed));
     this.provide();
     this.running = true;
   }
@@ -80,10 +88,19 @@ class LanguageClient {
     const provideCodeActions = through("provideCodeActions", async (document, range, context) =>
       (await this.ask("textDocument/codeAction", { textDocument: of(document), range, context }))
         .map((it) => Object.assign(new vscode.CodeAction(it.title), { edit: this.asEdit(it.edit) })));
-    vscode.languages.registerRenameProvider(null, { provideRenameEdits });
+    const found = (name, method) => through(name, (document, position) => this.ask(method, { textDocument: of(document), position }));
+    const prepareRename = through("prepareRename", async (document, position) => {
+      const range = await this.ask("textDocument/prepareRename", { textDocument: of(document), position });
+      if (!range) throw new Error("The element can't be renamed.");
+      return range;
+    });
+    vscode.languages.registerHoverProvider(null, { provideHover: found("provideHover", "textDocument/hover") });
+    vscode.languages.registerDefinitionProvider(null, { provideDefinition: found("provideDefinition", "textDocument/definition") });
+    vscode.languages.registerRenameProvider(null, { provideRenameEdits, prepareRename });
     vscode.languages.registerDocumentFormattingEditProvider(null, { provideDocumentFormattingEdits });
     vscode.languages.registerCodeActionsProvider(null, { provideCodeActions });
   }
+  get diagnostics() { return this.shown; }
   needsStop() { return Boolean(this.running); }
   async stop() {
     if (!this.running) throw new Error("the client isn't running");
@@ -107,6 +124,7 @@ async function until(holds, what) {
 }
 
 const TEXT = "MODULE M;\nCONST k = 7;\nBEGIN Write(k) END M.\n";
+const LAID_OUT = "MODULE M;\nCONST\n  k = 7;\nBEGIN\n  Write(k)\nEND M.\n";
 const TWO = "MODULE M;\nCONST k = 7; j = 8;\nBEGIN Write(k) END M.\n";
 let count = 0;
 
@@ -127,10 +145,20 @@ const inline = async (document) => {
 };
 const ASKED = { rename: ["textDocument/rename", rename], layout: ["textDocument/formatting", layOut], inlining: ["textDocument/codeAction", inline] };
 
+// Writes a file as a slow disk does: it is empty for some milliseconds, which differ from one time to the next.
+const PAUSES = [1, 3, 10];
+let written = 0;
+async function rewrite(name, text) {
+  const file = fs.openSync(name, "w");
+  await new Promise((settle) => setTimeout(settle, PAUSES[written++ % PAUSES.length]));
+  fs.writeSync(file, text);
+  fs.closeSync(file);
+}
+
 const typed = async (document) => (user.type(document, 1, 0, "(* new *)\n"), document);
 const reopened = async (document) => {
   user.close(document);
-  fs.writeFileSync(document.fileName, TEXT.replace("\n", "\n(* new *)\n"));
+  await rewrite(document.fileName, TEXT.replace("\n", "\n(* new *)\n"));
   return user.open(document.fileName);
 };
 const WHEN = { "first version": [true, typed], "later version": [false, typed], "reopened": [true, reopened] };
@@ -158,6 +186,52 @@ async function refused() {
     found.push(await user.rename(document, 1, 6, name).then(String, (why) => why.message));
   }
   return found;
+}
+
+// What is said of what is asked in a module with an error.
+async function inFaulty(document) {
+  const found = {};
+  const asked = {
+    layout: () => user.layOut(document),
+    hover: () => user.find("Hover", document, 1, 6),
+    definition: () => user.find("Definition", document, 1, 6),
+    prepare: () => user.prepare(document, 1, 6),
+  };
+  for (const [name, ask] of Object.entries(asked)) {
+    done.status = [];
+    found[name] = [await ask().then(Boolean, (why) => why.message), done.status];
+  }
+  const sound = await fresh(true);
+  found.unnamed = await user.prepare(sound, 0, 0).then(Boolean, (why) => why.message);
+  return found;
+}
+
+// How often formatting changes a text that is formatted but for its line ends, and the text after it.
+async function carriageReturns() {
+  const document = await fresh(true, LAID_OUT.replace(/\n/g, "\r\n"));
+  const { version } = document;
+  const isAnswered = await user.layOut(document);
+  return [isAnswered, document.version - version, document.text];
+}
+
+// What is told of a document with half a surrogate pair, and then without it; and what is said.
+async function half() {
+  const document = await fresh(true);
+  const told = () => fs.readFileSync(path.join(wire, "wire"), "utf8").split(path.basename(document.fileName)).length;
+  const found = [];
+  for (const [text, count] of [["\ud83d", 4], [" ", 2]]) {
+    const before = told();
+    done.messages = [];
+    user.type(document, 0, 0, text);
+    await until(() => told() >= before + count, "what is told");
+    await new Promise((settle) => setTimeout(settle, 300));
+    found.push(done.messages.map((it) => it.replace(document.fileName, "FILE")));
+  }
+  document.text = TEXT;
+  delete done.diagnostics[document.fileName];
+  user.type(document, 0, 0, " ");
+  await until(() => done.diagnostics[document.fileName], "the diagnostics");
+  return [...found, done.diagnostics[document.fileName]];
 }
 
 async function edits() {
@@ -251,9 +325,12 @@ async function main() {
   found.tasks = await tasksThatRun(manifest);
   found.unsaved = await unsaved(faulty);
   done.messages = [];
-  found.faulty = await user.layOut(faulty).then(String, (why) => why.message);
+  found.faulty = await inFaulty(faulty);
   found.told = done.messages;
   found.refused = await refused();
+  found.carriageReturns = await carriageReturns();
+  // (that depends on an option of the client which was never tried with the real one)
+  if (kind !== "real") found.half = await half();
   found.edits = await edits();
   found.restarted = await restarted();
   found.stopped = await extension.deactivate().then(() => "deactivated", String);

@@ -71,7 +71,7 @@ class Document {
   isClosed = false;
   isUntitled = false;
   constructor(file, text) { Object.assign(this, { uri: Uri.file(file), fileName: file, text }); }
-  getText() { return this.text; }
+  getText(range) { return range ? this.text.slice(this.offsetAt(range.start), this.offsetAt(range.end)) : this.text; }
   offsetAt({ line, character }) { return this.text.split("\n").slice(0, line).reduce((sum, it) => sum + it.length + 1, character); }
   positionAt(offset) {
     const lines = this.text.slice(0, offset).split("\n");
@@ -95,7 +95,7 @@ const settings = { path: "ob0" };
 const events = {};
 const event = (name) => (events[name] = events[name] || new EventEmitter()).event;
 // what the extension and its client did: messages shown, tasks started, commands and providers, diagnostics by the names of files
-const done = { messages: [], executed: [], commands: {}, providers: {}, diagnostics: {}, refused: [] };
+const done = { messages: [], status: [], executed: [], commands: {}, providers: {}, diagnostics: {}, refused: [] };
 
 const workspace = filledIn(
   {
@@ -116,6 +116,7 @@ const window = filledIn(
     visibleTextEditors: [],
     tabGroups: { all: [], onDidChangeTabs: disposable, onDidChangeTabGroups: disposable },
     createOutputChannel: () => filledIn({}, () => () => {}),
+    setStatusBarMessage: (text) => (done.status.push(text), disposable()),
   },
   (name) => (name.startsWith("show") ? async (text) => void done.messages.push(text) : name.startsWith("on") ? event(name) : disposable),
 );
@@ -123,7 +124,13 @@ const languages = filledIn(
   {
     match: (selector, document) => [selector].flat().some((it) => it.language === document.languageId && it.scheme === document.uri.scheme),
     createDiagnosticCollection: () =>
-      filledIn({ set: (uri, found) => (done.diagnostics[uri.fsPath] = (found || []).map((it) => it.code)) }, () => () => {}),
+      filledIn(
+        {
+          set: (uri, found) => (done.diagnostics[uri.fsPath] = (found || []).map((it) => it.code)),
+          get: (uri) => done.diagnostics[uri.fsPath],
+        },
+        () => () => {},
+      ),
   },
   (name) => (selector, provider) => ((done.providers[name] = provider), disposable()),
 );
@@ -179,6 +186,12 @@ const user = {
     workspace.textDocuments.splice(workspace.textDocuments.indexOf(document), 1);
     document.isClosed = true;
     events.onDidCloseTextDocument?.fire(document);
+  },
+  async prepare(document, line, character) {
+    return done.providers.registerRenameProvider.prepareRename(document, new Position(line, character), token);
+  },
+  async find(what, document, line, character) {
+    return done.providers[`register${what}Provider`][`provide${what}`](document, new Position(line, character), token);
   },
   async rename(document, line, character, name) {
     const edit = await done.providers.registerRenameProvider.provideRenameEdits(document, new Position(line, character), name, token);

@@ -56,6 +56,16 @@ function! s:names() abort
   call s:Tell('laid out', s:Text())
 endfunction
 
+function! s:formatted() abort
+  YcmCompleter Format
+  call s:Tell('laid out', s:Text())
+  " (so that the text is told before it is saved)
+  call s:After('normal! gg0i$', 1)
+  call s:After('normal! gg0x', 0)
+  silent write
+  call s:Tell('file', join(readfile($OB0_FILE, 'b'), "\n"))
+endfunction
+
 function! s:inlining() abort
   call s:Go(s:given.place)
   " (the question which action is answered here: the first one)

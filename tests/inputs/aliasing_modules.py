@@ -1,4 +1,4 @@
-"""Well-typed modules whose runs show where each value is: few variables, of arrays and records within one another, passed
+"""Well-typed modules whose runs show the place of each value: few variables, of arrays and records within one another, passed
 by value and by VAR, copied whole and in part, changed under an index that is used again, and seen by procedures within
 procedures that call one another again. Nearly all is written in the end. `fuel` ends recursions, `i` and `j` are indexes.
 (Procedures of bench/corpus.py take a number and a VAR number, and nothing is copied there.)"""

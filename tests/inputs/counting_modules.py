@@ -32,7 +32,7 @@ class Maker:
         return f"{counter} := {counter} - {step}" if way < 0.9 else f"{counter} := {step} + {counter}"
 
     def other(self, counter: str, variables: List[str], depth: int) -> str:
-        """A statement of a body, beside the one that counts."""
+        """Returns a statement of a body, in addition to the one that counts."""
         variable, way = self.chance.choice(variables), self.chance.random()
         if way < 0.25:
             return f"Write({counter})"

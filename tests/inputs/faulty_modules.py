@@ -122,7 +122,7 @@ def module(seed: int) -> str:
 
 
 class Records:
-    """Modules of types alone: records in records, arrays and parameters, with names that are declared again."""
+    """Modules that contain only types: records in records, arrays and parameters, with names that are declared again."""
 
     def __init__(self, seed: int) -> None:
         self.chance = random.Random(f"records {seed}")

@@ -1,4 +1,4 @@
-"""The first conversation: what comes in and what goes out, with the lengths of its heads as they are, not counted."""
+"""The first conversation: input and output, with the lengths of the heads written out, not counted."""
 from __future__ import annotations
 
 from collections.abc import Iterable

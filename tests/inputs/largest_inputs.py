@@ -1,4 +1,4 @@
-"""The largest that is taken: texts of 1 MiB, long lists of faults, of changes and of messages, many documents. Each can be made in
+"""The largest accepted inputs: texts of 1 MiB, long lists of faults, of changes and of messages, many documents. Each can be made in
 any size, so that bench/run.py can say how its cost grows."""
 from __future__ import annotations
 
@@ -45,7 +45,7 @@ def none(_size: int) -> list[Message]:
     return []
 
 
-# name: its size, the text of a size, what is reported of it
+# name: its size, the text of a size, its diagnostics
 TEXTS = {
     "semicolons in a module": (MIB, filled("MODULE M; BEGIN", ";", " END M."), none),
     "only semicolons": (MIB, filled("", ";"), one("Syntax", "0:0-0:1", "expected MODULE")),
@@ -122,6 +122,6 @@ CASES = {
 
 
 def conversation(make: Callable[[int], Talk], size: int) -> tuple[bytes, list[str]]:
-    """The bytes of a conversation of a size, and all that is sent."""
+    """Returns the bytes of a conversation of a size, and all sent messages."""
     messages, wanted = make(size)
     return frames([initialize(), *messages, SHUTDOWN, EXIT]), [FIRST, *wanted, LAST]

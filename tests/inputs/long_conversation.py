@@ -32,7 +32,7 @@ class Talk:
         self.text = self.good = ""
 
     def begin(self) -> tuple[str, list[Message]]:
-        """A module without a fault is opened, after a close or replacing what is open."""
+        """Opens a valid module, after a close or in place of the open one."""
         if self.version and self.chance.random() < 0.3:
             self.server.notify(did_close(URI))
         self.text = self.good = corpus.module(self.chance.choice([300, 900, 2000]), self.chance.randrange(1000))
@@ -40,7 +40,7 @@ class Talk:
         return self.text, self.server.notify(did_open(self.text, URI, self.version))
 
     def change(self) -> tuple[str, list[Message]]:
-        """One to three changes in one notification: other words at a place, or what was there before."""
+        """Makes one to three changes in one notification: other words at a place, or the words that were there before."""
         changes: list[Message] = []
         for _ in range(self.chance.choice([1, 1, 2, 3])):
             if self.text != self.good and self.chance.random() < 0.4:

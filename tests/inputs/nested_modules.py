@@ -1,6 +1,6 @@
 """Modules that are nested as deep as wished: of one construct, or of random mixes.
 
-Each step opens one construct that counts for nesting and leads to a place where the next one may be. A place is of
+Each step opens one construct that counts for nesting and leads to a place for the next one. A place is of
 one of five kinds: declarations D, a type T, statements S, an expression E, a factor F."""
 from __future__ import annotations
 
@@ -121,7 +121,7 @@ def recursive(calls: int, choose: Callable[[], Entered]) -> tuple[str, str]:
     a value of a type of 100 arrays and records inside one another."""
     types = ["t0 = ARRAY 1 OF INTEGER"] + [f"t{at} = {'RECORD f: t%d END' if at % 2 else 'ARRAY 1 OF t%d'}" % (at - 1) for at in range(1, 100)]
     local = "b: BOOLEAN"
-    # (a procedure counts for nesting, and so does the IF round its call)
+    # (a procedure counts for nesting, and also the IF around its call)
     body = around("Write(n); IF n > 1 THEN P(n - 1, v, m) END; m := m + 1", 98, choose)
     first = around(f"P({calls}, v, m)", 100, choose)
     text = (
@@ -134,7 +134,7 @@ def recursive(calls: int, choose: Callable[[], Entered]) -> tuple[str, str]:
 
 def inward(calls: int, choose: Callable[[], Entered]) -> tuple[str, str]:
     """The same by procedures inside one another, each of which calls the one within it: the last one, as deep as a
-    construct may be, has those of all others round it."""
+    construct may be, is inside all others."""
     names = [f"p{at}" for at in range(1, calls + 1)]
     text = "MODULE M; VAR m: INTEGER;\n"
     text += "".join(f"PROCEDURE {name}(n{at}: INTEGER); VAR b: BOOLEAN;\n" for at, name in enumerate(names, 1))

@@ -20,7 +20,7 @@ from seeds import named
 URI = "file:///m"
 STEPS = 100  # the changes of one conversation
 
-# What is put in, beside pieces of the text itself. Each joins, cuts, opens or closes something at some border.
+# Pieces to insert, in addition to pieces of the text itself. Each joins, cuts, opens or closes something at some border.
 PIECES = [
     *["a", "Z", "0", "7", " ", "\n", "\r\n", "\r", "\t", ";", ".", ",", ":", "=", "<", ">", "(", ")", "*", "+", "-", "~", "&", "#"],
     *["(*", "*)", "(* x *)", "(* é 😀 *)", "(**)", ":=", "<=", ">=", "[", "]", "$", "é", "😀", "\0"],
@@ -29,14 +29,14 @@ PIECES = [
     *["PROCEDURE", "PROCEDURE P;", "END P;", "CONST c = 1;"],
 ]
 
-# What is put between two lexemes, or before the first: after it each is written as before.
+# Pieces to insert between two lexemes, or before the first: each lexeme is then written as before.
 BLANKS = [" ", "  ", "\n", "\t", "(* x *)", " (* é *)\n"]
 
 BORDERS = {"PROCEDURE", "BEGIN", "END"}  # words at which a procedure begins or ends, or its statements do
 
 
 def is_border(text: str, at: int) -> bool:
-    """Whether a position can be at a place: none is between CR and LF."""
+    """Returns whether a position can be at a place: it can't be between CR and LF."""
     return text[at - 1 : at + 1] != "\r\n"
 
 
@@ -48,7 +48,7 @@ def at_random(text: str, chance: random.Random) -> tuple[int, int]:
         start = chance.randrange(len(text) + 1)
         return start, min(len(text), start + chance.choice([0, 0, 1, 2, 8]))
     lexeme = chance.choice(found)
-    if way < 0.35:  # where a lexeme begins or ends
+    if way < 0.35:  # at a border of lexemes
         start = chance.choice([lexeme.start(), lexeme.end()])
         return start, start
     if way < 0.55:  # inside of a lexeme
@@ -59,7 +59,7 @@ def at_random(text: str, chance: random.Random) -> tuple[int, int]:
         before = max((it.end() for it in found if it.end() <= later.start()), default=0)
         return before, later.start()
     borders = [it for it in found if it[0] in BORDERS]
-    if way < 0.8 and borders:  # at a border of procedures, or from there on up to another
+    if way < 0.8 and borders:  # at a border of procedures, or between two of these
         border, other = chance.choice(borders), chance.choice(borders)
         if chance.random() < 0.7:
             return border.start(), chance.choice([border.start(), border.end()])
@@ -125,12 +125,12 @@ def part_of(text: str, chance: random.Random) -> tuple[int, int]:
 
 
 def place_of_part(text: str, chance: random.Random) -> int:
-    """A place where a statement or a declaration may begin, or the text's start if it has none."""
+    """Returns a place at which a statement or a declaration may begin, or the text's start if there is none."""
     return chance.choice([it.end() for it in LEXEME.finditer(text) if it[0] in BEFORE_PARTS] or [0])
 
 
 def replacement(text: str, chance: random.Random) -> str:
-    """What is put in: nothing, a piece, or a lexeme or a part of the text."""
+    """Returns the text to insert: nothing, a piece, or a lexeme or a part of the text."""
     way = chance.random()
     if way < 0.2:
         return ""
@@ -146,13 +146,13 @@ def replacement(text: str, chance: random.Random) -> str:
 
 
 class Edited:
-    """A document, from the client's side. What was changed can be taken back, so that a text is without faults now and then."""
+    """A document, from the client's side. Changes can be undone, so that a text has no fault now and then."""
 
     def __init__(self, text: str, chance: random.Random) -> None:
         self.text, self.chance = text, chance
-        self.undo: list[tuple[int, str, str]] = []  # where something was put in, that, and what was there
-        self.typing: list[str] = []  # what is left of a statement that is being typed
-        self.cursor = 0  # where it goes
+        self.undo: list[tuple[int, str, str]] = []  # a place, the text that was inserted there, and the text before
+        self.typing: list[str] = []  # the rest of a statement that is being typed
+        self.cursor = 0  # the place of that rest
         self.moved = ""  # what was taken out, to be put in somewhere else
 
     def put(self, start: int, end: int, new: str) -> Message:
@@ -162,7 +162,7 @@ class Edited:
         return found
 
     def change(self) -> Message | None:
-        """A change, or None where the last one is to be taken back and there is none."""
+        """Returns a change, or None if the last one is to be undone and there is none."""
         if self.typing and self.chance.random() < 0.8:
             return self.type(self.cursor, self.typing)
         self.typing = []
@@ -194,7 +194,7 @@ class Edited:
         """Puts something in the place of a range. Returns None if a position would be between CR and LF."""
         old = self.text[start:end]
         whole = self.text[:start] + new + self.text[end:]
-        # (no position is between CR and LF, before the change or when it is taken back)
+        # (no position is between CR and LF, before the change or when it is undone)
         if not all(is_border(self.text, it) for it in (start, end)) or not all(is_border(whole, it) for it in (start, start + len(new))):
             return None
         self.undo.append((start, new, old))
@@ -209,7 +209,7 @@ class Edited:
 
 
 def answer_of(server: Server, uri: str, method: str, where: Message) -> str:
-    """What a server answers to a question about a document, as text in which it has one name for each server."""
+    """Returns what a server answers to a question about a document, as text in which it has one name for each server."""
     params: Message = {"position": where, "textDocument": {"uri": uri}, "context": {"includeDeclaration": True}, "newName": "k"}
     if method == "codeAction":
         params = {"context": {}, "range": {"end": where, "start": where}, "textDocument": {"uri": uri}}
@@ -234,7 +234,7 @@ def same_as_new(keeping: Server, fresh: Server, edited: Edited, published: list[
 
 
 def first_text(seed: int, chance: random.Random) -> str:
-    """A module without faults, or one with many faults of scopes and types."""
+    """Returns a valid module, or one with many faults of scopes and types."""
     way = chance.random()
     if way < 0.2:
         return faulty_modules.records(seed)
@@ -261,7 +261,7 @@ def converse(seed: int) -> Counter[str]:
             if way == ways.STATEMENTS and not before and not published:
                 found["statements without a fault"] += 1
             if body:
-                # (the text before had as many lines, and its faults were at the lines where they are now)
+                # (the text before had as many lines, and its faults were at the same lines)
                 found.update(ways.faults_about(before, edited.text, body))
             last, module, before = now or last, ways.last_module(module, now), published
             same_as_new(keeping, fresh, edited, published, f"file:///n{step}", f"{named(seed)}, step {step}")
@@ -279,7 +279,7 @@ ENOUGH = 10_000  # (the rarest kinds are in few conversations, some ten of a tho
 
 
 def figures(conversations: list[Counter[str]]) -> str:
-    """What conversations gave, as a line."""
+    """Returns what conversations gave, as a line."""
     found: Counter[str] = sum(conversations, collections.Counter())
     count = len(conversations) * STEPS
     missing = [it for it in ["no fault", "statements without a fault", *KINDS] if not found[it]]

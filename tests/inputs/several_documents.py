@@ -1,5 +1,5 @@
 """One conversation about several documents: random changes, closes, texts that get lost, and questions between. Each answer is
-compared with that of a server that keeps nothing: a new one, which is given the present text alone and then the same question."""
+compared with the answer of a new server, which gets only the present text and then the same question."""
 from __future__ import annotations
 
 import concurrent.futures
@@ -33,7 +33,7 @@ class Document:
     def __init__(self, uri: str, size: int = 0) -> None:
         self.uri, self.size, self.version, self.is_open = uri, size, 0, False
         self.text: str | None = None
-        self.good = ""  # the last text without a fault
+        self.good = ""  # the last valid text
         self.published: list[Message] = []
 
 
@@ -71,7 +71,7 @@ class Talk:
         document.text = None
 
     def one_change(self, document: Document) -> tuple[Message, str]:
-        """A change and the text after it: the last text without a fault, a blank at a blank, or any piece anywhere."""
+        """Returns a change and the text after it: the last valid text, a blank at a blank, or any piece anywhere."""
         chance, text = self.chance, document.text
         if text is None or (text != document.good and chance.random() < 0.5):
             return {"text": document.good}, document.good
@@ -139,7 +139,7 @@ class Talk:
 
 
 def answered_alike(query: Query) -> str | None:
-    """Whether a server that keeps nothing says the same, and if so what kind of answer that is."""
+    """Returns whether a server that keeps nothing says the same, and if so what kind of answer that is."""
     opening, published, question, answer = query
     found = harness.serve([initialize(**CLIENT), opening, question, SHUTDOWN, EXIT])
     same(found.status, 0, "the status of a server that keeps nothing")

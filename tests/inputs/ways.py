@@ -1,7 +1,8 @@
-"""What can stay of an analysis after a change, by the rule of docs/ARCHITECTURE.md ("What is kept of a text"): all that is known
-where the tokens are written as they were; the tree or the refusal where they are of the kinds that they were, and then all bodies
-but one where the change lies in that one; and all else where the statements of one body were replaced by others, also where texts
-without a tree lie between. Otherwise, if the text has a tree, all its names are bound and all its types are checked: the long way."""
+"""Says which parts of an analysis can be reused after a change, by the table of docs/ARCHITECTURE.md ("How an analysis is kept").
+
+Everything, if all tokens are written as before. The tree or the refusal, if all tokens have the same kinds as before, and then all
+bodies except one if the change lies in that one. Everything else, if only the statements of one body were replaced, even if texts
+without a tree lie between. Otherwise, if the text has a tree, all its names are bound and all its types are checked."""
 from __future__ import annotations
 
 from typing import List, NamedTuple, Optional
@@ -26,14 +27,14 @@ class Lexed(NamedTuple):
 
 
 class Body(NamedTuple):
-    """Where the statements of a block begin and end in a text."""
+    """The places in a text at which the statements of a block begin and end."""
 
     start: int
     end: int
 
 
 def lexed(text: str) -> Optional[Lexed]:
-    """None where a lexeme is at fault."""
+    """Returns None if a lexeme has a fault."""
     tokens, faults = scan(text)
     return None if faults else Lexed(text, [it for it in tokens if it.kind not in ("comment", "end")])
 
@@ -46,7 +47,7 @@ def bodies(node: Node) -> list[Body]:
 
 
 def tree_of(text: Lexed) -> Optional[Node]:
-    """None where the parser refuses the text."""
+    """Returns None if the parser refuses the text."""
     try:
         return Parser(text.text, scan(text.text)[0]).module()
     except Refused:
@@ -54,13 +55,13 @@ def tree_of(text: Lexed) -> Optional[Node]:
 
 
 def is_module(text: str) -> bool:
-    """Whether a text has a tree."""
+    """Returns whether a text has a tree."""
     found = lexed(text)
     return found is not None and tree_of(found) is not None
 
 
 def changed_body(old: Lexed, new: Lexed) -> tuple[str, Optional[Body]]:
-    """What stays where the tokens are of the kinds that they were, and the body of the new text in which the change lies."""
+    """Returns the reused parts if all tokens have the same kinds as before, and the body of the new text that was changed."""
     tree = tree_of(new)
     if tree is None:
         return REFUSED, None
@@ -71,7 +72,7 @@ def changed_body(old: Lexed, new: Lexed) -> tuple[str, Optional[Body]]:
 
 
 def common(one: List[Token], other: List[Token]) -> int:
-    """How many tokens both have in common at the beginning."""
+    """Returns how many tokens both have in common at the beginning."""
     count = 0
     while count < min(len(one), len(other)) and (one[count].kind, one[count].text) == (other[count].kind, other[count].text):
         count += 1
@@ -79,39 +80,39 @@ def common(one: List[Token], other: List[Token]) -> int:
 
 
 def is_inside(text: Lexed, body: Body, first: int, end: int) -> bool:
-    """Whether some tokens, from the one with the number `first` on, lie between a body's first identifier and its END."""
+    """Returns whether some tokens, from the one with the number `first` on, lie between a body's first identifier and its END."""
     inside = [at for at, it in enumerate(text.tokens) if body.start <= it.start and it.end <= body.end]
     names = [at for at in inside if text.tokens[at].kind == "ident"]
     return bool(names) and names[0] < first and end <= inside[-1]
 
 
 def different(old: Lexed, new: Lexed) -> tuple[int, int]:
-    """How many tokens two texts have in common at the beginning, and how many of the others at the end."""
+    """Returns how many tokens two texts have in common at the beginning, and how many of the others at the end."""
     first = common(old.tokens, new.tokens)
     return first, min(common(old.tokens[::-1], new.tokens[::-1]), len(old.tokens) - first, len(new.tokens) - first)
 
 
 def is_in_one_body(text: Lexed, other: Lexed) -> bool:
-    """Whether a text is a module and differs from another one in the statements of one body."""
+    """Returns whether a text is a module and differs from another one in the statements of one body."""
     tree = tree_of(text)
     first, following = different(text, other)
     return tree is not None and any(is_inside(text, body, first, len(text.tokens) - following) for body in bodies(tree))
 
 
 def are_statements(old: Lexed, new: Lexed) -> bool:
-    """Whether the texts are modules that differ in the statements of one body."""
+    """Returns whether the texts are modules that differ in the statements of one body."""
     return is_in_one_body(old, new) and is_in_one_body(new, old)
 
 
 def last_module(module: Optional[Lexed], new: Optional[Lexed]) -> Optional[Lexed]:
-    """The last text that was a module, as long as all that was changed since lies in one body of it."""
+    """The last text that was a module, as long as all changes since then lie in one body of it."""
     if new is None or tree_of(new) is not None:
         return new or module
     return module if module is not None and is_in_one_body(module, new) else None
 
 
 def way_of(old: Optional[Lexed], new: Optional[Lexed], module: Optional[Lexed]) -> tuple[str, Optional[Body]]:
-    """What can stay of the analysis of the last text that had lexemes, where this was the last module, and the body in which the
+    """Returns the parts of the last analysis with lexemes that can be reused after this last module, and the body in which the
     change lies, if it lies in one."""
     if old is None or new is None:
         return LEXEMES, None
@@ -130,7 +131,7 @@ NAMES = ("Duplicate", "Undeclared", "EndName")
 
 
 def faults_about(published: list[Message], text: str, body: Body) -> set[str]:
-    """Which faults a module has: of names or of types, and before a body, in it or after it."""
+    """Returns which faults a module has: of names or of types, and before a body, in it or after it."""
     starts = [0]
     for line in text.splitlines(keepends=True):
         starts.append(starts[-1] + len(line))

@@ -1,4 +1,4 @@
-"""The program compared with the reference (tests/reference): its diagnostics of a text, and its runs."""
+"""The program compared with the reference (share/ob0/reference): its diagnostics of a text, and its runs."""
 from __future__ import annotations
 
 import collections

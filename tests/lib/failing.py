@@ -1,8 +1,8 @@
 """The program, and the tests of the crates, with allocations and devices that fail: failing.c is preloaded.
 
 It refuses the Nth call for memory, or it and all after it, fails the Nth read of single bytes, and takes a given number of bytes, one
-a call. It counts the calls, so a walk over all of them knows where it ends; a run takes 2 ms of its own. What `rt try` compiles has
-another allocator, which keeps what is freed: its memory figures mean nothing, and its allocations can't be made to fail (with
+a call. It counts the calls, so a walk over all of them knows its end; a run takes 2 ms. Programs that `rt try` compiles have
+another allocator, which keeps freed memory: its memory figures mean nothing, and its allocations can't be made to fail (with
 `ASAN_OPTIONS=quarantine_size_mb=0` it frees most)."""
 from __future__ import annotations
 
@@ -62,8 +62,8 @@ class Walked(harness.Ended):
 def walked(
     words: list[str], given: bytes, cwd: str | None, kind: str, numbers: range, ending: str, **fails: object
 ) -> list[Walked]:
-    """Runs a program once for each of these numbers, in one process that forks: what came, in their order. `kind` is what
-    fails at the number, and `fails` what else does, as failing.c has it."""
+    """Runs a program once for each of these numbers, in one process that forks, and returns the results in their order. `kind`
+    is the call that fails at the number, and `fails` lists other failures, as failing.c reads them."""
     with tempfile.TemporaryFile() as stdin, tempfile.TemporaryFile() as reports:
         stdin.write(given)
         stdin.flush()
@@ -104,14 +104,14 @@ def undisturbed(words: list[str], given: bytes = b"", cwd: str | None = None, **
 
 
 def fronts(written: bytes) -> list[bytes]:
-    """What a conversation's output has before each message and after the last."""
+    """Returns what a conversation's output has before each message and after the last."""
     contents = harness.unframed(written)
     return [harness.frames(contents[:count]) for count in range(len(contents) + 1)]
 
 
 @contextlib.contextmanager
-def beside(text: str | bytes | None) -> Iterator[str]:
-    """A folder in which m.mod has this text (or these bytes; None: there is no file)."""
+def folder_with_module(text: str | bytes | None) -> Iterator[str]:
+    """Makes a folder in which m.mod contains this text (or these bytes; None: there is no file)."""
     with tempfile.TemporaryDirectory() as room:
         if text is not None:
             with open(os.path.join(room, "m.mod"), "wb") as file:
@@ -122,12 +122,12 @@ def beside(text: str | bytes | None) -> Iterator[str]:
 def refused(
     name: str, words: list[str], given: bytes = b"", text: str | bytes | None = None, reads: int | None = None
 ) -> dict[str, int]:
-    """Runs the program with each allocation failing in turn, alone and with all after it. It has to end with the status of
-    out of memory, what it wrote a prefix of whole messages (of a command: nothing, or all), or as if no allocation had
+    """Runs the program once for each allocation, which fails, and once more with all after it. The run must end with the status
+    of out of memory and a prefix of whole messages (of a command: nothing, or everything), or as if no allocation had
     failed. Returns how many runs ended either way."""
     counts = {"refused": 0, "undisturbed": 0}
     command = [harness.BINARY, *words]
-    with beside(text) as room:
+    with folder_with_module(text) as room:
         plain = undisturbed(command, given, room, reads=reads)
         allowed = fronts(plain.out) if words[0] == "serve" else [b"", plain.out]
         numbers = range(1, plain.calls["memory"] + 1)
@@ -146,11 +146,11 @@ def refused(
 
 
 def broken(name: str, words: list[str], given: bytes = b"", text: str | bytes | None = None) -> int:
-    """Runs the program with each of its reads and writes failing in turn, of whatever file. It has to end with the status of
-    a device that fails, what it wrote a prefix of what it writes else; where the failed call is that on standard error, all
-    else is as without. Returns how many runs that were."""
+    """Runs the program once for each read and write of any file, which fails. The run must end with the status of a failed device
+    and a prefix of the usual output. If a call on standard error fails, everything else must be as usual. Returns how many
+    runs that were."""
     command = [harness.BINARY, *words]
-    with beside(text) as room:
+    with folder_with_module(text) as room:
         plain = undisturbed(command, given, room)
         numbers = range(1, plain.calls["calls"] + 1)
         for run in walk(command, given, room, "calls", numbers):
@@ -164,10 +164,10 @@ def broken(name: str, words: list[str], given: bytes = b"", text: str | bytes | 
 
 
 def shortened(name: str, words: list[str], given: bytes = b"", text: str | bytes | None = None) -> int:
-    """Runs the program with each of its reads and writes moving one byte in turn, which changes nothing. Returns how many
-    runs that were."""
+    """Runs the program once for each read and write, which moves only one byte: nothing may change. Returns how many runs
+    that were."""
     command = [harness.BINARY, *words]
-    with beside(text) as room:
+    with folder_with_module(text) as room:
         plain = undisturbed(command, given, room)
         numbers = range(1, plain.calls["short"] + 1)
         for it in walk(command, given, room, "short", numbers):

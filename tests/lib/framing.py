@@ -1,4 +1,4 @@
-"""Messages and their bytes: how one is framed, and how the first is taken from what came so far. Each test, script and measurement
+"""Messages and their bytes: how one is framed, and how the first is read from the bytes so far. Each test, script and measurement
 that speaks with a server frames by this module."""
 from __future__ import annotations
 

@@ -4,6 +4,7 @@ from __future__ import annotations
 
 import array
 import fcntl
+import functools
 import glob
 import json
 import os
@@ -19,7 +20,9 @@ from collections.abc import Iterable, Sequence
 from typing import Any, Callable, IO, List, NoReturn, Tuple, TypeVar, Union
 
 TOP = os.path.dirname(os.path.dirname(os.path.dirname(os.path.abspath(__file__))))
-sys.path += [os.path.join(TOP, *it) for it in (["tests"], ["tests", "lib"], ["tests", "inputs"], ["tools"], ["bench"])]
+# (in front: packages of Python that are installed here have such names as `package` and `editors`)
+PARTS = (["tests"], ["tests", "lib"], ["tests", "inputs"], ["share", "ob0"], ["tools"], ["bench"])
+sys.path[:0] = [os.path.join(TOP, *it) for it in PARTS]
 
 import common  # noqa: E402
 import editors  # noqa: E402
@@ -27,7 +30,7 @@ from framing import Content as Content, Message as Message, compact as compact, 
 from framing import Incoming  # noqa: E402
 
 BINARY = os.environ.get("OB0") or os.path.join(TOP, "bin", "ob0")
-SECONDS = 300  # the longest that one conversation may take (also where the machine has much else to do)
+SECONDS = 300  # the longest that one conversation may take (even if the machine has much other work)
 
 Test = Callable[[], object]  # (what it returns isn't looked at)
 Ident = Union[int, str, None]  # the id of a request
@@ -53,12 +56,12 @@ class Skipped(Exception):
 
 
 class NoProgram(Skipped):
-    """A test that wants a program that isn't there yet."""
+    """A test needs a program that doesn't exist yet."""
 
 
-def leave_out(why: str, may_lack: bool = False) -> NoReturn:
-    """Leaves this test out. In `make test` (the variable OB0_WHOLE) it fails instead, unless it's for a tool that may lack there."""
-    if os.environ.get("OB0_WHOLE") and not may_lack:
+def leave_out(why: str, is_allowed: bool = False) -> NoReturn:
+    """Leaves this test out. In `make test` (the variable OB0_WHOLE) it fails instead, unless that is allowed there."""
+    if os.environ.get("OB0_WHOLE") and not is_allowed:
         raise Failed(f"{why}, and the whole test leaves no test out for that")
     raise Skipped(why)
 
@@ -372,13 +375,13 @@ DRIVEN: List[str] = []  # the editors, and the programs in a terminal, that it d
 
 
 def want(*names: str) -> None:
-    """Leaves this test out if one of these tools (of tools/editors.py) is missing; in `make test` it fails for a tool that is required.
+    """Leaves this test out if one of these tools (of tools/editors.py) is missing; in `make test` it fails unless the tool may lack.
     A test that drives an editor and fails is run again (tests/run.py)."""
     WANTED.extend(names)
-    DRIVEN.extend(it for it in names if it in editors.EDITORS)
     missing = [it for it in names if not editors.is_here(it)]
     if missing:
-        leave_out(f"{' and '.join(missing)} missing", not any(it in editors.REQUIRED for it in missing))
+        leave_out(f"{' and '.join(missing)} missing", all(map(editors.may_lack, missing)))
+    DRIVEN.extend(it for it in names if it in editors.EDITORS)
 
 
 def want_proved() -> None:
@@ -392,7 +395,7 @@ def want_proved() -> None:
 
 
 def marked(text: str, *codes: str) -> tuple[str, list[Message]]:
-    """A text whose faulty places are between ⟦ and ⟧, and what is reported of them, a code for each place in order."""
+    """A text with its faulty places between ⟦ and ⟧, and the reported codes, one for each place in order."""
     plain = ""
     starts: list[int] = []
     found: list[tuple[int, int]] = []
@@ -463,6 +466,28 @@ def text_of(*path: str) -> str:
     """A file of the repository."""
     with open(os.path.join(TOP, *path), encoding="utf-8") as file:
         return file.read()
+
+
+BUILT = {".git", "bin", "out", "node_modules", "__pycache__"}  # folders with files that are made from others
+
+
+@functools.lru_cache(None)
+def tracked() -> tuple[str, ...]:
+    """The paths of the repository's files: those that git knows, or in an archive of the sources all that aren't built."""
+    if os.path.exists(os.path.join(TOP, ".git")):
+        found = subprocess.run(["git", "ls-files", "-z"], cwd=TOP, stdout=subprocess.PIPE, check=True).stdout
+        return tuple(it for it in os.fsdecode(found).split("\0") if it and os.path.isfile(os.path.join(TOP, it)))
+    paths = []
+    for at, folders, files in os.walk(TOP):
+        folders[:] = [it for it in folders if it not in BUILT]
+        paths += [os.path.relpath(os.path.join(at, it), TOP) for it in files]
+    return tuple(paths)
+
+
+def names_in(*path: str) -> list[str]:
+    """The names of the repository's files and folders in a folder."""
+    start = os.path.join(*path, "")
+    return sorted({it[len(start) :].partition("/")[0] for it in tracked() if it.startswith(start)})
 
 
 def examples() -> list[str]:

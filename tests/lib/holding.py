@@ -1,11 +1,11 @@
 #!/usr/bin/env python3
-"""Is between an editor and a language server: keeps a record of their messages, and can hold an answer back.
+"""Runs between an editor and a language server: keeps a record of their messages, and can hold an answer back.
 
   holding.py FOLDER PROGRAM [WORD..]
 
 FOLDER/wire has a line of JSON for each event: {"sent": MESSAGE} by the editor, {"answered": MESSAGE} by the server,
 {"held": ID}, {"released": ID}. While a file FOLDER/hold has the name of a method, the answer to such a request is held until
-that file is gone, and with it all that the server sends after it. `Wire` reads the record, and holds and releases."""
+that file is removed, and with it everything that the server sends after it. `Wire` reads the record, and holds and releases."""
 from __future__ import annotations
 
 import json
@@ -25,7 +25,7 @@ FOLLOWED = ("textDocument/didOpen", "textDocument/didChange", "textDocument/didC
 
 
 class Wire:
-    """The record of a conversation, from the folder that it is kept in. (What was read of it is kept: it is asked often.)"""
+    """The record of a conversation, from the folder that it is kept in. (It remembers the lines read, because it is asked often.)"""
 
     def __init__(self, folder: str) -> None:
         self.folder, self.hold_file = folder, os.path.join(folder, "hold")
@@ -73,7 +73,7 @@ class Wire:
         return str(found[-1]) if found and found[-1] else "utf-16"
 
     def text(self) -> str | None:
-        """The text of the document that was opened last, as it is after all changes by LSP 3.17; None where it is closed."""
+        """Returns the text of the document that was opened last, after all changes by LSP 3.17, or None if it is closed."""
         encoding, (uri, text) = self.encoding(), self.document
         events = self.events()
         for sent in (it["sent"] for it in events[self.followed :] if it.get("sent", {}).get("method") in FOLLOWED):
@@ -94,7 +94,7 @@ def units(letter: str, encoding: str) -> int:
 
 
 def offset(text: str, position: Message, encoding: str) -> int:
-    """Where a position is in a text: at the end of a line or of the text where there is no such one."""
+    """Returns the place of a position in a text: at the end of the line or of the text if there is no such position."""
     ends = list(LINE_END.finditer(text))
     if position["line"] > len(ends):
         return len(text)

@@ -5,12 +5,14 @@ import contextlib
 import os
 import shutil
 import signal
+import stat
 import subprocess
 import sys
 import tempfile
 from collections.abc import Iterator
 from typing import Any
 
+import editors
 import harness
 import holding
 import watched
@@ -56,10 +58,28 @@ def write(path: str, text: str) -> None:
         file.write(text)
 
 
+def copy(source: str, target: str, *ignored: str) -> None:
+    """Copies a file, or a folder without the names that these patterns match. Everybody can read the copy, whatever the modes
+    of the source are: a clone that was made under umask 077 has other modes."""
+    if os.path.isdir(source):
+        shutil.copytree(source, target, ignore=shutil.ignore_patterns("__pycache__", *ignored), dirs_exist_ok=True)
+    else:
+        target = shutil.copy(source, target)
+    open_up(target)
+
+
+def open_up(path: str) -> None:
+    """Sets the modes of a file, or of a folder and everything in it, to those of a clone under umask 022."""
+    for at in [path, *(os.path.join(at, it) for at, folders, files in os.walk(path) for it in folders + files)]:
+        mode = os.lstat(at).st_mode
+        if not stat.S_ISLNK(mode):
+            os.chmod(at, 0o755 if stat.S_ISDIR(mode) or mode & 0o100 else 0o644)
+
+
 def as_another() -> list[str]:
     """Words before a command that must not run as root: root becomes another user by them, and for other users there are none."""
-    become = "import os, sys; os.setgroups([]); os.setgid(65534); os.setuid(65534); os.execvp(sys.argv[1], sys.argv[1:])"
-    return [sys.executable, "-c", become] if os.geteuid() == 0 else []
+    harness.want("another user")
+    return [sys.executable, "-c", f"{editors.BECOME}; os.execvp(sys.argv[1], sys.argv[1:])"] if os.geteuid() == 0 else []
 
 
 def run_plainly(words: list[str], own: dict[str, str], cwd: str) -> tuple[int, str]:

@@ -15,7 +15,7 @@ from homes import at_home, put_between, write
 from screen import Screen
 from snippets import snippets
 
-SECONDS = 300  # the longest that something is waited for (also where the machine has much else to do)
+SECONDS = 300  # the longest wait for something (even if the machine has much other work)
 # the requests whose answers are edits
 RENAME, ACTION, LAYOUT = "textDocument/rename", "textDocument/codeAction", "textDocument/formatting"
 
@@ -24,12 +24,12 @@ K = TypeVar("K", bound="Keyed")
 
 
 class Keyed:
-    """An editor on a file with a text, in a folder of its own."""
+    """An editor on a file with a text, in a separate folder."""
 
     page = ""  # the folder of its page
-    asks: Dict[str, Tuple[str, str, bool]] = {}  # of each edit that it can ask for: the keys, the method, and whether it takes no other key until the answer is there
+    asks: Dict[str, Tuple[str, str, bool]] = {}  # for each edit: the keys, the method, and whether the editor accepts no other key until the answer arrives
     line_above = line_removed = ""  # the keys that put the line `(* new *)` above the text, and take it away
-    letters = "é☺𝒳😀"  # what is typed beside ASCII
+    letters = "é☺𝒳😀"  # the letters that are typed in addition to ASCII
 
     def __init__(self, folder: str, text: str) -> None:
         self.folder, self.wire, self.count = folder, Wire(folder), 0
@@ -71,8 +71,8 @@ class Keyed:
         raise NotImplementedError
 
     def writing(self, path: str, comes_last: bool) -> str:
-        """The keys that have it write its text to a path: where `comes_last`, once a server is there for it, and all that this
-        has sent is handled."""
+        """The keys that make it write its text to a path. If `comes_last`, it first waits for a server, and until everything that
+        the server has sent is handled."""
         raise NotImplementedError
 
     def change(self, chance: random.Random) -> str:
@@ -80,7 +80,7 @@ class Keyed:
         raise NotImplementedError
 
     def waits(self, holds: Callable[[], object], seconds: float = SECONDS) -> bool:
-        """Whether something holds in time; what the editor draws is read meanwhile."""
+        """Returns whether something holds in time; what the editor draws is read meanwhile."""
         end = time.monotonic() + seconds
         while not holds():
             if time.monotonic() > end:
@@ -96,7 +96,7 @@ class Keyed:
         self.screen.keys(typed.encode())
 
     def asked_for_text(self, comes_last: bool = False) -> Callable[[], str | None]:
-        """Has it write its text, and gives what gives that once it is there, and None before."""
+        """Makes it write its text, and returns a function that returns the text, or None before it is written."""
         self.count += 1
         path = os.path.join(self.folder, f"text{self.count}")
         self.keys(self.writing(path, comes_last))
@@ -237,7 +237,7 @@ endfunction
 """
 
     def __exit__(self, *why: object) -> None:
-        # (what it has started would go on for half an hour)
+        # (programs that it has started would run for half an hour)
         self.wire.release()
         self.keys(f"{NORMAL}:silent! py3 ycm_state.OnVimLeave()\r")
         text = self.asked_for_text()
@@ -245,7 +245,7 @@ endfunction
         super().__exit__(*why)
 
     def settings(self) -> dict[str, str]:
-        # (its server wants the system's Python, whichever one is first on PATH)
+        # (its server needs the system's Python, whichever one is first on PATH)
         python = "let g:ycm_server_python_interpreter = '/usr/bin/python3'\nlet g:ycm_auto_hover = ''"
         return {".vimrc": "\n".join([*snippets("vim", "viml"), python, VIM_SETTINGS]), "keyed.vim": self.lines}
 
@@ -333,7 +333,7 @@ class Eglot(Emacs):
 
 
 class LspMode(Emacs):
-    block, managed, letters = 1, "(lsp-workspaces)", "é☺"  # (its page: no characters past U+FFFF)
+    block, managed, letters = 1, "(lsp-workspaces)", "é☺"  # (its page: no characters above U+FFFF)
     asks = {
         "rename": ('\x1b:(lsp-rename "tot")\r', RENAME, True),
         "inlining": ("\x1b:(call-interactively #'lsp-execute-code-action)\r", ACTION, True),

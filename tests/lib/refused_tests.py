@@ -1,5 +1,5 @@
-"""Tests of the crates whose names begin with `a_refused_`: each is run with each of its allocations failing in turn. Their
-programs are those that `rt ci` and `rt test` leave in crates/NAME/out."""
+"""Runs the tests of the crates whose names begin with `a_refused_`, and makes each of their allocations fail, one at a time.
+Their programs are the ones that `rt ci` and `rt test` leave in crates/NAME/out."""
 from __future__ import annotations
 
 import functools
@@ -31,7 +31,7 @@ def tests_of(crate: str) -> list[str]:
 
 
 def played(out: bytes) -> list[tuple[int, ...]]:
-    """The numbers that a test prints after `played`, a line each time: the events that were made, and what came of them."""
+    """Returns the numbers that a test prints after `played`, a line each time: the events that were made, and their results."""
     lines = [it for it in out.decode().splitlines() if it.startswith("played ")]
     return [tuple(map(int, it.split()[1:])) for it in lines]
 
@@ -41,7 +41,7 @@ PLAYED, STEPPED = "world::a_refused_event_keeps_earlier_results", "world::a_refu
 
 
 def refusals(crate: str, test: str) -> list[list[tuple[int, ...]]]:
-    """What a test prints of what was played, with each of its allocations failing in turn, and at last with none."""
+    """Returns what a test prints while each of its allocations fails, one at a time, and at last while none fails."""
     words = [program_of(crate), test]
     plain = failing.undisturbed(words)
     numbers = range(1, plain.calls["memory"] + 1)
@@ -51,11 +51,11 @@ def refusals(crate: str, test: str) -> list[list[tuple[int, ...]]]:
 
 
 def plays_exactly(crate: str) -> str:
-    """Compares what was played to what was made one by one, with the same allocation failing: it is the same, by the number
-    of events and what came of them. Returns a line with figures."""
+    """Compares the results of playing with the results of the same events made one by one, while the same allocation fails:
+    the numbers of events and the results are equal. Returns a line with figures."""
     ones, others = refusals(crate, PLAYED), refusals(crate, STEPPED)
     whole = others[-1]
-    same(ones[-1], whole, "what is played where nothing is refused")
+    same(ones[-1], whole, "the results if nothing is refused")
     for number, (one, other) in enumerate(itertools.zip_longest(ones, others, fillvalue=whole), 1):
         same(one, other, f"what was played with allocation {number} refused")
     holds(len({it[0][0] for it in others}) > whole[0][0] // 2, "hardly any event was refused")
@@ -63,12 +63,12 @@ def plays_exactly(crate: str) -> str:
 
 
 def walk(crate: str, test: str, most: int) -> str:
-    """Runs a test with its allocations failing in turn: all of them, or of more than `most` each second, third and so on.
+    """Runs a test while one of its allocations fails: each of them, or of more than `most` each second, third and so on.
     Returns a line with figures."""
     words = [program_of(crate), test]
     plain = failing.undisturbed(words)
     calls = plain.calls["memory"]
-    holds(plain.status == 0 and calls, f"{test} fails where nothing is refused, or takes no memory")
+    holds(plain.status == 0 and calls, f"{test} fails though nothing is refused, or takes no memory")
     numbers = range(1, calls + 1, max(1, calls // most))
     for run in failing.walk(words, b"", None, "memory", numbers):
         where = f"{test}, allocation {run.numbers[0]} of {calls}"
@@ -78,7 +78,7 @@ def walk(crate: str, test: str, most: int) -> str:
 
 
 def checks(crate: str, most: int) -> Iterator[tuple[str, Callable[[], str]]]:
-    """What is done with a crate's tests: names, each with what does it."""
+    """Yields what is done with a crate's tests: names, each with what does it."""
     found = tests_of(crate)
     for test in found:
         yield test, functools.partial(walk, crate, test, most)

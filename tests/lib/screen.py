@@ -41,7 +41,7 @@ class Screen:
         os.close(self.terminal)
 
     def read(self, seconds: float) -> bool:
-        """Reads what is drawn within some seconds: False where the terminal is closed."""
+        """Reads everything that is drawn within some seconds, and returns False if the terminal is closed."""
         if select.select([self.terminal], [], [], seconds)[0]:
             try:
                 self.drawn += os.read(self.terminal, 1 << 16)
@@ -53,7 +53,7 @@ class Screen:
     def ends(self, what: str, seconds: float) -> int:
         """Waits until the program ends, and returns its status."""
         end = time.monotonic() + seconds
-        # (its terminal can be closed before, and stays open where something that it has started goes on)
+        # (its terminal can be closed before, and remains open if a program that it has started is still running)
         while not self.has_ended():
             if time.monotonic() > end:
                 raise Failed(f"{what} had not ended after {seconds} seconds: {self.drawn[-500:]!r}")
@@ -64,7 +64,7 @@ class Screen:
         return self.status
 
     def has_ended(self) -> bool:
-        """Whether the program has ended: then its status is known."""
+        """Returns whether the program has ended: then its status is known."""
         if self.status is None and os.waitid(os.P_PID, self.process, os.WEXITED | os.WNOHANG | os.WNOWAIT):
             self.take_status()
         return self.status is not None

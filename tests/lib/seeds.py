@@ -20,19 +20,19 @@ def of_commit() -> int:
 
 
 def starts() -> List[int]:
-    """Where the numbers begin, those that are always the same first."""
+    """Returns the first numbers, beginning with the ones that are always the same."""
     given = os.environ.get("OB0_SEED")
     return [int(given)] if given else [0, of_commit()]
 
 
 def seeds(count: int) -> List[int]:
-    """So many numbers, and prints where they begin."""
+    """Returns so many numbers, and prints the first ones."""
     found = starts()
-    print(f"    seeds from {' and '.join(map(str, found))} on", flush=True)
+    print(f"    seeds begin at {' and '.join(map(str, found))}", flush=True)
     size = -(-count // len(found))
     return [it for start in found for it in range(start, start + size)]
 
 
 def named(seed: int) -> str:
-    """A number as a failure names it."""
+    """Returns a number in the words of a failure."""
     return f"seed {seed} (OB0_SEED={seed} tries it again)"

@@ -1,4 +1,4 @@
-"""Makes a random text on which a check fails shorter."""
+"""Shortens a random text on which a check fails."""
 from __future__ import annotations
 
 import re
@@ -14,7 +14,7 @@ SHORT = 16  # lexemes: stretches of at most so many are tried at each place
 
 
 def shrunk(text: str, fails: Callable[[str], bool]) -> str:
-    """A text that fails too, and of which no short stretch of lexemes can be left out: long stretches are tried first."""
+    """Returns a part of the text that also fails, and that passes if any short stretch of lexemes is removed. Long ones are tried first."""
     pieces, end = PIECE.findall(text), time.monotonic() + SECONDS
     before = len(pieces) + 1
     while len(pieces) < before and time.monotonic() < end:

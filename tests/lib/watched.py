@@ -1,4 +1,4 @@
-"""Editors watched by ob0-watch: the program that starts their server through it, and its reports. If the variable OB0_REPORTS names a
+"""Editors watched by ob0-watch: the program that starts their server through it, and its reports. If the variable OB0_REPORTS is a
 folder, the reports are kept there, by the editors."""
 from __future__ import annotations
 
@@ -33,7 +33,8 @@ def load() -> Any:
 
 
 def put_program(room: str, server: list[str]) -> str:
-    """Makes bin/ob0 in a room: `ob0 serve` starts this server, watched, and any other command is the program's. Returns its path."""
+    """Makes bin/ob0 in a room: `ob0 serve` starts this server, watched, and any other command is the program's. The scripts that
+    editors call are beside it. Returns its path."""
     program = os.path.join(room, "bin", "ob0")
     os.makedirs(os.path.join(room, "bin"), exist_ok=True)
     report = f"{shlex.quote(os.path.join(room, 'watched'))}/$$"
@@ -45,11 +46,15 @@ def put_program(room: str, server: list[str]) -> str:
         file.write(f"#!/bin/sh\n{watches}")
         file.write(f'exec {shlex.quote(os.path.abspath(harness.BINARY))} "$@"\n')
     os.chmod(program, 0o755)
+    for name in ("ob0-check", "ob0-format"):
+        script = os.path.join(room, "bin", name)
+        if not os.path.exists(script):
+            os.symlink(os.path.join(TOP, "share", name), script)
     return program
 
 
 class Count(NamedTuple):
-    """How much was judged by a rule, and what was found."""
+    """The number of messages judged by a rule, and the findings."""
 
     watched: int
     broken: int
@@ -88,7 +93,7 @@ def reports(room: str) -> list[Report]:
 
 
 def expect(room: str) -> None:
-    """Holds the editors of a room to the rules: those of the file `breaks`, if there is one, are broken, and no others are."""
+    """Holds the editors of a room to the rules: they break the rules of the file `breaks`, if it exists, and no others."""
     breaks: set[str] = set()
     if os.path.exists(os.path.join(room, "breaks")):
         with open(os.path.join(room, "breaks"), encoding="utf-8") as file:

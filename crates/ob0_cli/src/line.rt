@@ -35,89 +35,91 @@ const VERSION: &str = "0.1.0";
 /// The end of the program's help: the exit statuses of all commands.
 const OB0_HELP_NOTES: &str = "\
 Exit status:
-  0  all went well
-  1  the module is wrong, its run ends with a fault or the edit is refused;
-     of serve: exit without shutdown, or the input ends between messages
-  2  the command line is refused
-  3  of serve: the stream of messages is damaged
-  4  something can't be read or written, a file isn't UTF-8,
-     or the input of run is no list of numbers
+  0  success
+  1  the module has errors, its run ended with a fault, or the new name is
+     refused; for serve: exit without shutdown, or input that ends between
+     messages
+  2  the command line is invalid
+  3  for serve: the stream of messages is damaged
+  4  a file can't be read or isn't UTF-8, output can't be written, or the
+     input of run isn't a list of numbers
   5  out of memory
 
-`ob0 help COMMAND` says what a command reads and prints.";
+`ob0 help COMMAND` explains what a command reads and prints.";
 
 const SERVE_HELP_NOTES: &str = "\
 An editor starts this. Columns are counted in UTF-16 units, or in bytes of UTF-8
-where the client offers that. A fault is printed to standard error as
+if the client offers that. A fault is printed to standard error as
 `fault: NAME`.
 
 Exit status:
   0  the client sent exit after shutdown
-  1  exit without shutdown, or the input ends between messages
-  2  the command line is refused
+  1  exit without shutdown, or input that ends between messages
+  2  the command line is invalid
   3  the stream of messages is damaged
   4  a message can't be read or written
   5  out of memory";
 
 const CHECK_HELP_NOTES: &str = "\
-A line `LINE:COLUMN: CODE: MESSAGE` is printed for each of at most 100 faults,
-and nothing for a correct module. Lines and columns count from 0, columns in
-UTF-16 units; the lines and columns that an editor shows count from 1.
+Prints a line `LINE:COLUMN: CODE: MESSAGE` for each of the first 100 errors, and
+nothing for a valid module. Lines and columns count from 0, columns in UTF-16
+units; the lines and columns that an editor shows count from 1.
 The FILE /dev/stdin is standard input: `COMMAND | ob0 check /dev/stdin`.
-`man ob0` lists the CODEs. docs/MESSAGES.md explains each, with what to do. That
+`man ob0` lists the CODEs. docs/MESSAGES.md explains each, and what to do. That
 page is in share/doc/ob0 below the folder that ob0 was installed in: /usr with
 the Debian package, otherwise /usr/local, ~/.local or another PREFIX.
 
 Exit status:
-  0  the module is correct
-  1  it has faults
-  2  the command line is refused
+  0  the module is valid
+  1  the module has errors
+  2  the command line is invalid
   4  the file can't be read or isn't UTF-8, or the output can't be written
   5  out of memory";
 
 const RUN_HELP_NOTES: &str = "\
-The numbers are read first, to the end of standard input, and then the module
-runs, also one that reads none. They are whole numbers from -2147483648 to
-2147483647 between spaces or line ends. In a terminal Ctrl-D at the start of a
-line ends them; `< /dev/null` gives none, `< FILE` gives those of a file.
-A module with faults isn't run: they are printed as `ob0 check` prints them.
+The numbers are read first, to the end of standard input, even if the module
+reads none; then the module runs. They are whole numbers from -2147483648 to
+2147483647 between spaces or line ends. In a terminal, end them with Ctrl-D at
+the start of a line. `< /dev/null` gives no numbers, `< FILE` those of a file.
+If the module has errors, they are printed as `ob0 check` prints them, and the
+module isn't run.
 
-A run ends in one of seven ways. Done, the end of the module's body, prints
-nothing; the others print `fault: END` to standard error:
+A run ends in one of seven ways. Done means that the module's body was finished;
+it prints nothing. The others print `fault: END` to standard error:
   Overflow   a result is below -2147483648 or above 2147483647
   Divisor    DIV or MOD by a number below 1
   Index      an index is outside its array
-  InputEnd   Read comes after the last number
-  CallBound  one call more is open than --calls allows
-  TurnBound  a loop goes on after as many iterations as --turns allows
-What the module writes is printed when the run has ended. If one doesn't end, or
-prints nothing, `--turns 5` ends it after five iterations of a loop, with what
-was written until then. Ctrl-C ends it without.
+  InputEnd   Read after the last number
+  CallBound  more calls are open than --calls allows
+  TurnBound  a loop makes more iterations than --turns allows
+The output is printed when the run has ended. If a run doesn't end, or prints
+nothing, `--turns 5` ends it after five iterations of a loop and prints the
+output so far; Ctrl-C ends it without output.
 
 Exit status:
   0  the run ended with Done
-  1  it ended in another way, or the module has faults
-  2  the command line is refused
-  4  `fault: Input`: the input can't be read or is no list of numbers;
+  1  the run ended in another way, or the module has errors
+  2  the command line is invalid
+  4  `fault: Input`: the input can't be read or isn't a list of numbers;
      the file can't be read or isn't UTF-8, or the output can't be written
   5  out of memory";
 
 const RENAME_HELP_NOTES: &str = "\
 LINE and COLUMN are a place in the name or at its end. They count from 0, COLUMN
 in UTF-16 units; the lines and columns that an editor shows count from 1.
-The new text is printed, and the file stays as it is (so don't print into that
-file: a shell empties it first). A name that would change what the module does
-is refused, with `refused: REASON` on standard error. In a module with faults
-nothing is renamed: they are printed as `ob0 check` prints them, to standard
-output. So look at the status before you use what was printed.
-`man ob0` lists the REASONs. docs/MESSAGES.md explains each, with what to do.
+Prints the new text. The file itself isn't changed; don't redirect the output to
+it, because the shell would empty it first. A new name that would change what
+the module does is refused, with `refused: REASON` on standard error. If the
+module has errors, they go to standard output instead, as `ob0 check` prints
+them: check the status before you use the output.
+`man ob0` lists the REASONs. docs/MESSAGES.md explains each, and what to do.
 That page is in share/doc/ob0 below the folder that ob0 was installed in: /usr
 with the Debian package, otherwise /usr/local, ~/.local or another PREFIX.
 
 Exit status:
   0  the new text was printed
-  1  the edit is refused, or the module has faults
-  2  the command line is refused
+  1  the new name is refused, or the module has errors
+  2  the command line is invalid
   4  the file can't be read or isn't UTF-8, or the output can't be written
   5  out of memory";
 
@@ -406,7 +408,7 @@ fn check_subcommand<'a>(alloc: Global) -> Result<Command<'a>, AllocError>
     command_with_help(
         alloc,
         "check",
-        "Print what is wrong with a module",
+        "Print the errors of a module",
         CHECK_HELP_NOTES,
     )
     .arg(file)

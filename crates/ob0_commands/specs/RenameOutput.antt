@@ -85,7 +85,7 @@ PrintsErrorsOrRefusal file position new before after IsPrintedOnStderr =
 -- States that `rename` ends with this status and that no fault stops it. With status 0, the renamed
 -- text is printed and flushed, and nothing is printed on standard error. With status 1, the file's
 -- errors are printed or the renaming is refused, and the output is flushed or unchanged. With
--- either status, `Both` holds.
+-- either status the fact `Both` holds: the caller passes what is true of both endings.
 abbrev pub RenameEndsWithoutFault : {O : Type 0}
     → (contents : O → Option (List ℕ))
     → (is_flushed : O → Bool)

@@ -5,7 +5,6 @@
 
 ghost use Rattle.std.specs.Prelude.{◌≡◌, ◌≢◌, ◌<◌, ◌≤◌, [], true, IfOk, IfNone, IfSome, MatchOption, OnOk, IfErr, length, map, string_bytes};
 ghost use Rattle.std.specs.Io.KnownBytes.{Appends};
-ghost use Rattle.std.specs.Mem.{manually_drop_value};
 ghost use Rattle.ob0_commands.specs.CommandEffects.{ChecksFile};
 ghost use Rattle.ob0_commands.specs.PrintedTexts.{PrintsDiagnostics, all_diagnosis_lines, diagnosis_line_at, diagnosis_lines_at_positions, too_long_line};
 ghost use Rattle.ob0_commands.specs.StderrLines.{PrintsOptionalLine};
@@ -20,10 +19,9 @@ use crate::tracked_output::{TrackedOutput, write_and_flush};
 use ob0_analysis::{Analysis, Diagnosis};
 use ob0_text::{Lines, Position, TextStore};
 use std::alloc::{AllocError, Global};
-use std::mem::ManuallyDrop;
 
-/// Prints one line `L:C: FaultCode: message` to `out` for each diagnostic of a file, and returns
-/// the program's exit status. `L` and `C` are the line and the UTF-16 unit at which the diagnostic
+/// Prints one line `L:C: Code: message` to `out` for each diagnostic of a file, and returns the
+/// program's exit status. `L` and `C` are the line and the UTF-16 unit at which the diagnostic
 /// starts, counted from 0. `file` holds all bytes of the file, or the first 1,048,577 if the file
 /// has more. The status is 0 if there are no diagnostics and 1 if there are some. If a file that
 /// isn't too long isn't UTF-8, or if a write fails, the status is 4. If an allocation fails, it is
@@ -37,7 +35,23 @@ pub fn check_text<O: TrackedOutput, E: TrackedOutput>(
     ensures { ChecksFile O.contents O.is_flushed O.has_failed out.old out.new
         (PrintsOptionalLine E.contents E.is_flushed E.has_failed err.old err.new) file.now result }
 {
-    match validate_or_print_diagnoses(alloc, file, out) {
+    let mut kept = None;
+    check_keeping_analysis(alloc, file, out, err, &mut kept)
+}
+
+/// Does the work of `check_text`. If the file's text is analysed, the analysis is put into `kept`,
+/// so that the caller decides when it is freed.
+pub fn check_keeping_analysis<O: TrackedOutput, E: TrackedOutput>(
+    alloc: Global,
+    file: &[u8],
+    out: &mut O,
+    err: &mut E,
+    kept: &mut Option<Analysis>,
+) -> u8
+    ensures { ChecksFile O.contents O.is_flushed O.has_failed out.old out.new
+        (PrintsOptionalLine E.contents E.is_flushed E.has_failed err.old err.new) file.now result }
+{
+    match validate_or_print_diagnoses(alloc, file, out, kept) {
         Ok(Some(_text)) => 0,
         Ok(None) => 1,
         Err(fault) => print_fault(fault, err),
@@ -47,11 +61,12 @@ pub fn check_text<O: TrackedOutput, E: TrackedOutput>(
 /// Returns the text of a file that has no diagnostics. Otherwise prints the diagnostics, flushes
 /// and returns None. A file that has more bytes than a text may have gets only the diagnostic
 /// `TooLong`. If the bytes of any other file aren't UTF-8, the fault is `Utf8`. If a write or an
-/// allocation fails, the fault is `Write` or `Memory`.
-pub fn validate_or_print_diagnoses<'f, O: TrackedOutput>(
+/// allocation fails, the fault is `Write` or `Memory`. Puts the analysis of the text into `kept`.
+fn validate_or_print_diagnoses<'f, O: TrackedOutput>(
     alloc: Global,
     file: &'f [u8],
     out: &mut O,
+    kept: &mut Option<Analysis>,
 ) -> Result<Option<&'f str>, FileCommandFault>
     ensures found { IfOk result (λ found. MatchOption found
         (PrintsDiagnostics file.entry.now (O.contents out.old) (O.contents out.new))
@@ -68,7 +83,7 @@ pub fn validate_or_print_diagnoses<'f, O: TrackedOutput>(
     let Some(text) = decode_or_print_too_long_line(file, out)? else {
         return Ok(None);
     };
-    let reported = diagnose(alloc, text)?;
+    let reported = diagnose(alloc, text, kept)?;
     if reported.is_empty() {
         return Ok(Some(text));
     }
@@ -76,22 +91,19 @@ pub fn validate_or_print_diagnoses<'f, O: TrackedOutput>(
     Ok(None)
 }
 
-/// Analyses a text and returns its diagnostics.
-fn diagnose(alloc: Global, text: &str) -> Result<Vec<Diagnosis>, AllocError>
+/// Analyses a text and returns its diagnostics. Puts the analysis into `kept`.
+fn diagnose(
+    alloc: Global,
+    text: &str,
+    kept: &mut Option<Analysis>,
+) -> Result<Vec<Diagnosis>, AllocError>
     ensures { IfOk result (λ list. ReportsErrorsOf text.now
         (map reported_diagnosis_of list.items)) }
 {
-    let analysis = analyse_without_drop(alloc, text)?;
-    analysis.diagnoses(alloc)
-}
-
-/// Returns the analysis of a text. The analysis is never dropped, because the process ends soon and
-/// then frees all memory at once. This is faster than freeing the analysis part by part.
-pub fn analyse_without_drop(alloc: Global, text: &str) -> Result<ManuallyDrop<Analysis>, AllocError>
-    ensures { IfOk result (λ analysis. manually_drop_value analysis ≡ text.now) }
-{
     let analysis = Analysis::analyse_text(alloc, text)?;
-    Ok(ManuallyDrop::new(analysis))
+    let reported = analysis.diagnoses(alloc);
+    *kept = Some(analysis);
+    reported
 }
 
 /// Returns the text of a file. If the file is too long, prints a diagnostic that says so, flushes
@@ -188,7 +200,7 @@ fn diagnosis_lines_at_positions(
     Ok(lines)
 }
 
-/// Returns the line `L:C: FaultCode: message` of a diagnostic that starts at this position.
+/// Returns the line `L:C: Code: message` of a diagnostic that starts at this position.
 fn diagnosis_line_at(
     alloc: Global,
     diagnosis: &Diagnosis,

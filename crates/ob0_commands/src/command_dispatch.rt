@@ -5,17 +5,20 @@ ghost use Rattle.ob0_cli.specs.declared.line.CommandLine.TheVariants.{Serve};
 ghost use Rattle.ob0_commands.specs.CommandEffects.{PerformsCommandOnFile};
 ghost use Rattle.ob0_commands.specs.StderrLines.{PrintsOptionalLine};
 
-use crate::check_command::check_text;
-use crate::rename_command::rename_text;
+use crate::check_command::check_keeping_analysis;
+use crate::rename_command::rename_keeping_analysis;
 use crate::run_command::run_text;
 use crate::tracked_input::TrackedInput;
 use crate::tracked_output::TrackedOutput;
+use ob0_analysis::Analysis;
 use ob0_cli::CommandLine;
 use std::alloc::Global;
 
 /// Performs the command that a command line requests, on a file with these bytes. Returns the
 /// program's exit status. The output goes to `out`. Faults and refusals go to `err`. Only `run`
-/// reads from `input`. `line` must not be `serve`, because `serve` isn't a command on a file.
+/// reads from `input`. `line` must not be `serve`, because `serve` isn't a command on a file. The
+/// analysis that `check` or `rename` makes is put into `kept`, so that a program that ends right
+/// after can leave it to the system to free.
 pub fn perform_command<R: TrackedInput, O: TrackedOutput, E: TrackedOutput>(
     alloc: Global,
     line: CommandLine<'_>,
@@ -23,6 +26,7 @@ pub fn perform_command<R: TrackedInput, O: TrackedOutput, E: TrackedOutput>(
     input: &mut R,
     out: &mut O,
     err: &mut E,
+    kept: &mut Option<Analysis>,
 ) -> u8
     requires { line ≢ Serve }
     ensures { PerformsCommandOnFile O.contents O.is_flushed O.has_failed out.old out.new
@@ -31,7 +35,7 @@ pub fn perform_command<R: TrackedInput, O: TrackedOutput, E: TrackedOutput>(
 {
     match line {
         CommandLine::Serve => unreachable!(),
-        CommandLine::Check { file: _path } => check_text(alloc, file, out, err),
+        CommandLine::Check { file: _path } => check_keeping_analysis(alloc, file, out, err, kept),
         CommandLine::Run {
             file: _path,
             calls,
@@ -41,6 +45,6 @@ pub fn perform_command<R: TrackedInput, O: TrackedOutput, E: TrackedOutput>(
             file: _path,
             position,
             name,
-        } => rename_text(alloc, file, position, name, out, err),
+        } => rename_keeping_analysis(alloc, file, position, name, out, err, kept),
     }
 }

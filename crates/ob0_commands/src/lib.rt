@@ -11,7 +11,10 @@ mod run_command;
 mod tracked_input;
 mod tracked_output;
 
+pub use check_command::check_text;
 pub use command_dispatch::perform_command;
 pub use faults::{FileCommandFault, print_fault};
+pub use rename_command::rename_text;
+pub use run_command::run_text;
 pub use tracked_input::{MAX_FILE_BYTES_READ, TrackedInput, TrackedReader, read_file};
 pub use tracked_output::{TrackedOutput, TrackedWriter};

@@ -4,10 +4,10 @@
 //! that analysis. If the text isn't a well-typed module, the diagnostics of the same analysis are
 //! printed, as in `validate_or_print_diagnoses`.
 //!
-//! `rename_utf8_text` does the work once the bytes are known to be UTF-8. It is a separate function
-//! because its proof needs a `&str`, which relates the bytes of a text to its characters. The
-//! contract of `renaming_edits` is about characters, and the contract of `diagnoses` is about
-//! bytes.
+//! `rename_analysed_text` does the work once the bytes are known to be UTF-8 and are analysed. It is
+//! a separate function because its proof needs a `&str`, which relates the bytes of a text to its
+//! characters. The contract of `renaming_edits` is about characters, and the contract of `diagnoses`
+//! is about bytes.
 
 ghost use Rattle.std.specs.Prelude.{◌≡◌, true, IfOk, IfErr, OnErr};
 ghost use Rattle.ob0_commands.specs.CommandEndings.{EndsWithoutFault};
@@ -16,9 +16,10 @@ ghost use Rattle.ob0_commands.specs.RenameOutput.{IsErrAndPrintsRefusal, IsOkAnd
 ghost use Rattle.ob0_commands.specs.StderrLines.{PrintsOptionalLine};
 ghost use Rattle.ob0_commands.specs.Statuses.{MemoryFaultImpliesShortFile, IsShortNonUtf8File, OutputFailureMatchesFault, PrintsNothingUnlessWriteFault, IsWriteOrMemoryFault, FaultMayStopCommandOnFile};
 
-use crate::check_command::{analyse_without_drop, decode_or_print_too_long_line, print_diagnoses};
+use crate::check_command::{decode_or_print_too_long_line, print_diagnoses};
 use crate::faults::{FileCommandFault, print_fault};
 use crate::tracked_output::{TrackedOutput, write_and_flush};
+use ob0_analysis::Analysis;
 use ob0_edits::renaming_edits;
 use ob0_text::{Edit, EditRefusal, Lines, Position, TextStore, patch};
 use std::alloc::Global;
@@ -42,13 +43,33 @@ pub fn rename_text<O: TrackedOutput, E: TrackedOutput>(
         (PrintsOptionalLine E.contents E.is_flushed E.has_failed err.old err.new) file.now position new.now
         result }
 {
-    match try_rename_text(alloc, file, position, new, out, err) {
+    let mut kept = None;
+    rename_keeping_analysis(alloc, file, position, new, out, err, &mut kept)
+}
+
+/// Does the work of `rename_text`. If the file's text is analysed, the analysis is put into `kept`,
+/// so that the caller decides when it is freed.
+pub fn rename_keeping_analysis<O: TrackedOutput, E: TrackedOutput>(
+    alloc: Global,
+    file: &[u8],
+    position: Position,
+    new: &str,
+    out: &mut O,
+    err: &mut E,
+    kept: &mut Option<Analysis>,
+) -> u8
+    ensures { RenamesInFile O.contents O.is_flushed O.has_failed out.old out.new
+        (PrintsOptionalLine E.contents E.is_flushed E.has_failed err.old err.new) file.now position new.now
+        result }
+{
+    match try_rename_text(alloc, file, position, new, out, err, kept) {
         Ok(status) => status,
         Err(fault) => print_fault(fault, err),
     }
 }
 
-/// Does the work of `rename_text`, but returns a fault instead of printing its line `fault: NAME`.
+/// Does the work of `rename_keeping_analysis`, but returns a fault instead of printing its
+/// line `fault: NAME`.
 fn try_rename_text<O: TrackedOutput, E: TrackedOutput>(
     alloc: Global,
     file: &[u8],
@@ -56,6 +77,7 @@ fn try_rename_text<O: TrackedOutput, E: TrackedOutput>(
     new: &str,
     out: &mut O,
     err: &mut E,
+    kept: &mut Option<Analysis>,
 ) -> Result<u8, FileCommandFault>
     ensures ends { IfOk result (RenameEndsWithoutFault O.contents O.is_flushed out.old out.new
         (PrintsOptionalLine E.contents E.is_flushed E.has_failed err.old err.new) file.now position new.now
@@ -70,20 +92,26 @@ fn try_rename_text<O: TrackedOutput, E: TrackedOutput>(
     let Some(text) = decode_or_print_too_long_line(file, out)? else {
         return Ok(1);
     };
-    rename_utf8_text(alloc, text, position, new, out, err)
+    let analysis = Analysis::analyse_text(alloc, text)?;
+    let renamed = rename_analysed_text(alloc, text, &analysis, position, new, out, err);
+    *kept = Some(analysis);
+    renamed
 }
 
 /// Prints a text with the declaration or field at a position renamed to `new`, or prints the
 /// refusal of this renaming. If the text isn't a well-typed module, prints its diagnostics instead.
-/// Returns the program's exit status: 0 for the renamed text, otherwise 1.
-fn rename_utf8_text<O: TrackedOutput, E: TrackedOutput>(
+/// `analysis` is the analysis of the text. Returns the program's exit status: 0 for the renamed
+/// text, otherwise 1.
+fn rename_analysed_text<O: TrackedOutput, E: TrackedOutput>(
     alloc: Global,
     text: &str,
+    analysis: &Analysis,
     position: Position,
     new: &str,
     out: &mut O,
     err: &mut E,
 ) -> Result<u8, FileCommandFault>
+    requires { analysis.now ≡ text.now }
     ensures ends { IfOk result (RenameEndsWithoutFault O.contents O.is_flushed out.old out.new
         (PrintsOptionalLine E.contents E.is_flushed E.has_failed err.old err.new) text.now position new.now
         (O.has_failed out.new ≡ O.has_failed out.old)) }
@@ -94,8 +122,7 @@ fn rename_utf8_text<O: TrackedOutput, E: TrackedOutput>(
     ensures unsaid { OnErr result (err.new ≡ err.old) }
 {
     let store = Lines::from_str(alloc, text)?;
-    let analysis = analyse_without_drop(alloc, text)?;
-    match renaming_edits(alloc, &store, &analysis, position, new)? {
+    match renaming_edits(alloc, &store, analysis, position, new)? {
         Some(outcome) => print_rename_outcome(alloc, &store, outcome, out, err),
         None => {
             let reported = analysis.diagnoses(alloc)?;

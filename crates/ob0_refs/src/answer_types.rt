@@ -1,5 +1,5 @@
 //! Defines the answers to questions about an identifier. `At` and `Of` say which declaration or
-//! field the identifier refers to. `Hover` has the identifier's hover text. `NameConflict` has the
+//! field the identifier refers to. `Hover` has the identifier's hover text. `Capture` has the
 //! span at which a new name for a declaration has a conflict.
 
 use ob0_scan::Span;
@@ -37,6 +37,6 @@ pub struct Hover {
 /// the new name, `span` is the span of the identifier that declares the old name. Otherwise `span`
 /// is the span of the first looked-up name whose binding would change. Spans are in bytes.
 #[derive(Clone, Copy, PartialEq, Eq)]
-pub struct NameConflict {
+pub struct Capture {
     pub span: Span,
 }

@@ -16,7 +16,7 @@ mod name_answers;
 mod new_name_conflicts;
 mod type_texts;
 
-pub use answer_types::{At, Hover, NameConflict, Of};
+pub use answer_types::{At, Capture, Hover, Of};
 pub use answers_at_places::{at, definition, references, renamable_span};
 pub use hovers_at_places::hover;
 pub use new_name_conflicts::captures;

@@ -1,5 +1,5 @@
-//! Makes the answer of `at`, the lookup at a byte offset, about a name: the name's span, and the
-//! declaration to which the name refers.
+//! Builds what `at` (the look-up at a byte offset) returns for a name: its span and its
+//! declaration.
 
 ghost use Rattle.std.specs.Prelude.{◌≡◌};
 ghost use Rattle.ob0_refs.specs.NameAnswers.{answer_about_name, referent_of_ordinal};

@@ -68,8 +68,7 @@ abbrev pub OccursNowhere : TextWithTokens → Name → Type 0
 OccursNowhere source x = (i : ℕ) → same_name (token_text_at source i) x ≡ false
 
 -- States that `ordinals` is the table of ordinals after the declaration with ordinal `d` is renamed
--- to `new`. It has the ordinal to which each identifier is then bound. An identifier that is then
--- unbound has None.
+-- to `new`: for each identifier its ordinal under the new bindings, or None if it would be unbound.
 abbrev pub AreOrdinalsAfterRename : Resolution → ℕ → Name → List (Option ℕ) → Type 0
 AreOrdinalsAfterRename r d new ordinals =
     numbered (renamed (named_tree_of r.module_read) d new)

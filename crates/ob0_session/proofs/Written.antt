@@ -1,19 +1,19 @@
 -- Proves that if a write fails while several byte strings are written, a prefix of their
 -- concatenation has been written.
-use Rattle.std.proofs.Common.{◌≡◌, ◌∙◌, ◌<◌, ◌+◌, ℕ, suc, length, get_or, add-one, append-nil, List, [], ◌∷◌, ◌++◌, Bool, true, ◌||◌, Option, Result, Ok, Err, OnErr, is_err, take, drop, map, ap, sym, append_assoc}
-use Rattle.std.proofs.Math.Bool.{or-true}
+use Rattle.std.proofs.Common.{◌≡◌, ◌∙◌, ◌<◌, ◌+◌, ℕ, suc, length, get_or, add-one, append-nil, List, [], ◌∷◌, ◌++◌, Bool, true, false, ◌||◌, Result, Ok, Err, OnErr, OnOk, is_err, take, drop, map, ap, sym, append_assoc}
+use Rattle.std.proofs.Math.Bool.{or-false, or-true}
 use Rattle.std.proofs.Math.ListN.{get_or-map as get_or_map}
 use Rattle.std.proofs.Math.Seq.{split_at, take-suc}
 use Rattle.std.proofs.lemmas.List.{get_or-map, map-append, take-append-drop}
 use Rattle.std.proofs.lemmas.List.Concat.{flat_map-append}
 use Rattle.std.specs.List.{flat_map}
 use Rattle.ob0_frame.specs.Frames.{frame, written_head}
-use Rattle.std.proofs.KnownBytes.{Appends-trans}
-use Rattle.std.specs.Io.KnownBytes.{Appends}
-use Rattle.ob0_session.specs.ServeSteps.{AppendsPrefix}
+use Rattle.ob0_session.specs.ServeSteps.{WritesPrefixToStream, WritesToStream}
+use Rattle.ob0_session.specs.StreamSteps.{StreamState}
+use Rattle.ob0_session.proofs.StreamLaws.{writes_more}
 
 -- If a prefix of `head` was written, so was a prefix of `head` and `content` together.
-pub front_of_first : (old new : Option (List ℕ)) (head content : List ℕ) → (n : ℕ) × Appends old new (take n head) → AppendsPrefix old new (head ++ content)
+pub front_of_first : (old new : StreamState) (head content : List ℕ) → (n : ℕ) × WritesToStream old new (take n head) → WritesPrefixToStream old new (head ++ content)
 front_of_first old new head content f = (
   take f.0 head,
   drop f.0 head ++ content,
@@ -22,12 +22,12 @@ front_of_first old new head content f = (
 )
 
 -- If all of `head` and a prefix of `content` were written, so was a prefix of both together.
-pub front_of_later : (old mid new : Option (List ℕ)) (head content : List ℕ) → Appends old mid head → (n : ℕ) × Appends mid new (take n content) → AppendsPrefix old new (head ++ content)
+pub front_of_later : (old mid new : StreamState) (head content : List ℕ) → WritesToStream old mid head → (n : ℕ) × WritesToStream mid new (take n content) → WritesPrefixToStream old new (head ++ content)
 front_of_later old mid new head content all f = (
   head ++ take f.0 content,
   drop f.0 content,
   ap (λ l. head ++ l) (sym (take-append-drop f.0 content)) ∙ sym (append_assoc head (take f.0 content) (drop f.0 content)),
-  Appends-trans old mid new head (take f.0 content) all f.1,
+  writes_more old mid new head (take f.0 content) all f.1,
 )
 
 -- If a call fails and failures are noted, the note says so after the call.
@@ -35,12 +35,17 @@ pub failing : {T E P Q : Type 0} (r : Result T E) (before after : Bool) → afte
 failing (Ok x) before after noted weaker h = tt
 failing (Err e) before after noted weaker h = (weaker h, noted ∙ or-true before)
 
-pub front_after : (old mid new : Option (List ℕ)) (first part rest all : List ℕ) → Appends old mid first → AppendsPrefix mid new part → all ≡ first ++ (part ++ rest) → AppendsPrefix old new all
+-- If a call succeeds and failures are noted, no failure is noted after the call.
+pub passing : {T E P Q : Type 0} (r : Result T E) (before after : Bool) → before ≡ false → after ≡ (before || is_err r) → (P → Q) → OnOk r P → OnOk r (Q × after ≡ false)
+passing (Ok x) before after fine noted weaker h = (weaker h, noted ∙ or-false before ∙ fine)
+passing (Err e) before after fine noted weaker h = tt
+
+pub front_after : (old mid new : StreamState) (first part rest all : List ℕ) → WritesToStream old mid first → WritesPrefixToStream mid new part → all ≡ first ++ (part ++ rest) → WritesPrefixToStream old new all
 front_after old mid new first part rest all whole f is = (
   first ++ f.0,
   f.1 ++ rest,
   is ∙ ap (λ l. first ++ (l ++ rest)) f.2 ∙ ap (λ l. first ++ l) (append_assoc f.0 f.1 rest) ∙ sym (append_assoc first f.0 (f.1 ++ rest)),
-  Appends-trans old mid new first f.0 whole f.3,
+  writes_more old mid new first f.0 whole f.3,
 )
 
 -- A fact that holds in any case also holds if a call fails.

@@ -1,8 +1,8 @@
--- States which bytes the steps of `serve` append to the writer. The steps are: sending messages,
--- answering the message contents that wait in the framer, and flushing after a fault. A frame is
--- one message as bytes, a head followed by its content.
--- Rule: none; used in the contracts of the private functions that `serve` calls.
-use Rattle.std.specs.Prelude.{◌≡◌, ℕ, List, [], ◌++◌, ◌⊎◌, Bool, true, false, Option, Result, Ok, Err, ⊤}
+-- States which bytes the parts of `serve_stream` write to the stream. The parts are: sending
+-- messages, answering the message contents that wait in the framer, and flushing after a fault. A
+-- frame is one message as bytes, a head followed by its content.
+-- Rule: none; used in the contracts of the private functions that `serve_stream` calls.
+use Rattle.std.specs.Prelude.{◌≡◌, ℕ, List, [], ◌∷◌, ◌++◌, ◌⊎◌, Bool, true, false, Result, Ok, Err, ⊤}
 use Rattle.std.specs.Io.KnownBytes.{Appends}
 use Rattle.std.specs.List.{flat_map}
 use Rattle.ob0_frame.specs.Frames.{frame}
@@ -13,28 +13,52 @@ use Rattle.ob0_session.specs.declared.serve_loop.ServeFault.{ServeFault}
 use Rattle.ob0_session.specs.declared.serve_loop.ServeFault.TheVariants.{Write, Memory}
 use Rattle.ob0_session_server.specs.declared.session.Next.{Next}
 use Rattle.ob0_session_server.specs.declared.session.Next.TheVariants.{Continue, End}
+use Rattle.ob0_session.specs.StreamSteps.{StreamState, StreamStep, read_begins, read_gives, read_fails, Records, bytes_written}
 
--- States that a prefix of `bytes` was appended to a writer. `old` and `new` are the writer's bytes
--- before and after. If these bytes aren't known (None), nothing is stated about them.
-abbrev pub AppendsPrefix : Option (List ℕ) → Option (List ℕ) → List ℕ → Type 0
-AppendsPrefix old new bytes =
-    (front : List ℕ) × (back : List ℕ) × (bytes ≡ front ++ back) × Appends old new front
+-- States that a step belongs to a write or a flush.
+abbrev pub IsOutputStep : StreamStep → Type 0
+IsOutputStep read_begins = ⊥
+IsOutputStep (read_gives bytes) = ⊥
+IsOutputStep read_fails = ⊥
+IsOutputStep step = ⊤
+
+-- States that all of the steps belong to writes or flushes.
+abbrev pub AreOutputSteps : List StreamStep → Type 0
+AreOutputSteps [] = ⊤
+AreOutputSteps (step ∷ steps) = IsOutputStep step × AreOutputSteps steps
+
+-- States that writes and flushes lead from the state `old` of a stream to the state `new`, and that
+-- they write exactly these bytes. No read is among them, so the input is unchanged.
+pub record WritesToStream (old new : StreamState) (bytes : List ℕ) : Type 0 where
+  pub appends : Appends old.output.contents new.output.contents bytes
+  pub input : new.input ≡ old.input
+  pub references : new.references ≡ old.references
+  pub steps : List StreamStep
+  pub recorded : Records old.steps new.steps steps
+  pub only_output : AreOutputSteps steps
+  pub written : bytes_written steps ≡ bytes
+
+-- States that writes and flushes lead from the state `old` of a stream to the state `new`, and that
+-- they write a prefix of `bytes`.
+abbrev pub WritesPrefixToStream : StreamState → StreamState → List ℕ → Type 0
+WritesPrefixToStream old new bytes =
+    (front : List ℕ) × (back : List ℕ) × (bytes ≡ front ++ back) × WritesToStream old new front
 
 -- States that sending these messages may have this result. If it is Ok, the frames of all messages
 -- were written. If it is `Memory`, nothing was written. If it is `Write`, a prefix of the frames
--- was written, and the writer has failed (`failed` is true). For Ok and `Memory`, `failed` is
+-- was written, and a write has failed (`failed` is true). For Ok and `Memory`, `failed` is
 -- false. Other faults never occur.
-abbrev pub SendsFrames : Option (List ℕ)
-    → Option (List ℕ)
+abbrev pub SendsFrames : StreamState
+    → StreamState
     → List (List ℕ)
     → Result ⊤ ServeFault
     → Bool
     → Type 0
 SendsFrames old new messages (Ok done) failed =
-    Appends old new (flat_map frame messages) × (failed ≡ false)
-SendsFrames old new messages (Err Memory) failed = Appends old new [] × (failed ≡ false)
+    WritesToStream old new (flat_map frame messages) × (failed ≡ false)
+SendsFrames old new messages (Err Memory) failed = WritesToStream old new [] × (failed ≡ false)
 SendsFrames old new messages (Err Write) failed =
-    AppendsPrefix old new (flat_map frame messages) × (failed ≡ true)
+    WritesPrefixToStream old new (flat_map frame messages) × (failed ≡ true)
 SendsFrames old new messages (Err fault) failed = ⊥
 
 -- States that all waiting message contents are answered, except the contents `left` at the end of

@@ -1,28 +1,35 @@
-//! Serves a conversation over a stream (docs/PROTOCOL.md, Framing and The program). `serve` reads
-//! pieces of the stream, answers the content of each complete message, writes frames (messages with
-//! their heads), and flushes them.
+//! Serves a conversation over a stream (docs/PROTOCOL.md, Framing and The program). `serve_stream`
+//! reads pieces of the stream, answers the content of each complete message, writes frames
+//! (messages with their heads), and flushes them. `serve` is the same over a reader and a writer.
 //!
-//! `Serves` states for each result of `serve` which device has failed. For `Read` only the reader
-//! has failed, for `Write` only the writer, and for any other result neither. Everything written is
+//! `Serves` states for each result which direction has failed. For `Read` only reads have failed,
+//! for `Write` only writes or flushes, and for any other result nothing. Everything written is
 //! flushed, unless the result is `Write`.
 //!
-//! `LeavesWriterFlushed` states that the writer is flushed on return if it was flushed at the call,
-//! or if something was written. So `serve` must flush after its last write, unless it returns
-//! `Write`. If an allocation fails, the answers that are already written are flushed before the
-//! return (`flush_after_fault`). If that flush fails, the result is `Write`.
+//! `LeavesWriterFlushed` states that everything is flushed on return if it was flushed at the call,
+//! or if something was written. So `serve_stream` must flush after its last write, unless it
+//! returns `Write`. If an allocation fails, the answers that are already written are flushed before
+//! the return (`flush_after_fault`). If that flush fails, the result is `Write`.
+//!
+//! `NeverReadsOwing` states that no answer is owed when a read begins: each message that was read is
+//! answered, and the answers are written and flushed. It needs a stream that records its calls in
+//! order. A reader and a writer record no common order, so `serve` can't state it.
 
 ghost use Rattle.std.specs.Prelude.{◌≡◌, ◌≢◌, ◌++◌, List, ℕ, [], true, false, IfOk, OnOk, OnErr, length, map, MatchResult};
-ghost use Rattle.std.specs.Io.KnownBytes.{Appends, Consumes, IsAtEnd, Keeps};
+ghost use Rattle.std.specs.Io.KnownBytes.{Appends, Consumes, IsAtEnd};
 ghost use Rattle.std.specs.List.{flat_map};
 ghost use Rattle.ob0_frame.specs.Frames.{frame, written_head};
 ghost use Rattle.ob0_frame.specs.FramerState.{Open, Broken, PieceAdvancesFramer};
 ghost use Rattle.ob0_session_server.specs.Steps.{HasNotEnded};
 ghost use Rattle.ob0_session.specs.ServeResults.{UsesAllReads, LeavesWriterFlushed, IsReadInPieces, Serves};
 ghost use Rattle.ob0_session.specs.Statuses.{status_of};
-ghost use Rattle.ob0_session.specs.ServeSteps.{AnswersWaitingMessages, AppendsPrefix, IsFaultAfterFlush, SendsFrames};
+ghost use Rattle.ob0_session.specs.ServeSteps.{AnswersWaitingMessages, IsFaultAfterFlush, SendsFrames, WritesPrefixToStream, WritesToStream};
+ghost use Rattle.ob0_session.specs.OwedAnswers.{NeverReadsOwing};
+ghost use Rattle.ob0_session.specs.StreamSteps.{Records, StreamStep};
 
 use crate::complete_writes::write_all_bytes;
-use crate::devices::{DeviceFault, InputDevice, OutputDevice};
+use crate::device_pair::DevicePair;
+use crate::devices::{DeviceFault, InputDevice, OutputDevice, Stream};
 use ob0_frame::{FrameFault, Framer, head_for_content_length};
 use ob0_session_server::{Next, Session};
 use ob0_text::Lines;
@@ -66,10 +73,10 @@ pub fn status_of(fault: ServeFault) -> u8
     }
 }
 
-/// Serves one conversation, and returns the exit status with which the conversation ends. The
-/// output is flushed after each piece of input, but the contract covers only the flush before the
-/// return (`LeavesWriterFlushed`). At most 2^40 pieces are read, each of at most 8,192 bytes. If a
-/// flush fails, returns the fault `Write`.
+/// Serves one conversation over a reader and a writer, and returns the exit status with which the
+/// conversation ends. At most 2^40 pieces are read, each of at most 8,192 bytes. If a flush fails,
+/// returns the fault `Write`. Everything that was read is answered before the next read: the
+/// contract of `serve_stream`, which does the work, states this for streams that record their calls.
 pub fn serve<R: InputDevice, W: OutputDevice>(
     alloc: Global,
     reader: &mut R,
@@ -86,11 +93,36 @@ pub fn serve<R: InputDevice, W: OutputDevice>(
         (R.has_failed reader.new) (W.has_failed writer.new)
         (LeavesWriterFlushed (W.is_flushed writer.old) (W.is_flushed writer.new) put) }
 {
+    let mut devices = DevicePair { reader, writer };
+    serve_stream(alloc, &mut devices)
+}
+
+/// Serves one conversation over a device with both directions, and returns the exit status with
+/// which the conversation ends. The result and the bytes are those of `serve`. Whenever a read
+/// begins, no answer is owed (`prompt`): each message that was read is answered, and all answers are
+/// written and flushed.
+pub fn serve_stream<S: Stream>(alloc: Global, stream: &mut S) -> Result<u8, ServeFault>
+    requires reads { (S.state stream.old).input.has_failed ≡ false }
+    requires writes { (S.state stream.old).output.has_failed ≡ false }
+    ensures served { (taken : List ℕ) × (put : List ℕ)
+        × Consumes (S.state stream.old).input.remaining (S.state stream.new).input.remaining taken
+        × Appends (S.state stream.old).output.contents (S.state stream.new).output.contents put
+        × IsReadInPieces (S.state stream.old).input.reads (S.state stream.new).input.reads taken
+        × Serves result taken put (IsAtEnd (S.state stream.new).input.remaining)
+        (UsesAllReads (S.state stream.old).input.reads (S.state stream.new).input.reads)
+        (S.state stream.new).input.has_failed (S.state stream.new).output.has_failed
+        (LeavesWriterFlushed (S.state stream.old).output.is_flushed
+        (S.state stream.new).output.is_flushed put) }
+    ensures prompt { (steps : List StreamStep)
+        × Records (S.state stream.old).steps (S.state stream.new).steps steps
+        × NeverReadsOwing steps }
+    ensures references { (S.state stream.new).references ≡ (S.state stream.old).references }
+{
     let mut framer = Framer::new(alloc);
     let mut session: Session<Lines> = Session::new(alloc);
     let mut piece = [0u8; MAX_PIECE_LENGTH];
     for _turn in 0..MAX_READS {
-        let Ok(count) = reader.read(&mut piece) else {
+        let Ok(count) = stream.read(&mut piece) else {
             return Err(ServeFault::Read);
         };
         if count == 0 {
@@ -99,11 +131,11 @@ pub fn serve<R: InputDevice, W: OutputDevice>(
         let Ok(can_continue) = feed_piece(&mut framer, &piece[..count]) else {
             return Err(ServeFault::Memory);
         };
-        let next = match answer_waiting_messages(alloc, &mut framer, &mut session, writer) {
+        let next = match answer_waiting_messages(alloc, &mut framer, &mut session, stream) {
             Ok(next) => next,
-            Err(fault) => return Err(flush_after_fault(fault, writer)),
+            Err(fault) => return Err(flush_after_fault(fault, stream)),
         };
-        match writer.flush() {
+        match stream.flush() {
             Ok(()) => {}
             Err(DeviceFault) => return Err(ServeFault::Write),
         }
@@ -120,12 +152,12 @@ pub fn serve<R: InputDevice, W: OutputDevice>(
 
 // Flushes everything that was written before a fault, and returns the fault to report: `fault`, or
 // `Write` if the flush fails.
-fn flush_after_fault<W: OutputDevice>(fault: ServeFault, writer: &mut W) -> ServeFault
-    ensures bytes { Keeps (W.contents writer.old) (W.contents writer.new) }
-    ensures fault { IsFaultAfterFlush fault (W.has_failed writer.old) result (W.has_failed writer.new)
-        (W.is_flushed writer.new) }
+fn flush_after_fault<S: Stream>(fault: ServeFault, stream: &mut S) -> ServeFault
+    ensures bytes { WritesToStream (S.state stream.old) (S.state stream.new) [] }
+    ensures fault { IsFaultAfterFlush fault (S.state stream.old).output.has_failed result
+        (S.state stream.new).output.has_failed (S.state stream.new).output.is_flushed }
 {
-    let flushed = writer.flush();
+    let flushed = stream.flush();
     match flushed {
         Ok(()) => fault,
         Err(DeviceFault) => ServeFault::Write,
@@ -165,25 +197,25 @@ fn result_at_end_of_input(framer: &Framer) -> Result<u8, ServeFault>
 // no content waits. If the conversation ends first, returns `End` with the exit status, and the
 // remaining contents aren't answered. Returns `Memory` if an allocation fails, and `Write` if a
 // write fails.
-fn answer_waiting_messages<W: OutputDevice>(
+fn answer_waiting_messages<S: Stream>(
     alloc: Global,
     framer: &mut Framer,
     session: &mut Session<Lines>,
-    writer: &mut W,
+    stream: &mut S,
 ) -> Result<Next, ServeFault>
     requires serves { HasNotEnded session.old.phase }
-    requires writes { W.has_failed writer.old ≡ false }
+    requires writes { (S.state stream.old).output.has_failed ≡ false }
     ensures same { framer.new.rest ≡ framer.old.rest }
     ensures answers { (put : List ℕ)
-        × Appends (W.contents writer.old) (W.contents writer.new) put
+        × WritesToStream (S.state stream.old) (S.state stream.new) put
         × AnswersWaitingMessages framer.old.waiting session.old framer.new.waiting session.new put result
-        (W.has_failed writer.new) }
+        (S.state stream.new).output.has_failed }
 {
     while let Some(content) = framer.next() {
         let Ok(step) = session.step(content.as_slice()) else {
             return Err(ServeFault::Memory);
         };
-        match send_messages(alloc, step.send.as_slice(), writer) {
+        match send_messages(alloc, step.send.as_slice(), stream) {
             Ok(()) => {}
             Err(fault) => return Err(fault),
         }
@@ -197,19 +229,19 @@ fn answer_waiting_messages<W: OutputDevice>(
 
 // Writes each message as a frame: a head, followed by the message. All heads are computed before
 // the first write, so nothing is written if an allocation fails. The messages aren't copied.
-fn send_messages<W: OutputDevice>(
+fn send_messages<S: Stream>(
     alloc: Global,
     messages: &[Vec<u8>],
-    writer: &mut W,
+    stream: &mut S,
 ) -> Result<(), ServeFault>
-    requires { W.has_failed writer.old ≡ false }
-    ensures { SendsFrames (W.contents writer.old) (W.contents writer.new)
-        (map (λ v. v.items) messages.now) result (W.has_failed writer.new) }
+    requires { (S.state stream.old).output.has_failed ≡ false }
+    ensures { SendsFrames (S.state stream.old) (S.state stream.new)
+        (map (λ v. v.items) messages.now) result (S.state stream.new).output.has_failed }
 {
     let Ok(heads) = heads_of_messages(alloc, messages) else {
         return Err(ServeFault::Memory);
     };
-    match write_all_frames(heads.as_slice(), messages, writer) {
+    match write_all_frames(heads.as_slice(), messages, stream) {
         Ok(()) => Ok(()),
         Err(DeviceFault) => Err(ServeFault::Write),
     }
@@ -229,42 +261,36 @@ fn heads_of_messages(alloc: Global, messages: &[Vec<u8>]) -> Result<Vec<Vec<u8>>
 
 // Writes the frames of the messages: each head, followed by its message. If the device fails, a
 // prefix of these bytes has been written.
-fn write_all_frames<W: OutputDevice>(
+fn write_all_frames<S: Stream>(
     heads: &[Vec<u8>],
     messages: &[Vec<u8>],
-    writer: &mut W,
+    stream: &mut S,
 ) -> Result<(), DeviceFault>
     requires heads { map (λ v. v.items) heads.now
         ≡ map (λ v. written_head (length v.items)) messages.now }
-    requires not_failed { W.has_failed writer.old ≡ false }
-    ensures whole { OnOk result (Appends
-        (W.contents writer.old) (W.contents writer.new)
-        (flat_map frame (map (λ v. v.items) messages.now)) × (W.has_failed writer.new ≡ false)) }
-    ensures front { OnErr result (AppendsPrefix
-        (W.contents writer.old) (W.contents writer.new)
-        (flat_map frame (map (λ v. v.items) messages.now)) × (W.has_failed writer.new ≡ true)) }
+    requires not_failed { (S.state stream.old).output.has_failed ≡ false }
+    ensures whole { OnOk result (WritesToStream (S.state stream.old) (S.state stream.new)
+        (flat_map frame (map (λ v. v.items) messages.now))
+        × ((S.state stream.new).output.has_failed ≡ false)) }
+    ensures front { OnErr result (WritesPrefixToStream (S.state stream.old) (S.state stream.new)
+        (flat_map frame (map (λ v. v.items) messages.now))
+        × ((S.state stream.new).output.has_failed ≡ true)) }
 {
     for i in 0..messages.len() {
-        write_frame(heads[i].as_slice(), messages[i].as_slice(), writer)?;
+        write_frame(heads[i].as_slice(), messages[i].as_slice(), stream)?;
     }
     Ok(())
 }
 
 // Writes one frame: its head, followed by its content. If the device fails, a prefix of these bytes
 // has been written.
-fn write_frame<W: OutputDevice>(
-    head: &[u8],
-    content: &[u8],
-    writer: &mut W,
-) -> Result<(), DeviceFault>
-    requires not_failed { W.has_failed writer.old ≡ false }
-    ensures whole { OnOk result (Appends
-        (W.contents writer.old) (W.contents writer.new)
-        (head.now ++ content.now) × (W.has_failed writer.new ≡ false)) }
-    ensures front { OnErr result (AppendsPrefix
-        (W.contents writer.old) (W.contents writer.new)
-        (head.now ++ content.now) × (W.has_failed writer.new ≡ true)) }
+fn write_frame<S: Stream>(head: &[u8], content: &[u8], stream: &mut S) -> Result<(), DeviceFault>
+    requires not_failed { (S.state stream.old).output.has_failed ≡ false }
+    ensures whole { OnOk result (WritesToStream (S.state stream.old) (S.state stream.new)
+        (head.now ++ content.now) × ((S.state stream.new).output.has_failed ≡ false)) }
+    ensures front { OnErr result (WritesPrefixToStream (S.state stream.old) (S.state stream.new)
+        (head.now ++ content.now) × ((S.state stream.new).output.has_failed ≡ true)) }
 {
-    write_all_bytes(writer, head)?;
-    write_all_bytes(writer, content)
+    write_all_bytes(stream, head)?;
+    write_all_bytes(stream, content)
 }

@@ -8,7 +8,7 @@ use crate::test_questions::TestQuestion::{
 use crate::test_questions::{
     CheckMode, QuestionCase, first_failing_row, push_number, push_span, rows,
 };
-use ob0_refs::{NameConflict, captures};
+use ob0_refs::{Capture, captures};
 use ob0_scope::resolve_renamed;
 use ob0_types::{ArrayShape, RecordShape, Shape, TypeWithParts, WellTyped};
 use std::alloc::{AllocError, Global};
@@ -73,7 +73,7 @@ pub fn push_first_conflict(
 ) -> Result<(), AllocError> {
     match captures(alloc, module.resolved(), declaration, new)? {
         None => out.push_str("free"),
-        Some(NameConflict { span }) => push_span(out, "", span),
+        Some(Capture { span }) => push_span(out, "", span),
     }
 }
 

@@ -12,7 +12,7 @@ use ob0_run::laws::{
 use ob0_scan::{Tokens, scan};
 use ob0_scope::{Resolved, resolve};
 use ob0_tree::Module;
-use ob0_types::{Checked, Scalar, WellTyped, check};
+use ob0_types::{Checked, Constant, WellTyped, check};
 use std::alloc::Global;
 use std::process::Abort;
 
@@ -39,7 +39,7 @@ fn has_expected_bindings(names: &Resolved<'_>) -> bool {
 /// Returns whether the constant (ordinal 7) has its value, and the variable (ordinal 8) has a type
 /// but no value. There must be no type for ordinal 9, and there must be no faults.
 fn has_expected_types(typed: &WellTyped<'_>) -> bool {
-    typed.constant(7) == Some(Scalar::Number(3))
+    typed.constant(7) == Some(Constant::Number(3))
         && typed.constant(8) == None
         && typed.shape(8).is_some()
         && typed.shape(9).is_none()

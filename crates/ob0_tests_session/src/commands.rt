@@ -3,56 +3,60 @@
 
 use crate::devices::{CountingWriter, FailingReader, WriterCounts};
 use ob0_cli::{CommandFault, CommandLine, command};
-use ob0_commands::{TrackedReader, TrackedWriter, perform_command};
+use ob0_commands::{
+    TrackedOutput, TrackedReader, TrackedWriter, check_text, perform_command, rename_text, run_text,
+};
 use ob0_text::Position;
 use std::alloc::Global;
 use std::process::Abort;
 
 const READ_AND_WRITE_MODULE: &[u8] = b"MODULE M; VAR x: INTEGER; BEGIN Read(x); Write(x) END M.";
 
-const CHECK_COMMAND: CommandLine<'static> = CommandLine::Check { file: "m" };
+/// A call of one of the commands on the bytes of a file.
+#[derive(Clone, Copy)]
+enum CommandCall {
+    Check,
+    /// A run on these bytes of input, in which no call may be open and no loop may have an
+    /// iteration.
+    Run(&'static [u8]),
+    /// A renaming to `abc` of the name at this character of the first line.
+    Rename(u64),
+}
 
-const RUN_COMMAND: CommandLine<'static> = CommandLine::Run {
-    file: "m",
-    calls: 0,
-    turns: 0,
-};
+/// Calls a command on a file with these bytes. Returns the command's status. An input is read byte
+/// by byte.
+fn status_of_call<O: TrackedOutput, E: TrackedOutput>(
+    alloc: Global,
+    call: CommandCall,
+    file: &[u8],
+    out: &mut O,
+    err: &mut E,
+) -> u8 {
+    match call {
+        CommandCall::Check => check_text(alloc, file, out, err),
+        CommandCall::Run(bytes) => {
+            let mut input = TrackedReader::new(FailingReader {
+                bytes,
+                max_bytes_per_read: 1,
+                calls_left: 16,
+            });
+            run_text(alloc, file, &mut input, 0, 0, out, err)
+        }
+        CommandCall::Rename(character) => {
+            let position = Position { line: 0, character };
+            rename_text(alloc, file, position, "abc", out, err)
+        }
+    }
+}
 
-/// The renaming of the variable `x` to `abc`.
-const RENAME_X_TO_ABC: CommandLine<'static> = CommandLine::Rename {
-    file: "m",
-    position: Position {
-        line: 0,
-        character: 14,
-    },
-    name: "abc",
-};
-
-/// A renaming to `abc` at the word `MODULE`, which isn't a name.
-const RENAME_AT_KEYWORD: CommandLine<'static> = CommandLine::Rename {
-    file: "m",
-    position: Position {
-        line: 0,
-        character: 0,
-    },
-    name: "abc",
-};
-
-/// A command line, the bytes of its file and the bytes of the standard input.
-type CommandWithInput = (CommandLine<'static>, &'static [u8], &'static [u8]);
-
-/// Performs a command with an output writer whose first `flushes` flushes succeed and whose later
-/// flushes fail. Returns the command's status, and the number of output bytes that were flushed. If
-/// the command line has no file, performs nothing and returns the status 2 and 0 bytes.
+/// Calls a command with an output writer whose first `flushes` flushes succeed and whose later
+/// flushes fail. Returns the command's status, and the number of output bytes that were flushed.
 fn status_and_flushed_byte_count(
     alloc: Global,
-    call: CommandWithInput,
+    call: CommandCall,
+    file: &[u8],
     flushes: u32,
 ) -> (u8, usize) {
-    let (line, file, bytes) = call;
-    let Some(_path) = line.file_path() else {
-        return (2, 0);
-    };
     let (mut printed, mut reported) = (WriterCounts::new(512, flushes), WriterCounts::new(512, 1));
     let mut out = TrackedWriter::new(CountingWriter {
         count: &mut printed,
@@ -60,47 +64,46 @@ fn status_and_flushed_byte_count(
     let mut err = TrackedWriter::new(CountingWriter {
         count: &mut reported,
     });
-    let mut input = TrackedReader::new(FailingReader {
-        bytes,
-        max_bytes_per_read: 1,
-        calls_left: 16,
-    });
-    let status = perform_command(alloc, line, file, &mut input, &mut out, &mut err);
+    let status = status_of_call(alloc, call, file, &mut out, &mut err);
     (status, printed.flushed_bytes)
 }
 
-/// Commands, each with the number of flushes that succeed, the expected status, and the expected
+/// A call with its file, the number of flushes that succeed, the expected status, and the expected
 /// number of output bytes that are flushed.
-static COMMAND_CASES: &[(CommandWithInput, u32, (u8, usize))] = &[
+type CommandCase = (CommandCall, &'static [u8], u32, (u8, usize));
+
+static COMMAND_CASES: &[CommandCase] = &[
     (
-        (CHECK_COMMAND, b"", b""),
+        CommandCall::Check,
+        b"",
         1,
         (1, "0:0: Syntax: expected MODULE\n".len()),
     ),
-    ((CHECK_COMMAND, b"", b""), 0, (4, 0)),
+    (CommandCall::Check, b"", 0, (4, 0)),
     (
-        (RUN_COMMAND, READ_AND_WRITE_MODULE, b"-17"),
+        CommandCall::Run(b"-17"),
+        READ_AND_WRITE_MODULE,
         1,
         (0, " -17".len()),
     ),
-    ((RUN_COMMAND, READ_AND_WRITE_MODULE, b""), 1, (1, 0)),
-    ((RUN_COMMAND, READ_AND_WRITE_MODULE, b"x"), 1, (4, 0)),
+    (CommandCall::Run(b""), READ_AND_WRITE_MODULE, 1, (1, 0)),
+    (CommandCall::Run(b"x"), READ_AND_WRITE_MODULE, 1, (4, 0)),
     (
-        (RENAME_X_TO_ABC, READ_AND_WRITE_MODULE, b""),
+        CommandCall::Rename(14),
+        READ_AND_WRITE_MODULE,
         1,
         (0, READ_AND_WRITE_MODULE.len() + 6),
     ),
-    ((RENAME_AT_KEYWORD, READ_AND_WRITE_MODULE, b""), 1, (1, 0)),
+    // (`MODULE` isn't a name)
+    (CommandCall::Rename(0), READ_AND_WRITE_MODULE, 1, (1, 0)),
 ];
 
-/// Returns the index, from 0, of the first command without its expected outcome. Returns None if
-/// all commands have their expected outcomes.
-fn first_failing_command(
-    alloc: Global,
-    calls: &[(CommandWithInput, u32, (u8, usize))],
-) -> Option<usize> {
-    for i in 0..calls.len() {
-        if status_and_flushed_byte_count(alloc, calls[i].0, calls[i].1) != calls[i].2 {
+/// Returns the index, from 0, of the first call without its expected outcome. Returns None if all
+/// calls have their expected outcomes.
+fn first_failing_call(alloc: Global, cases: &[CommandCase]) -> Option<usize> {
+    for i in 0..cases.len() {
+        let (call, file, flushes, outcome) = cases[i];
+        if status_and_flushed_byte_count(alloc, call, file, flushes) != outcome {
             return Some(i);
         }
     }
@@ -109,8 +112,60 @@ fn first_failing_command(
 
 #[test]
 fn commands_print_what_they_flush(rt: HostRuntime) {
-    let number = first_failing_command(rt.alloc(), COMMAND_CASES);
+    let number = first_failing_call(rt.alloc(), COMMAND_CASES);
     assert!(rt; number.is_none(), "call {number:?}");
+}
+
+/// Performs a command line on a file with these bytes and an empty input. Returns the status, and
+/// the number of output bytes that were flushed. If the command line has no file, performs nothing
+/// and returns the status 2 and 0 bytes.
+fn performed_command(alloc: Global, line: CommandLine<'_>, file: &[u8]) -> (u8, usize) {
+    let Some(_path) = line.file_path() else {
+        return (2, 0);
+    };
+    let (mut printed, mut reported) = (WriterCounts::new(512, 1), WriterCounts::new(512, 1));
+    let mut out = TrackedWriter::new(CountingWriter {
+        count: &mut printed,
+    });
+    let mut err = TrackedWriter::new(CountingWriter {
+        count: &mut reported,
+    });
+    let mut input = TrackedReader::new(FailingReader {
+        bytes: b"",
+        max_bytes_per_read: 1,
+        calls_left: 16,
+    });
+    let mut kept = None;
+    let status = perform_command(alloc, line, file, &mut input, &mut out, &mut err, &mut kept);
+    (status, printed.flushed_bytes)
+}
+
+#[test]
+fn a_command_line_is_performed_by_its_command(rt: HostRuntime) {
+    let check = CommandLine::Check { file: "m" };
+    let run = CommandLine::Run {
+        file: "m",
+        calls: 0,
+        turns: 0,
+    };
+    let rename = CommandLine::Rename {
+        file: "m",
+        position: Position {
+            line: 0,
+            character: 14,
+        },
+        name: "abc",
+    };
+    let file = READ_AND_WRITE_MODULE;
+    assert!(rt;
+        performed_command(rt.alloc(), check, file) == (0, 0),
+        "check"
+    );
+    assert!(rt; performed_command(rt.alloc(), run, file) == (1, 0), "run");
+    assert!(rt;
+        performed_command(rt.alloc(), rename, file) == (0, file.len() + 6),
+        "rename"
+    );
 }
 
 /// Returns the command of a command line in words, such as `serve`. A run of the file `m` with the

@@ -1,7 +1,8 @@
 //! Tests conversations with readers and writers that fail. Also tests that `serve` flushes the
-//! bytes that it writes.
+//! bytes that it writes, and that it owes no answer when it reads.
 
 use crate::devices::{CountingWriter, FailingReader, WriterCounts};
+use crate::recorder::{RecordedStep, Recorder, StepRecord, serve_recorded};
 use ob0_session::{DeviceFault, InputDevice, Noted, OutputDevice, ServeFault, serve, status_of};
 use std::alloc::Global;
 use std::process::Abort;
@@ -134,6 +135,84 @@ fn first_failing_conversation(alloc: Global, ends: &[ConversationCase]) -> Optio
 fn output_is_flushed_after_each_piece(rt: HostRuntime) {
     let number = first_failing_conversation(rt.alloc(), CONVERSATION_CASES);
     assert!(rt; number.is_none(), "conversation {number:?}");
+}
+
+/// Calls `serve` for this input, with reads of at most 8,192 bytes and a writer that has these
+/// counts.
+fn serve_and_count(alloc: Global, bytes: &[u8], count: &mut WriterCounts) {
+    let mut reader = Noted::new(FailingReader {
+        bytes,
+        max_bytes_per_read: 8192,
+        calls_left: u32::MAX,
+    });
+    let mut writer = Noted::new(CountingWriter { count });
+    let _ = serve(alloc, &mut reader, &mut writer);
+}
+
+/// Returns how many bytes `serve` writes for this input.
+fn output_length(alloc: Global, bytes: &[u8]) -> usize {
+    let mut count = WriterCounts::new(usize::MAX, u32::MAX);
+    serve_and_count(alloc, bytes, &mut count);
+    count.written
+}
+
+/// Returns the index, from 0, of the first step at which a read begins although an answer is owed:
+/// what is written isn't all flushed, or isn't what `serve` writes for the bytes given so far.
+/// Returns None if no answer is owed at any read.
+fn first_owing_read(alloc: Global, input: &[u8], steps: &[RecordedStep]) -> Option<usize> {
+    let mut given = 0usize;
+    let mut written = 0usize;
+    let mut is_flushed = true;
+    for i in 0..steps.len() {
+        match &steps[i] {
+            RecordedStep::ReadBegins => {
+                let so_far = &input[..given.min(input.len())];
+                if !is_flushed || written != output_length(alloc, so_far) {
+                    return Some(i);
+                }
+            }
+            RecordedStep::ReadGives(bytes) => given = given.saturating_add(bytes.len()),
+            RecordedStep::Writes(bytes) => {
+                written = written.saturating_add(bytes.len());
+                is_flushed = false;
+            }
+            RecordedStep::WriteFails => is_flushed = false,
+            RecordedStep::Flushes => is_flushed = true,
+            RecordedStep::ReadFails => {}
+            RecordedStep::FlushFails => {}
+        }
+    }
+    None
+}
+
+/// Returns whether the record of a whole conversation is complete, and no answer is owed at any
+/// read. Each read gives at most `max_bytes_per_read` bytes.
+fn never_reads_owing(alloc: Global, max_bytes_per_read: usize, count: &mut WriterCounts) -> bool {
+    let mut stream = Recorder {
+        reader: Noted::new(FailingReader {
+            bytes: WHOLE_CONVERSATION,
+            max_bytes_per_read,
+            calls_left: u32::MAX,
+        }),
+        writer: Noted::new(CountingWriter { count }),
+        record_of_steps: StepRecord::new(alloc),
+    };
+    let result = serve_recorded(alloc, &mut stream);
+    let Some(steps) = stream.record_of_steps.complete_steps() else {
+        return false;
+    };
+    result == Ok(0) && first_owing_read(alloc, WHOLE_CONVERSATION, steps).is_none()
+}
+
+#[test]
+fn no_answer_is_owed_when_a_read_begins(rt: HostRuntime) {
+    for max_bytes_per_read in [1usize, 40, 8192] {
+        let mut count = WriterCounts::new(usize::MAX, u32::MAX);
+        assert!(rt;
+            never_reads_owing(rt.alloc(), max_bytes_per_read, &mut count),
+            "pieces of {max_bytes_per_read} bytes"
+        );
+    }
 }
 
 /// Returns whether the wrapper `Noted` returns its reader's results and bytes unchanged, and

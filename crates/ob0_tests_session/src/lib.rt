@@ -1,5 +1,5 @@
 //! Tests `serve`, the commands and command lines. The tests are examples with known answers, some
-//! of them with failing devices. Other tests check the output of the built program from end to end.
+//! of them with failing or recording devices. Other tests check the output of the built program from end to end.
 #![tactic(auto)]
 
 #[cfg(test)]
@@ -8,3 +8,4 @@ mod commands;
 mod conversations;
 #[cfg(test)]
 mod devices;
+pub mod recorder;

@@ -52,9 +52,8 @@ pub fn offset_from_line_table(
     place_of_position(text, table, unit, position).offset
 }
 
-/// The byte offsets at which a range starts and ends, and a counted piece (`CountedPiece`) of the
-/// line in which the range starts. The search for the next change's range can begin at the end of
-/// this piece.
+/// The byte offsets at which a range starts and ends, and how far the units of the line in which it
+/// starts have been counted, so that the next look-up needn't count from the line's start.
 #[derive(Clone, Copy, Drop)]
 pub struct RangeOffsets {
     pub start: usize,

@@ -21,7 +21,7 @@ ghost use Rattle.std.specs.Cow.{cow_value};
 ghost use Rattle.std.specs.Prelude.{◌≡◌, ◌↔◌, ◌++◌, [], ◌∷◌, length, IfOk, OnOk, MatchOption};
 
 use crate::one_body::shifted_token_indexes;
-use ob0_language_values::Scalar;
+use ob0_language_values::Scalar as Constant;
 use ob0_scan::{CommonPrefixAndSuffix, Fault, MAX_FAULTS};
 use ob0_scope_table::{
     FaultAtTokens, PREDECLARED_COUNT, Resolved, collect_faults_with_spans,
@@ -399,7 +399,7 @@ impl<'t> WellTyped<'t> {
 
     /// Returns the value of the constant with this ordinal. Returns None if no CONST section
     /// declares a constant with this ordinal, for example for TRUE and FALSE.
-    pub fn constant(&self, declaration: usize) -> Option<Scalar>
+    pub fn constant(&self, declaration: usize) -> Option<Constant>
         ensures { option_map scalar_value result
             ≡ constant_value_in_module (named_tree_of self.now.module_read) declaration }
     {

@@ -34,8 +34,8 @@ infixl 20 ◌>>=◌
 abbrev pub ◌>>=◌ : {A B : Type 0} → ResultWithFaults A → (A → ResultWithFaults B) → ResultWithFaults B
 t >>= next = prepend_faults t.faults (next t.known)
 
--- states that `x` is the result of `t`, and that the list `after` is the list `before` followed by
--- the faults of `t`
+-- The contract of code that checks: it returns the result `x` that `t` defines, and appends exactly
+-- the faults of `t` to the list `before`, which makes `after`.
 pub record ReturnsAndReports
     {A : Type 0} (before after : List FaultAtTokens) (x : A) (t : ResultWithFaults A) : Type 0 where
   pub known : x ≡ t.known

@@ -8,3 +8,4 @@ mod Fronts
 mod Streams
 mod Beginnings
 mod Framings
+mod Unfinished

@@ -12,11 +12,12 @@ use Rattle.ob0_frame.specs.FramerState.{StreamRest, Open, Broken, PieceAdvancesS
 use Rattle.ob0_frame.proofs.InTurn.{fed_in_turn}
 use Rattle.ob0_session_server.specs.Answers.{ServerState, initial_server_state, Answers, AnswersInPhase, IsConversation}
 use Rattle.ob0_session.specs.ServeResults.{AnswersAllButWaiting, AnswersAllContents, EndsByExit}
+use Rattle.ob0_session.specs.StreamSteps.{bytes_written}
 use Rattle.ob0_session_server.specs.Steps.{HasNotEnded}
 use Rattle.ob0_session_server.specs.declared.session.Phase.TheVariants.{Ended}
 use Rattle.ob0_session.specs.declared.serve_loop.ServeFault.{ServeFault}
 use Rattle.ob0_session.specs.declared.serve_loop.ServeFault.TheVariants.{BadHead, Truncated, Read, Write, Memory, TooManyReads}
-use Rattle.ob0_world_determined.specs.DeterminedOutput.{ServeAnswersLikeSession, ServeAnswersPrefixLikeSession, ServeEndsLikeSession, IsFinalResult, IsDeterminedByBytes, AllOutputIsWritten, ServeMayReturn, ConversationIsDetermined, ResultIsDetermined}
+use Rattle.ob0_world_determined.specs.DeterminedOutput.{ServeAnswersLikeSession, ServeAnswersPrefixLikeSession, ServeEndsLikeSession, ServeHasAnsweredAtReads, IsFinalResult, IsDeterminedByBytes, AllOutputIsWritten, ServeMayReturn, ConversationIsDetermined, ResultIsDetermined}
 use Rattle.ob0_world_determined.proofs.Conversations.{Contents}
 use Rattle.ob0_world_determined.proofs.Fronts.{Framed, fed_front}
 
@@ -277,6 +278,13 @@ pub conversation_is_served : ConversationIsDetermined → OneFeed → PieceAdvan
 conversation_is_served one feeds nothing read taken sent after small talk put result written served =
     let e = ending_of result (flat_map frame taken) put written served in
     frames_sent one feeds taken sent after talk (read taken small, nothing.1) put e.0 e.1
+
+pub conversation_is_served_at_reads : ConversationIsDetermined → OneFeed → PieceAdvancesStream (Open []) [] [] (Open []) → ((contents : Contents) → All (λ content. length content ≤ max_content_length) contents → Frames (flat_map frame contents) contents []) → ServeHasAnsweredAtReads
+conversation_is_served_at_reads one feeds nothing read taken sent after small talk steps owes more given =
+    let rest : StreamRest = Open owes.left in
+    let all : AnswersAllContents (flat_map frame taken ++ more) rest (bytes_written steps) = subst (λ bytes. AnswersAllContents bytes rest (bytes_written steps)) given owes.answered in
+    let first = frames_first one feeds taken sent after talk (read taken small, nothing.1) more (bytes_written steps) (with_rest rest) all in
+    (first.0, first.1, owes.flushed)
 
 -- ---- the frames of a conversation that ended
 

@@ -1,16 +1,19 @@
 -- States that the server's input determines the server's output: the diagnostics of a text, the
 -- replies to a message, and the written bytes.
 -- Rule: none; laws of the session.
-use Rattle.std.specs.Prelude.{◌≡◌, ◌≢◌, ◌≤◌, ◌++◌, ◌⊎◌, ℕ, List, [], length, All, Bool, Result, Ok, Err, ⊤}
+use Rattle.std.specs.Prelude.{◌≡◌, ◌≢◌, ◌≤◌, ◌<◌, ◌+◌, ◌++◌, ◌⊎◌, ℕ, List, [], length, All, Bool, true, Result, Ok, Err, ⊤}
 use Rattle.std.specs.List.{flat_map}
 use Rattle.ob0_frame.specs.Frames.{Frames, frame}
-use Rattle.ob0_frame.specs.Head.{max_content_length}
+use Rattle.ob0_frame.specs.FramerState.{Open, PieceAdvancesStream}
+use Rattle.ob0_frame.specs.Head.{max_content_length, max_head_length}
 use Rattle.ob0_scope_table.specs.Resolution.{Resolution, IsResolution, ordinal_in}
 use Rattle.ob0_tree.specs.ParsedModule.{ParsedModule, tree_of}
 use Rattle.ob0_analysis.specs.ReportedErrors.{ReportedDiagnosis, ReportsErrorsOf}
 use Rattle.ob0_session_server.specs.Answers.{ServerState, initial_server_state, Reply, AreContentsOfReply, Answers, IsConversation}
 use Rattle.ob0_session_server.specs.declared.session.Phase.TheVariants.{Ended}
+use Rattle.ob0_session.specs.OwedAnswers.{OwesNothing}
 use Rattle.ob0_session.specs.ServeResults.{EndsByExit, Serves}
+use Rattle.ob0_session.specs.StreamSteps.{StreamStep, bytes_given, bytes_written, is_all_flushed}
 use Rattle.ob0_session.specs.declared.serve_loop.ServeFault.{ServeFault}
 use Rattle.ob0_session.specs.declared.serve_loop.ServeFault.TheVariants.{BadHead, Truncated, Read, Write, Memory, TooManyReads}
 
@@ -123,6 +126,16 @@ FramingExists =
     (bytes : List ℕ)
     → ¬ ((contents : List (List ℕ)) (rest : List ℕ) → ¬ (Frames bytes contents rest))
 
+-- States that an unfinished message is short: it has fewer bytes than the longest head and the
+-- longest content have together. An unfinished message is the bytes `left` after the last complete
+-- message of an input, unless no message can begin with them. They are the bytes of the input that
+-- `serve` keeps.
+abbrev pub UnfinishedMessageIsBounded : Type 0
+UnfinishedMessageIsBounded =
+    (bytes left : List ℕ) (contents : List (List ℕ))
+    → PieceAdvancesStream (Open []) bytes contents (Open left)
+    → length left < max_head_length + max_content_length
+
 -- ---- a conversation, as bytes
 
 -- States that `serve` answers as the session does. Suppose that the input of `serve` consists of
@@ -165,3 +178,18 @@ ServeEndsLikeSession =
     → (more put : List ℕ) (result : Result ℕ ServeFault) → AllOutputIsWritten result
     → ServeMayReturn result (flat_map frame taken ++ more) put
     → (put ≡ flat_map frame sent) × (result ≡ Ok status)
+
+-- States that `serve` has answered as the session does whenever no answer is owed, as at the
+-- beginning of each read (`NeverReadsOwing`). Suppose that the bytes given so far begin with the
+-- frames of the contents that a session took. Then the bytes written begin with the frames of the
+-- contents that the session sent, and everything is flushed. The law excludes contents of more than
+-- `max_content_length` bytes.
+abbrev pub ServeHasAnsweredAtReads : Type 0
+ServeHasAnsweredAtReads =
+    (taken sent : List (List ℕ)) (after : ServerState)
+    → All (λ content. length content ≤ max_content_length) taken
+    → IsConversation initial_server_state taken sent after
+    → (steps : List StreamStep) → OwesNothing steps
+    → (more : List ℕ) → bytes_given steps ≡ flat_map frame taken ++ more
+    → (later : List ℕ) × (bytes_written steps ≡ flat_map frame sent ++ later)
+    × (is_all_flushed steps ≡ true)

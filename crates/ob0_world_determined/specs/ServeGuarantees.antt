@@ -1,12 +1,14 @@
 -- States what `serve` guarantees about the bytes that it writes, for every editor that keeps ob0's
 -- rules.
 -- Rule: docs/PROMISES.md, Client and server.
-use Rattle.std.specs.Prelude.{◌≡◌, ◌≤◌, ◌++◌, ℕ, List, [], ◌∷◌, length, All, Result, Ok}
+use Rattle.std.specs.Prelude.{◌≡◌, ◌≤◌, ◌++◌, ℕ, List, [], ◌∷◌, length, All, true, Result, Ok}
 use Rattle.std.specs.List.{flat_map}
 use Rattle.ob0_text.specs.declared.position_types.Unit.{Unit}
 use Rattle.ob0_frame.specs.Frames.{frame}
 use Rattle.ob0_frame.specs.Head.{max_content_length}
+use Rattle.ob0_session.specs.OwedAnswers.{OwesNothing}
 use Rattle.ob0_session.specs.ServeResults.{AnswersPrefixOfContents}
+use Rattle.ob0_session.specs.StreamSteps.{StreamStep, bytes_given, bytes_written, is_all_flushed}
 use Rattle.ob0_session.specs.declared.serve_loop.ServeFault.{ServeFault}
 use Rattle.ob0_world_rules.specs.EveryEditor.{ExchangeTurn}
 use Rattle.serde_json.specs.Data.{Data}
@@ -18,18 +20,15 @@ use Rattle.ob0_world_determined.specs.DeterminedOutput.{ServeMayReturn, AllOutpu
 -- states which bytes `serve` writes for this exchange.
 pub record ServeGuaranteesHoldForExchange (begin now : Exchange) : Type 0 where
   pub holds : GuaranteesHoldForExchange begin now
-  -- Suppose that the input of `serve` consists of the frames of the contents that the session took.
-  -- Then `serve` writes the frames of the contents that the session sent. This holds unless `serve`
-  -- returns `Memory` or `Write`, or a content is longer than `max_content_length`.
+  -- Suppose that the input of `serve` begins with the frames of the contents that the session took.
+  -- Then `serve` first writes the frames of the contents that the session sent, and writes nothing
+  -- else if the input ends there. This holds unless `serve` returns `Memory` or `Write`, or a
+  -- content is longer than `max_content_length`.
   pub written : All (λ content. length content ≤ max_content_length) now.wire.taken
-      → (put : List ℕ) (result : Result ℕ ServeFault) → AllOutputIsWritten result
-      → ServeMayReturn result (flat_map frame now.wire.taken) put
-      → put ≡ flat_map frame (now.wire.got ++ now.wire.to_editor)
-  -- If more bytes follow these frames in the input, `serve` writes the same frames first.
-  pub written_first : All (λ content. length content ≤ max_content_length) now.wire.taken
       → (more put : List ℕ) (result : Result ℕ ServeFault) → AllOutputIsWritten result
       → ServeMayReturn result (flat_map frame now.wire.taken ++ more) put
       → (later : List ℕ) × (put ≡ flat_map frame (now.wire.got ++ now.wire.to_editor) ++ later)
+      × (more ≡ [] → later ≡ [])
   -- If the session next takes `shutdown` and `exit`, `serve` also writes the frame of the answer to
   -- `shutdown`, and returns 0. Any bytes may follow the frames of these two messages in the input.
   pub ended : (id : Data) (shutdown exit : List ℕ) → IsShutdownRequest id shutdown → IsExitNotification exit
@@ -39,6 +38,14 @@ pub record ServeGuaranteesHoldForExchange (begin now : Exchange) : Type 0 where
       → (more put : List ℕ) (result : Result ℕ ServeFault) → AllOutputIsWritten result
       → ServeMayReturn result (flat_map frame (now.wire.taken ++ shutdown ∷ exit ∷ []) ++ more) put
       → (put ≡ flat_map frame ((now.wire.got ++ now.wire.to_editor) ++ sent)) × (result ≡ Ok 0)
+  -- Before each read of its device, `serve` owes nothing (`NeverReadsOwing`). Then it has written and
+  -- flushed the frames of the contents that the session sent, if the bytes that it was given begin
+  -- with the frames of the contents that the session took.
+  pub answered_at_reads : All (λ content. length content ≤ max_content_length) now.wire.taken
+      → (steps : List StreamStep) → OwesNothing steps → (more : List ℕ)
+      → bytes_given steps ≡ flat_map frame now.wire.taken ++ more → (later : List ℕ)
+      × (bytes_written steps ≡ flat_map frame (now.wire.got ++ now.wire.to_editor) ++ later)
+      × (is_all_flushed steps ≡ true)
   -- If `serve` returns `Memory`, it has answered the first contents of its input
   -- (`AnswersPrefixOfContents`). If these are exactly the contents that the session took, `serve`
   -- has written the frames of the contents that the session sent.

@@ -1,6 +1,6 @@
 //! Proves that the server's input determines the server's output, and that `serve` writes the
 //! frames of the messages that a session sends. A frame is a message's head and content.
-ghost use Rattle.ob0_world_determined.specs.DeterminedOutput.{FramingExists, ServeAnswersLikeSession, ServeAnswersPrefixLikeSession, ServeEndsLikeSession, AnswerIsDetermined, ConversationIsDetermined, DiagnosesAreDetermined, OutputIsDetermined, ReplyContentsAreDetermined, ResultIsDetermined, ResolutionIsDetermined};
+ghost use Rattle.ob0_world_determined.specs.DeterminedOutput.{FramingExists, UnfinishedMessageIsBounded, ServeAnswersLikeSession, ServeAnswersPrefixLikeSession, ServeEndsLikeSession, ServeHasAnsweredAtReads, AnswerIsDetermined, ConversationIsDetermined, DiagnosesAreDetermined, OutputIsDetermined, ReplyContentsAreDetermined, ResultIsDetermined, ResolutionIsDetermined};
 ghost use Rattle.ob0_world_determined.specs.ServeGuarantees.{ServeGuaranteesHoldForEveryExchange};
 
 use ob0_analysis::laws::reported_refusal_is_unique;
@@ -79,6 +79,12 @@ pub fn framing_exists()
     ensures { FramingExists }
 {}
 
+/// Proves that an unfinished message has fewer than 4,096 + 16,777,216 bytes, the greatest lengths of
+/// a head and a content. These are the bytes of its input that `serve` keeps between two reads.
+pub fn unfinished_message_is_bounded()
+    ensures { UnfinishedMessageIsBounded }
+{}
+
 /// Proves that `serve` answers as the session does. Suppose that the input of `serve` consists of
 /// the frames of the contents that a session took. Then the output consists of the frames of the
 /// contents that the session sent. The law excludes calls that return `Memory` or `Write`, and
@@ -119,12 +125,26 @@ pub fn serve_ends_like_session()
     written_frames_are_read();
 }
 
+/// Proves that `serve` has answered as the session does whenever no answer is owed, as at the
+/// beginning of each read. Suppose that the bytes given so far begin with the frames of the contents
+/// that a session took, each of at most `max_content_length` bytes. Then the bytes written begin
+/// with the frames of the contents that the session sent, and everything is flushed.
+pub fn serve_has_answered_at_reads()
+    ensures { ServeHasAnsweredAtReads }
+{
+    conversation_is_determined();
+    feeding_result_is_unique();
+    empty_feed_completes_nothing();
+    written_frames_are_read();
+}
+
 /// Proves the guarantees of `serve` for every editor that keeps ob0's rules. Each exchange of the
 /// editor with a session has the guarantees of `GuaranteesHoldForExchange`. Suppose that the input
 /// of `serve` consists of the frames of the contents that the session took, each of at most
 /// `max_content_length` bytes. Then `serve` writes the frames of the contents that the session
 /// sent, unless `serve` returns `Memory` or `Write`. If `serve` returns `Memory` after it has
-/// answered exactly these contents, it has written the same frames.
+/// answered exactly these contents, it has written the same frames. Whenever a read of the input
+/// begins, the frames of all replies to the contents that were read are written and flushed.
 pub fn serve_guarantees_hold_for_every_exchange()
     ensures { ServeGuaranteesHoldForEveryExchange }
 {
@@ -132,5 +152,6 @@ pub fn serve_guarantees_hold_for_every_exchange()
     serve_answers_like_session();
     serve_answers_prefix_like_session();
     serve_ends_like_session();
+    serve_has_answered_at_reads();
     conversation_is_determined();
 }

@@ -19,13 +19,13 @@ end
 
 local warned = false
 
--- Whether the program is there; where it isn't, that is said once.
+-- Returns whether the program exists. If it doesn't, a message says so once.
 local function is_there(program)
   if vim.fn.executable(program) == 1 then
     return true
   end
   if not warned then
-    vim.notify("There is no program " .. program .. "; vim.g.ob0_program names another", vim.log.levels.WARN)
+    vim.notify("There is no program " .. program .. ": set vim.g.ob0_program to its path", vim.log.levels.WARN)
     warned = true
   end
   return false
@@ -34,7 +34,8 @@ end
 if vim.lsp.enable then -- Neovim 0.11 and later: by lsp/ob0.lua
   vim.api.nvim_create_autocmd("FileType", {
     pattern = "ob0",
-    callback = function()
+    callback = function(opened)
+      ob0.end_last_line(opened.buf)
       is_there(ob0.settings().cmd[1])
     end,
   })
@@ -66,6 +67,7 @@ end
 vim.api.nvim_create_autocmd("FileType", {
   pattern = "ob0",
   callback = function(opened)
+    ob0.end_last_line(opened.buf)
     attach(opened.buf)
   end,
 })

@@ -1,4 +1,4 @@
-" :make checks the file. `ob0 check` counts lines and columns from 0 and names no file; awk writes its lines as a compiler does.
+" :make checks the file. `ob0 check` counts lines and columns from 0 and doesn't print the file's name; awk writes its lines as a compiler does.
 if exists('current_compiler') | finish | endif
 let current_compiler = 'ob0'
 

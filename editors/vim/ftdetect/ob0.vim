@@ -1,6 +1,7 @@
-" Oberon-0. The endings .mod and .Mod belong to others too, so such a file is taken only if its first word is MODULE,
-" whatever follows: a slip there is for the server to tell. let g:ob0_mod = 0 leaves them alone. Vim's own rule for them uses setf, which keeps an earlier choice: hence setlocal.
-" A new file has no first word yet, so it is looked at when it is saved too.
+" Oberon-0. The endings .mod and .Mod belong to others too, so such a file is taken only if its first word is MODULE, in any
+" case, whatever follows: the server reports a slip there. (In Go's files a path follows `module`.) let g:ob0_mod = 0 leaves them
+" alone. Vim's own rule for them uses setf, which keeps an earlier choice: hence setlocal.
+" A new file has no first word yet, so it is examined when it is saved too.
 function! s:BeginsWithModule() abort
   let l:text = join(getline(1, 100), "\n")
   let l:at = 0
@@ -19,10 +20,13 @@ function! s:BeginsWithModule() abort
       let l:at += 2
     endif
   endwhile
-  return l:text[l:at :] =~# '^MODULE\w\@!'
+  return l:text[l:at :] =~# '^MODULE\w\@!' || l:text[l:at :] =~? '^MODULE\w\@!\%(\s\+\S*[./]\w\)\@!'
 endfunction
 
 augroup filetypedetect
   autocmd BufNewFile,BufRead *.ob0 setlocal filetype=ob0
-  autocmd BufNewFile,BufRead,BufWritePost *.mod,*.Mod if &filetype !=# 'ob0' && get(g:, 'ob0_mod', 1) && s:BeginsWithModule() | setlocal filetype=ob0 | endif
+  autocmd BufNewFile,BufRead,BufWritePost *.mod,*.Mod
+        \ if &filetype !=# 'ob0' && get(g:, 'ob0_mod', 1) && expand('<afile>:t') !=# 'go.mod' && s:BeginsWithModule() |
+        \   setlocal filetype=ob0 |
+        \ endif
 augroup END

@@ -30,7 +30,7 @@ endfunction
 function! s:Run(input) abort
   let l:program = get(g:, 'ob0_program', 'ob0')
   if !executable(l:program)
-    echohl ErrorMsg | echomsg 'There is no program ' . l:program . '; g:ob0_program names another' | echohl None
+    echohl ErrorMsg | echomsg 'There is no program ' . l:program . ': set g:ob0_program to its path' | echohl None
     return
   endif
   if expand('%') ==# ''

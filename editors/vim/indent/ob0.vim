@@ -1,5 +1,5 @@
 " Oberon-0: indents as the server's layout does. What decides is the text from the heading above (MODULE or PROCEDURE, first in
-" its line) to the line; the column of a PROCEDURE is taken for its level.
+" its line) to the line; the column of a PROCEDURE counts as its level.
 if exists('b:did_indent') | finish | endif
 let b:did_indent = 1
 

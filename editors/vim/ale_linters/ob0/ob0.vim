@@ -11,6 +11,11 @@ call ale#linter#Define('ob0', {
       \ 'project_root': {buffer -> expand('#' . buffer . ':p:h')},
       \ })
 
+" A fixer for ALE, which doesn't request formatting of a server: a script formats a copy by what the server answers.
+function! Ob0Fix(buffer) abort
+  return {'command': get(g:, 'ob0_format', 'ob0-format') . ' %t', 'read_temporary_file': 1}
+endfunction
+
 " ALE applies the edits of an answer to the text that is there when it comes. Here it forgets the rename and the code actions
 " that it waits for when a buffer of Oberon-0 changes or is closed, so that such an answer does nothing.
 function! s:Forget(buffer) abort
@@ -19,7 +24,74 @@ function! s:Forget(buffer) abort
     silent! call ale#codefix#ClearLSPData()
   endif
 endfunction
+" The words of docs/MESSAGES.md for what the server answers, which ALE doesn't show. NAME and LINE are those of the place in the
+" answer.
+let s:words = {
+      \ 'NoName': "no name here can be renamed: predeclared ones and the module's can't",
+      \ 'Predeclared': "a predeclared name can't be renamed",
+      \ 'BadName': "a name has letters and digits, a letter first, and isn't a reserved word",
+      \ 'Duplicate': "`NAME` is declared in line LINE already",
+      \ 'Captures': "with the new name, `NAME` in line LINE would refer to another declaration",
+      \ 'TooLong': "the text would have more than 1,048,576 bytes",
+      \ 'TooDeep': "the text would be nested more than 100 deep",
+      \ 'Shadowed': "it would write TRUE or FALSE, which the module declares as something else",
+      \ 'CommentInside': "there is a comment in the declaration that would be deleted",
+      \ 'ill-typed': "the module has an error: fix the first one that is marked",
+      \ }
+
+" The name at a column, in the server's units, of a line that is counted from 0.
+function! s:NameAt(line, column) abort
+  let l:text = getline(a:line + 1)
+  let [l:at, l:left] = [0, a:column]
+  for l:letter in split(l:text, '\zs')
+    if l:left <= 0 | break | endif
+    let l:left -= char2nr(l:letter) > 0xffff ? 2 : 1
+    let l:at += len(l:letter)
+  endfor
+  return matchstr(l:text, '^\w*', l:at)
+endfunction
+
+function! s:InWords(refusal) abort
+  let l:parts = matchlist(a:refusal, '^\(\a\+\) \(\d\+\):\(\d\+\)-')
+  if empty(l:parts) | return get(s:words, a:refusal, a:refusal) | endif
+  let l:words = substitute(get(s:words, l:parts[1], a:refusal), '\CLINE', l:parts[2] + 1, '')
+  return substitute(l:words, '\CNAME', s:NameAt(l:parts[2], l:parts[3]), '')
+endfunction
+
+function! s:Echo(words) abort
+  echohl WarningMsg | echomsg 'ob0: ' . a:words | echohl None
+endfunction
+
+" Whether the user asked for a hover or a jump that finds nothing, in a module with an error. (ALE also asks by itself.)
+function! s:FindsNothing(response) abort
+  if !has_key(a:response, 'id') || get(a:response, 'result', 0) isnot v:null | return 0 | endif
+  let l:hover = get(ale#hover#GetMap(), a:response.id, {'truncated_echo': 1})
+  let l:is_asked = has_key(ale#definition#GetMap(), a:response.id)
+        \ || !get(l:hover, 'truncated_echo', 0) && !get(l:hover, 'hover_from_balloonexpr', 0)
+  return l:is_asked && !empty(filter(copy(ale#engine#GetLoclist(bufnr(''))), 'v:val.linter_name ==# "ob0"'))
+endfunction
+
+" Puts an answer into words, after ALE's own line.
+function! s:Tell(connection, response) abort
+  if type(get(a:response, 'error', 0)) is v:t_dict
+    let l:words = s:InWords(a:response.error.message)
+  elseif s:FindsNothing(a:response)
+    let l:words = s:words['ill-typed']
+  else
+    return
+  endif
+  call timer_start(0, {-> s:Echo(l:words)})
+endfunction
+
+function! s:Listen() abort
+  if &filetype ==# 'ob0'
+    let l:connection = ale#Var(bufnr(''), 'ob0_executable') . ':' . expand('%:p:h')
+    call ale#lsp#RegisterCallback(l:connection, function('s:Tell'))
+  endif
+endfunction
+
 augroup ob0_ale
   autocmd!
+  autocmd User ALELintPost call s:Listen()
   autocmd TextChanged,TextChangedI,TextChangedP,BufUnload * call s:Forget(str2nr(expand('<abuf>')))
 augroup END

@@ -9,4 +9,4 @@ returns-in-Run g c =
 
 pub returns-in-Rename : goal.returns-in-Rename
 returns-in-Rename g c =
-    subst (λ line. PerformsCommandOnFile g.O.Write.contents g.O.TrackedOutput.is_flushed g.O.TrackedOutput.has_failed c.args.out.now c.rename_text.new.out (PrintsOptionalLine g.E.Write.contents g.E.TrackedOutput.is_flushed g.E.TrackedOutput.has_failed c.args.err.now c.rename_text.new.err) c.args.file.now g.R.Read.remaining g.R.TrackedInput.has_failed c.args.input.now c.args.input.now line c.rename_text.result) (sym c.in-Rename.is) (c.rename_text.ensures, refl)
+    subst (λ line. PerformsCommandOnFile g.O.Write.contents g.O.TrackedOutput.is_flushed g.O.TrackedOutput.has_failed c.args.out.now c.rename_keeping_analysis.new.out (PrintsOptionalLine g.E.Write.contents g.E.TrackedOutput.is_flushed g.E.TrackedOutput.has_failed c.args.err.now c.rename_keeping_analysis.new.err) c.args.file.now g.R.Read.remaining g.R.TrackedInput.has_failed c.args.input.now c.args.input.now line c.rename_keeping_analysis.result) (sym c.in-Rename.is) (c.rename_keeping_analysis.ensures, refl)

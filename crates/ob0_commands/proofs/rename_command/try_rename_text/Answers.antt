@@ -17,9 +17,9 @@ pub returns-clause-ends : goal.returns-clause-ends
 returns-clause-ends g c =
     let here = rw c.in-Some.is at c.in_ok-text.ensures.found in
     let before = g.O.Write.contents c.args.out.now in
-    let after = c.rename_utf8_text.new.out in
-    let said = PrintsOptionalLine g.E.Write.contents g.E.TrackedOutput.is_flushed g.E.TrackedOutput.has_failed c.args.err.now c.rename_utf8_text.new.err in
-    IfOk-weaker c.rename_utf8_text.result _ _ (λ status h. record {
+    let after = c.rename_analysed_text-renamed.new.out in
+    let said = PrintsOptionalLine g.E.Write.contents g.E.TrackedOutput.is_flushed g.E.TrackedOutput.has_failed c.args.err.now c.rename_analysed_text-renamed.new.err in
+    IfOk-weaker c.rename_analysed_text-renamed.result _ _ (λ status h. record {
       status_at_most_one = h.status_at_most_one;
       good = λ zero. (
         subst (λ (t : List ℕ). PrintsRenamedText t c.args.position c.args.new.now before (g.O.Write.contents after)) here.0
@@ -33,4 +33,4 @@ returns-clause-ends g c =
         subst (λ out. IsFlushedOrUnchanged (g.O.TrackedOutput.is_flushed after) out after) here.1 (h.other one).1,
       );
       both = (c.in_ok-text.ensures.readable, h.both ∙ c.in_ok-text.ensures.unfailed);
-    }) c.rename_utf8_text.ensures.ends
+    }) c.rename_analysed_text-renamed.ensures.ends

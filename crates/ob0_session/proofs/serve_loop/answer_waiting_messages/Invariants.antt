@@ -7,8 +7,7 @@ invariant-loop-content g l =
     SoFarAnswered
     l.fn.framer l.framer
     l.fn.session l.session
-    (g.W.OutputDevice.contents l.fn.writer) (g.W.OutputDevice.contents l.writer)
-    (g.W.OutputDevice.has_failed l.writer)
+    (g.S.Stream.state l.fn.stream) (g.S.Stream.state l.stream)
 
 abbrev pub decreases-loop-content : goal.decreases-loop-content
 decreases-loop-content g l = length l.framer.waiting

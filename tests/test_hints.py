@@ -1,0 +1,57 @@
+"""The hints beside messages: each wrong module of inputs/slips.txt gets one that leads to its cure."""
+from __future__ import annotations
+
+import re
+from collections.abc import Iterator
+from typing import NamedTuple
+
+import ob0_hints
+import ob0_scripts
+from harness import Server, holds, need_program, same, test, text_of
+from hinted import first_error
+
+
+class Slip(NamedTuple):
+    """A wrong module: what was written, the text that the cure replaces and the new one, and what a hint has to say."""
+
+    name: str
+    old: str
+    new: str
+    says: str
+    text: str
+
+
+def slips() -> Iterator[Slip]:
+    """Yields the modules of inputs/slips.txt."""
+    parts = re.split(r"^== (.*)\n", text_of("tests", "inputs", "slips.txt"), flags=re.M)[1:]
+    for name, part in zip(parts[::2], parts[1::2]):
+        cure, says, text = part.split("\n", 2)
+        old, new = cure[len("cure: ") :].replace("⏎", "\n").split(" =>", 1)
+        yield Slip(name, old, new[1:], says[len("says: ") :], text.rstrip("\n") + "\n")
+
+
+@test("hints: each of the beginners' modules gets a hint that leads to its cure, and the cure leaves no error there or before")
+def lead_to_cures() -> None:
+    need_program()
+    count = 0
+    with Server() as server:
+        for it in slips():
+            found = first_error(server, it.text)
+            holds(found and it.old in it.text, f"{it.name} has no error, or no place for the cure")
+            assert found
+            count += found.message == "expected END"
+            cured = first_error(server, it.text.replace(it.old, it.new, 1))
+            holds(cured is None or cured.place > found.place, f"{it.name}: the cure leaves {cured}")
+            holds(re.search(it.says, found.hint) if it.says != "-" else not found.hint, f"{it.name}: {found}")
+    holds(count >= 25, f"{count} of them begin with `expected END`")
+
+
+@test("hints: tokens are found in any text, and a place without a token has a rule only for the end of the text")
+def any_text() -> None:
+    for text in ("", "(*", "*)", "(* (* *)", "MODULE", "\u00e4", "\r\r\n(*)", "x *) y"):
+        hints = ob0_hints.Hints(text.encode(), ob0_scripts.line_starts(text.encode()))
+        for message in (*ob0_hints.rules(), "another message"):
+            for offset in range(len(text.encode()) + 1):
+                holds("{" not in hints.hint(message, offset).replace("{ comment", ""), f"{message} in {text!r}")
+    hints = ob0_hints.Hints(b"MODULE M; BEGIN (* END *)", [0])
+    same(hints.hint("expected END", 25), "the module ends with `END`, its name and a full stop", "the end of a text")

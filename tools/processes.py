@@ -1,0 +1,73 @@
+"""The processes that a test has started, also those whose parents have ended: by these a test that is ended takes its editors with
+it."""
+from __future__ import annotations
+
+import ctypes
+import os
+import signal
+import time
+from contextlib import suppress
+from typing import Dict, List
+
+SET_CHILD_SUBREAPER = 36  # (of prctl, linux/prctl.h)
+SECONDS = 10  # how long processes are awaited that were ended
+
+
+def adopt_orphans() -> None:
+    """Has this process become the parent of each process below it whose own parent ends."""
+    ctypes.CDLL(None).prctl(SET_CHILD_SUBREAPER, 1, 0, 0, 0)
+
+
+def parents() -> Dict[int, int]:
+    """The parent of each process that runs."""
+    found = {}
+    for name in os.listdir("/proc"):
+        with suppress(OSError, ValueError):
+            with open(f"/proc/{int(name)}/stat", encoding="utf-8", errors="replace") as file:
+                state, parent = file.read().rpartition(")")[2].split()[:2]
+            if state not in "ZX":
+                found[int(name)] = int(parent)
+    return found
+
+
+def descendants(top: int) -> List[int]:
+    """The processes below a process."""
+    known, found = parents(), [top]
+    for above in found:
+        found += [it for it, parent in known.items() if parent == above]
+    return found[1:]
+
+
+def end_descendants(top: int) -> None:
+    """Ends the processes below a process, and waits until they have ended."""
+    end = time.monotonic() + SECONDS
+    while (left := descendants(top)) and time.monotonic() < end:
+        for it in left:
+            with suppress(OSError):
+                os.kill(it, signal.SIGKILL)
+        time.sleep(0.01)
+
+
+def interrupt(top: int) -> None:
+    """Ends the processes below a process: its children by the signal of Ctrl-C, so that they put back what they moved, and everything
+    below these by force, so that no child waits for it."""
+    children = [it for it, parent in parents().items() if parent == top]
+    for it in children:
+        with suppress(OSError):
+            os.kill(it, signal.SIGINT)
+    end = time.monotonic() + SECONDS
+    while set(left := descendants(top)) & set(children) and time.monotonic() < end:
+        for it in (it for it in left if it not in children):
+            with suppress(OSError):
+                os.kill(it, signal.SIGKILL)
+        time.sleep(0.05)
+    end_descendants(top)
+
+
+def end_tree(top: int) -> None:
+    """Ends a process that has adopted its orphans, and everything below it. (It is stopped first, so that it starts nothing more.)"""
+    with suppress(OSError):
+        os.kill(top, signal.SIGSTOP)
+    end_descendants(top)
+    with suppress(OSError):
+        os.kill(top, signal.SIGKILL)

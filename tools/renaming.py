@@ -1,0 +1,98 @@
+"""Carries rows of tools/mutants.txt over a change of names.
+
+A row of a commit is kept if what it stands on there (tools/sums.py) has the same words now, except that names were exchanged for
+others: each for one other, the same in everything that any row stands on. So no row is kept if a name became two or two became one,
+and none in which anything else changed."""
+from __future__ import annotations
+
+import contextlib
+import os
+import re
+import subprocess
+import tarfile
+import tempfile
+from collections.abc import Iterator
+from typing import Any, Dict, List, Optional, Set, Tuple
+
+import common
+import definitions
+import sums
+import verdicts
+
+NAME = re.compile(r"[^\W\d][\w']*$")
+Pairs = Set[Tuple[str, str]]  # old names with the new ones
+
+
+@contextlib.contextmanager
+def sources_of(commit: str) -> Iterator[str]:
+    """A folder with a commit's files, which the scripts read in place of the repository."""
+    own = {name: value for name, value in os.environ.items() if not name.startswith("GIT_")}
+    words = ["git", "-c", f"safe.directory={common.TOP}", "-C", common.TOP, "archive", commit]
+    top, crates = common.TOP, definitions.CRATES
+    with tempfile.TemporaryDirectory() as folder:
+        how: Dict[str, Any] = {"stdin": subprocess.DEVNULL, "stdout": subprocess.PIPE, "env": own}
+        with subprocess.Popen(words, **how) as ran:
+            assert ran.stdout
+            with tarfile.open(fileobj=ran.stdout, mode="r|") as files:
+                files.extractall(folder)
+            ran.stdout.read()
+        if ran.returncode:
+            common.stop(f"git gives no commit {commit}")
+        common.TOP, definitions.CRATES = folder, os.path.join(folder, "crates")
+        try:
+            yield folder
+        finally:
+            common.TOP, definitions.CRATES = top, crates
+
+
+def pairs_of(old: List[sums.Part], new: List[sums.Part]) -> Optional[Pairs]:
+    """The names that stand at the same places; None if anything else differs."""
+    found: Pairs = set()
+    if [len(words) for _, words in old] != [len(words) for _, words in new]:
+        return None
+    for (old_path, old_words), (new_path, new_words) in zip(old, new):
+        olds, news = [*re.split("::", old_path), *old_words], [*re.split("::", new_path), *new_words]
+        if len(olds) != len(news):
+            return None
+        for was, now in zip(olds, news):
+            if NAME.match(was) and NAME.match(now):
+                found.add((was, now))
+            elif was != now:
+                return None
+    return found
+
+
+def torn(pairs: Pairs) -> Pairs:
+    """The pairs that aren't one name for one."""
+    news: Dict[str, Set[str]] = {}
+    olds: Dict[str, Set[str]] = {}
+    for was, now in pairs:
+        news.setdefault(was, set()).add(now)
+        olds.setdefault(now, set()).add(was)
+    return {(was, now) for was, now in pairs if len(news[was]) > 1 or len(olds[now]) > 1}
+
+
+def renamed(verdict: str, names: Dict[str, str]) -> str:
+    """A verdict with the new names in its goal and function."""
+    return re.sub(r"[^\W\d]\w*", lambda it: names.get(it[0], it[0]), verdict) if " of " in verdict else verdict
+
+
+def keep_rows(commit: str, mutants: verdicts.Mutants) -> int:
+    """Keeps the rows of a commit in which nothing but names changed; returns 1 if a stale row remains."""
+    with sources_of(commit) as folder:
+        before = verdicts.Mutants(os.path.join(folder, "tools", "mutants.txt"))
+    both = [it for it in mutants.edits if it in before.edits]
+    found = {it: pairs for it in both for pairs in [pairs_of(before.words[it], mutants.words[it])] if pairs is not None}
+    whole = {it for pairs in found.values() for it in pairs}
+    broken = {it for it in torn(whole) if it[0] != it[1]}
+    kept = 0
+    for path, pairs in found.items():
+        if mutants.is_current(path) or not before.is_current(path) or pairs & broken:
+            continue
+        mutants.keep(path, mutants.sums[path], renamed(before.row(path).verdict, dict(pairs)))
+        kept += mutants.is_current(path)
+    mutants.write()
+    for was, now in sorted(broken):
+        print(f"{was} is {now}, and another name too: rows with it are not kept")
+    print(f"{kept} rows are kept, {len(mutants.stale)} are not of the present sources")
+    return 1 if mutants.stale else 0

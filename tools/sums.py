@@ -1,0 +1,220 @@
+"""What a row of tools/mutants.txt stands on, as words, and the sum over them.
+
+The words are those of each function that the mutant changes with its contract (a trait's method has it at the trait, a method of a
+type with a model the model too), those of the mutant, and those of the definitions that the contract names, with the definitions of
+the same crate that these name in turn. Comments and layout don't count, and local variables count by their order."""
+from __future__ import annotations
+
+import functools
+import hashlib
+import os
+import re
+from collections.abc import Iterable
+from typing import Dict, List, Optional, Tuple
+
+import common
+import definitions
+import reading
+from edits import Edit
+
+Part = Tuple[str, List[str]]  # what the words are of, and the words
+# The words of an edit: texts, characters, names and numbers, signs.
+EDIT_WORD = re.compile(r"\"(?:\\.|[^\"\\])*\"|'(?:\\.|[^'\\])'|\w+|[^\w\s]")
+DEFINITION_WORD = re.compile(r"\"[^\"]*\"|[\w']+|[^\w\s]")
+LOCAL = re.compile(r"[a-z_]\w*$")
+WORDS_OF_PATTERNS = frozenset({"mut", "ref", "move", "if", "true", "false", "_", "self"})
+GHOST_USE = re.compile(r"^\s*ghost (use .*?);", re.M)
+OPENING, CLOSING = frozenset("([{"), frozenset(")]}")
+
+
+class Definitions(definitions.Sources):
+    """The definitions of the crates, without the types of the code."""
+
+    def resolve(self, module: str, name: Optional[str]) -> Optional[definitions.Item]:
+        parts = module.split(".")
+        if "declared" in parts or not name or not parts[1].startswith("ob0_"):
+            return None
+        file, head = self.file_of(parts[1], parts[3:]), name.partition(".")[0]
+        if file and head not in file.named and head not in file.passed_on:
+            # (a definition inside a module of definitions)
+            inside = re.compile(rf"\s+(?:\w+ )*{re.escape(head)}(?:\s|$)")
+            block = next((it for it in file.blocks if any(map(inside.match, it.code))), None)
+            if not block:
+                return None
+            file.named[head] = block
+        return super().resolve(module, name)
+
+
+class Parts:
+    """The words on which rows stand."""
+
+    def __init__(self) -> None:
+        self.definitions = Definitions()
+        self.sources: Dict[str, reading.Source] = {}
+        self.uses: Dict[str, definitions.File] = {}
+
+    def source(self, crate: str) -> reading.Source:
+        if crate not in self.sources:
+            self.sources[crate] = reading.Source(crate)
+        return self.sources[crate]
+
+    def of(self, edit: Edit) -> List[Part]:
+        """The words on which the row of a form of a mutant stands."""
+        source, names = self.source(edit.crate), Names()
+        if edit.turned is None:
+            files = sorted({path for path, _ in edit.lines})
+            return [(it, source.all_words(it)) for it in files] + [names.of_edit(edit)]
+        turned = sorted(edit.turned, key=lambda it: it.path)
+        names.take(word for it in turned for word in binders(source.words_of(it)))
+        found = [(it.path, names.numbered(cut(self.words(source, it)))) for it in turned]
+        blocks = self.blocks(source, turned)
+        return found + [names.of_edit(edit)] + [(it.names[0], words_of_block(it)) for it in blocks]
+
+    def words(self, source: reading.Source, function: reading.Function) -> List[str]:
+        """The words of a function, of its contract and of the model of its type."""
+        found = [*source.head_of_block(function), *source.words_of(function), *source.model_of(function.owner)]
+        if function.trait and function.trait != function.owner:
+            for crate in reversed(common.below(function.crate)):
+                at_trait = self.at_trait(crate, function)
+                if at_trait:
+                    return found + self.source(crate).words_of(at_trait)
+        return found
+
+    def at_trait(self, crate: str, function: reading.Function) -> Optional[reading.Function]:
+        """A method at its trait, if a crate declares the trait."""
+        if function.trait not in self.source(crate).traits:
+            return None
+        named = (it for it in self.source(crate).functions if it.owner == function.trait and it.name == function.name)
+        return next(named, None)
+
+    def blocks(self, source: reading.Source, turned: Iterable[reading.Function]) -> List[definitions.Block]:
+        """The definitions that the contracts of functions name, and those of the same crate on which these stand."""
+        found: List[definitions.Block] = []
+        waiting = [block for it in turned for block in self.named_by(it.crate, it.file, self.words(source, it))]
+        while waiting:
+            block = waiting.pop()
+            if block in found or not block.names:
+                continue
+            found.append(block)
+            below = self.definitions.needs(block)
+            waiting += [it for it in below if isinstance(it, definitions.Block) and it.file.crate == block.file.crate]
+        return found
+
+    def named_by(self, crate: str, file: str, words: Iterable[str]) -> List[definitions.Block]:
+        """The definitions that words of a source name, by the file's `ghost use` lines."""
+        uses = self.uses_of(os.path.join(common.TOP, "crates", crate, file))
+        items = (self.definitions.look_up(uses, it) for it in dict.fromkeys(words))
+        return [it for it in items if isinstance(it, definitions.Block)]
+
+    def uses_of(self, path: str) -> definitions.File:
+        """What the `ghost use` lines of a source bring in."""
+        if path not in self.uses:
+            found = self.uses[path] = definitions.File.__new__(definitions.File)
+            found.uses, found.passed_on, found.named = {}, {}, {}
+            with open(path, encoding="utf-8") as file:
+                for line in GHOST_USE.findall(file.read()):
+                    found.take_use(line)
+        return self.uses[path]
+
+
+class Names:
+    """The local variables of functions, numbered as they come."""
+
+    def __init__(self) -> None:
+        self.locals: set[str] = set()
+        self.numbers: Dict[str, int] = {}
+
+    def take(self, names: Iterable[str]) -> None:
+        self.locals.update(names)
+
+    def numbered(self, words: List[str]) -> List[str]:
+        """Words with a number for each local variable. (A name after a dot or in a path, or before a bracket, is none.)"""
+        found = []
+        for at, word in enumerate(words):
+            before, after = words[at - 1] if at else "", words[at + 1] if at + 1 < len(words) else ""
+            is_local = word in self.locals and before not in (".", ":") and after != "("
+            if before == ":" and word in self.locals and words[at - 2 : at - 1] != [":"]:
+                is_local = after != "("
+            found.append(f"${self.numbers.setdefault(word, len(self.numbers))}" if is_local else word)
+        return found
+
+    def of_edit(self, edit: Edit) -> Part:
+        """The words of a form of a mutant."""
+        texts = [EDIT_WORD.findall(text) for _, *both in edit.replacements() for text in both]
+        self.take(name for it in texts for name in binders(it))
+        return "", [word for it in texts for word in [*self.numbered(it), ";"]]
+
+
+def cut(words: Iterable[str]) -> List[str]:
+    """Words of which a path of fields is several. (In a contract it is one.)"""
+    return [part for it in words for part in (it.replace(".", " . ").split() if re.match(r"[A-Za-z_]\w*\.", it) else [it])]
+
+
+@functools.lru_cache(maxsize=None)
+def words_of_block(block: definitions.Block) -> List[str]:
+    """The words of a definition, comments apart."""
+    return DEFINITION_WORD.findall("\n".join(re.sub(r"--.*$", "", it) for it in block.code))
+
+
+def sum_of(parts: List[Part]) -> str:
+    """A sum over words."""
+    return hashlib.sha256(repr(parts).encode()).hexdigest()[:16]
+
+
+# ---- the names that words bind
+
+
+def binders(words: List[str]) -> List[str]:
+    """The local variables that words of code declare: parameters, and names in the patterns of `let`, `for`, arms and closures."""
+    found: List[str] = []
+    for at, word in enumerate(words):
+        if word == "fn":
+            found += names_of_parameters(words, at)
+        elif word in ("let", "for"):
+            ends = next((it for it in range(at, len(words)) if words[it] in ("=", ";", "in")), at)
+            found += names_in_pattern(words[at + 1 : ends])
+        elif word == "=" and words[at + 1 : at + 2] == [">"]:
+            found += names_in_pattern(pattern_before(words, at))
+        elif word == "|" and at and words[at - 1] in ("(", ",", "=", "move"):
+            ends = next((it for it in range(at + 1, len(words)) if words[it] == "|"), at)
+            found += names_in_pattern(words[at + 1 : ends])
+    return found
+
+
+def names_of_parameters(words: List[str], at: int) -> List[str]:
+    """The parameters of the function whose `fn` is at a place."""
+    opens = next((it for it in range(at, len(words)) if words[it] == "("), len(words))
+    depth, found = 0, []
+    for place in range(opens, len(words) - 2):
+        depth += (words[place] in OPENING) - (words[place] in CLOSING)
+        if not depth:
+            break
+        is_name = depth == 1 and words[place + 1] == ":" and words[place + 2] != ":" and words[place - 1] != ":"
+        found += [words[place]] * (is_name and bool(LOCAL.match(words[place])))
+    return found
+
+
+def pattern_before(words: List[str], at: int) -> List[str]:
+    """The pattern of the arm whose arrow is at a place, without its guard."""
+    depth, first = 0, at
+    while first:
+        word = words[first - 1]
+        if word == "}" and not depth and words[first] not in ("=", "|", "if"):
+            break
+        depth += (word in CLOSING) - (word in OPENING)
+        if depth < 0 or word == "," and not depth:
+            break
+        first -= 1
+    pattern = words[first:at]
+    return pattern[: pattern.index("if")] if "if" in pattern else pattern
+
+
+def names_in_pattern(words: List[str]) -> List[str]:
+    """The names that a pattern binds."""
+    found = []
+    for at, word in enumerate(words):
+        before, after = words[at - 1] if at else "", words[at + 1] if at + 1 < len(words) else ""
+        is_path = before == ":" and words[at - 2 : at - 1] == [":"] or before in (".", "'")
+        if LOCAL.match(word) and word not in WORDS_OF_PATTERNS and not is_path and after not in ("(", "{", ":"):
+            found.append(word)
+    return found
