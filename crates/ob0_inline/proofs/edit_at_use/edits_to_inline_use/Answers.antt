@@ -20,9 +20,9 @@ replacement_edits-requires-clause-names g c =
     let u = c.args.found in
     subst (λ (s : TextWithTokens). AreIdentifierIndexes s.tokens 0 (u.token ∷ [])) (sym c.tokens.ensures) (are_names c.args.names.now c.module-read.ensures.resolved u c.requires.is_use)
 
-pub is_edited_text_nested_too_deeply-requires-clause-shallow : goal.is_edited_text_nested_too_deeply-requires-clause-shallow
-is_edited_text_nested_too_deeply-requires-clause-shallow g c =
-    subst (λ (p : ParsedModule). nesting (tree_of p) ≤ max_nesting) (sym c.module-read.ensures.value) (module_shallow c.args.names.now.module_read c.module-read.ensures.resolved.parsed)
+pub is_edited_text_nested_too_deeply-requires : goal.is_edited_text_nested_too_deeply-requires
+is_edited_text_nested_too_deeply-requires g c =
+    record { shallow = subst (λ (p : ParsedModule). nesting (tree_of p) ≤ max_nesting) (sym c.module-read.ensures.value) (module_shallow c.args.names.now.module_read c.module-read.ensures.resolved.parsed) }
 
 pub returns-then-branch-clause-too_deep : goal.returns-then-branch-clause-too_deep
 returns-then-branch-clause-too_deep g c = λ alone _.

@@ -27,9 +27,9 @@ removal_and_replacement_edits-requires-clause-names g c =
     (subst (AreIdentifierIndexes c.args.names.now.module_read.source.tokens (suc c.args.constant.last)) (sym uses)
     (are_uses c.args.names.now c.module-read.ensures.resolved c.args.constant c.requires.is_constant))
 
-pub is_edited_text_nested_too_deeply-requires-clause-shallow : goal.is_edited_text_nested_too_deeply-requires-clause-shallow
-is_edited_text_nested_too_deeply-requires-clause-shallow g c =
-    subst (λ (p : ParsedModule). nesting (tree_of p) ≤ max_nesting) (sym c.module-read.ensures.value) (module_shallow c.args.names.now.module_read c.module-read.ensures.resolved.parsed)
+pub is_edited_text_nested_too_deeply-requires : goal.is_edited_text_nested_too_deeply-requires
+is_edited_text_nested_too_deeply-requires g c =
+    record { shallow = subst (λ (p : ParsedModule). nesting (tree_of p) ≤ max_nesting) (sym c.module-read.ensures.value) (module_shallow c.args.names.now.module_read c.module-read.ensures.resolved.parsed) }
 
 pub returns-then-branch-clause-too_deep : goal.returns-then-branch-clause-too_deep
 returns-then-branch-clause-too_deep g c = λ alone _.
