@@ -1,9 +1,10 @@
--- Proves that the inlined module is nested at most one level deeper than the module.
--- So the new text is parsed only if the module is nested as deep as a module may be. Removing a
+-- Proves that the inlined module is deeper than the module by at most the nesting of the value's
+-- factor: at most one level, and none if the value is written without parentheses. Removing a
 -- declaration makes no tree deeper.
-use Rattle.std.proofs.Common.{◌≡◌, ℕ, suc, ◌+◌, ◌≤◌, ◌==◌, Bool, true, false, length, if◌then◌else◌, nat_lt, arith}
+use Rattle.std.proofs.Common.{◌≡◌, ℕ, suc, ◌+◌, ◌≤◌, ◌==◌, Bool, true, false, length, if◌then◌else◌, nat_lt, refl, arith}
 use Rattle.std.specs.Prelude.{negsuc}
-use Rattle.ob0_tree.specs.ParsedModule.{ParsedModule, named_tree_of, tree_of}
+use Rattle.ob0_tree.specs.ParsedModule.{ParsedModule, TreeMatchesText, named_tree_of, tree_of}
+use Rattle.ob0_tree.specs.Module.{max_nesting}
 use Rattle.ob0_tree.specs.TokenIndexLeaves as leaf
 use Rattle.ob0_tree.specs.Tree.{Sort, Tree, block, constant, constants, factor, item, items, maybe, module_text, nesting, occurrences, procedure, adds, array_type, assigns, begins, branches, calls, compares, declares, declares_constant, declares_const_section, declares_procedure, declares_type, declares_type_section, declares_variable, declares_var_section, designator, else_branch, elsif_branch, end, forms_block, index, forms_module, more, multiplies, negation, none, one, parenthesised, product, record_type, relates, repeat_loop, runs, some_arguments, some_fields, some_formals, sum, comma_then_argument, semicolon_then_fields, semicolon_then_section, semicolon_then_statement, value_section, variable_section, while_loop}
 use Rattle.ob0_tree.proofs.Mapped.{nesting_mapped}
@@ -21,7 +22,7 @@ either_shallow : (b : Bool) (v w : Tree Name factor) → nesting v ≤ 1 → nes
 either_shallow true v w h g = h
 either_shallow false v w h g = g
 
-value_shallow : (value : Scalar) → nesting (value_factor value) ≤ 1
+pub value_shallow : (value : Scalar) → nesting (value_factor value) ≤ 1
 value_shallow (scalar.Number (negsuc n)) = either_shallow (nat_lt n 2147483647) _ _ (omega arith) (omega arith)
 value_shallow _ = omega arith
 
@@ -77,12 +78,25 @@ module _ (uses : OccurrenceSet) (v : Tree Name factor) where
   inlined_low k (forms_module x t y) = omega (arith, inlined_low k t)
   inlined_low k _ = omega arith
 
-pub inlined_shallow : (m : ParsedModule) (uses : OccurrenceSet) (value : Scalar) → nesting (inlined (named_tree_of m) uses (value_factor value)) ≤ nesting (tree_of m) + 1
+pub inlined_shallow : (m : ParsedModule) (uses : OccurrenceSet) (value : Scalar) → nesting (inlined (named_tree_of m) uses (value_factor value)) ≤ nesting (tree_of m) + nesting (value_factor value)
 inlined_shallow m uses value =
     let deeper = inlined_low uses (value_factor value) 0 (named_tree_of m) in
     let same : nesting (named_tree_of m) ≡ nesting (tree_of m) = nesting_mapped (leaf.token_text_at m.source) (leaf.token_value_at m.source) (tree_of m) in
-    let low = value_shallow value in
-    omega (arith, deeper, same, low)
+    omega (arith, deeper, same)
+
+-- A module is nested at most as deep as a module may be, also with its tokens as names.
+pub module_shallow : (m : ParsedModule) → TreeMatchesText m → nesting (tree_of m) ≤ max_nesting
+module_shallow m parsed =
+    let same : nesting (named_tree_of m) ≡ nesting (tree_of m) = nesting_mapped (leaf.token_text_at m.source) (leaf.token_value_at m.source) (tree_of m) in
+    omega (arith, same, parsed.module_of.shallow)
+
+-- The nesting of a value's factor is 0 exactly if the value isn't a negative number.
+is_zero : (b : Bool) (v w : Tree Name factor) → (nesting v == 0) ≡ false → (nesting w == 0) ≡ false → (nesting (if b then v else w) == 0) ≡ false
+is_zero true v w h g = h
+is_zero false v w h g = g
+
+pub negative_is_nested : (n : ℕ) → (nesting (value_factor (scalar.Number (negsuc n))) == 0) ≡ false
+negative_is_nested n = is_zero (nat_lt n 2147483647) _ _ refl refl
 
 -- Removing a declaration makes no tree deeper.
 constants_low : (d k : ℕ) (cs : Tree Name (items constant)) → nesting (constant_list_without_constant d k cs) ≤ nesting cs
@@ -117,7 +131,7 @@ mutual
 module_low : (d : ℕ) (m : Tree Name module_text) → nesting (module_without_constant d m) ≤ nesting m
 module_low d (forms_module x b closing) = block_low d 7 b
 
-pub everywhere_shallow : (m : ParsedModule) (c : DeclaredConstant) → nesting (tree_inlined_everywhere m c) ≤ nesting (tree_of m) + 1
+pub everywhere_shallow : (m : ParsedModule) (c : DeclaredConstant) → nesting (tree_inlined_everywhere m c) ≤ nesting (tree_of m) + nesting (value_factor c.value)
 everywhere_shallow m c =
     let uses = occurrences_bound_to_ordinal (named_tree_of m) c.ordinal in
     let less = module_low c.ordinal (inlined (named_tree_of m) uses (value_factor c.value)) in

@@ -55,7 +55,7 @@ pub(crate) fn edits_to_inline_use<T: TextStore>(
     let read = names.module();
     let text = value_text(alloc, found.value)?;
     let edits = replacement_edits(alloc, store, names.tokens(), &[found.token], &text)?;
-    if is_edited_text_nested_too_deeply(alloc, store, read, &edits)? {
+    if is_edited_text_nested_too_deeply(alloc, store, read, found.value, &edits)? {
         return Err(EditRefusal::TooDeep);
     }
     Ok(edits)

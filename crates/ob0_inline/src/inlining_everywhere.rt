@@ -132,7 +132,7 @@ fn edits_to_inline_everywhere<T: TextStore>(
         &uses,
         &text,
     )?;
-    if is_edited_text_nested_too_deeply(alloc, store, read, &edits)? {
+    if is_edited_text_nested_too_deeply(alloc, store, read, constant.value, &edits)? {
         return Err(EditRefusal::TooDeep);
     }
     Ok(edits)

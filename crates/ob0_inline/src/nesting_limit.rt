@@ -1,6 +1,7 @@
-//! Checks whether an edited text is nested deeper than a module may be.
+//! Checks whether an edited text is nested deeper than a module may be. Only a value that is written
+//! with parentheses can add a level of nesting: without them no tree is walked and no text is parsed.
 
-ghost use Rattle.std.specs.Prelude.{◌≡◌, ◌≤◌, ◌+◌, List, IfOk, IfErr, map, nat_le, nat_lt, ℕ};
+ghost use Rattle.std.specs.Prelude.{◌≡◌, ◌==◌, ◌≤◌, ◌+◌, List, IfOk, IfErr, map, nat_le, nat_lt, ℕ};
 ghost use Rattle.ob0_edits_tokens.specs.Replacements.{EditedTextHasWords};
 ghost use Rattle.ob0_edits_tokens.specs.WordTerminals.{terminal_of_word};
 ghost use Rattle.ob0_scan.specs.TextWithTokens.{IsScan, TextWithTokens, Word};
@@ -8,7 +9,9 @@ ghost use Rattle.ob0_text.specs.declared.refusals.EditRefusal.TheVariants.{Memor
 ghost use Rattle.ob0_tree.specs.Module.{max_nesting, terminals_of_text};
 ghost use Rattle.ob0_tree.specs.ParsedModule.{tree_of};
 ghost use Rattle.ob0_tree.specs.Tree.{Tree, module_text, nesting, spell};
+ghost use Rattle.ob0_inline.specs.Values.{value_factor};
 
+use ob0_language_values::Scalar;
 use ob0_parse::parse;
 use ob0_parse_descent::ParseRefusal;
 use ob0_scan::{ScanRefusal, Tokens, scan};
@@ -17,25 +20,43 @@ use ob0_tree::{MAX_NESTING, Module};
 use std::alloc::Global;
 
 /// Returns whether the text that results from the edits is nested deeper than a module may be.
-/// `read` is the module before the edits. The contract assumes that the edits add at most one level
-/// of nesting. So if `read` has fewer than `MAX_NESTING` levels, the result is false. Otherwise the
-/// function parses the edited text.
+/// `read` is the module before the edits, and `value` the value that they write. The contract
+/// assumes that the edits add at most the nesting of the value's factor. So if the value is written
+/// without parentheses, or `read` has fewer than `MAX_NESTING` levels, the result is false.
+/// Otherwise the function parses the edited text.
 pub(crate) fn is_edited_text_nested_too_deeply<T: TextStore>(
     alloc: Global,
     store: &T,
     read: &Module,
+    value: Scalar,
     edits: &[Edit],
 ) -> Result<bool, EditRefusal>
+    requires shallow { nesting (tree_of read.now) ≤ max_nesting }
     ensures deep { (ws : List Word) (t : Tree (List ℕ) module_text)
         → EditedTextHasWords (T.unit_of store.now) (T.content store.now) edits.now ws
-        → map terminal_of_word ws ≡ spell t → nesting t ≤ nesting (tree_of read.now) + 1
+        → map terminal_of_word ws ≡ spell t
+        → nesting t ≤ nesting (tree_of read.now) + nesting (value_factor value)
         → IfOk result (λ deep. deep ≡ nat_lt max_nesting (nesting t)) }
     ensures memory { IfErr result (λ refusal. refusal ≡ Memory) }
 {
+    if is_written_without_parentheses(value) {
+        return Ok(false);
+    }
     if read.nesting() < MAX_NESTING {
         return Ok(false);
     }
     is_reparsed_text_nested_too_deeply(alloc, store, edits)
+}
+
+/// Returns whether an inlining writes the value without parentheses: all values except negative
+/// numbers.
+fn is_written_without_parentheses(value: Scalar) -> bool
+    ensures { result ≡ (nesting (value_factor value) == 0) }
+{
+    match value {
+        Scalar::Number(number) => number >= 0,
+        Scalar::Truth(_) => true,
+    }
 }
 
 /// Returns whether the text that results from the edits is nested deeper than a module may be. The
