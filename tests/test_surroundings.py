@@ -125,7 +125,6 @@ def first_tests() -> None:
         passed, others = run_there(at, own, "--first")
         same(passed + others, len(harness.TESTS), "the tests that ran, were left out or wait for a program")
         same(history(data), before, "the bystander's history")
-        same(os.listdir(own["TMPDIR"]), [], "what is left in the folder for temporary files")
 
 
 @test("surroundings: in an archive of the sources the tests of releases, pages and examples pass")
@@ -135,9 +134,13 @@ def archive() -> None:
     with temporary() as room:
         at = unpacked(os.path.join(room, "ob0"))
         own = {key: value for key, value in os.environ.items() if key not in ("OB0", "OB0_WHOLE")}
+        own["TMPDIR"] = os.path.join(room, "tmp")
+        os.chmod(room, 0o711)
+        os.mkdir(own["TMPDIR"])
         words = ["release: e", "release: without git", "sources: each search", "pictures: the plots", "shell: the links"]
         passed, _ = run_there(at, own, *words, "exercises: there are twelve", "examples: there are")
         holds(passed >= len(words) + 2, f"{passed} passed")
+        same(os.listdir(own["TMPDIR"]), [], "what is left in the folder for temporary files")
 
 
 @test("surroundings: a folder in which tests would fail isn't used for temporary files, and the reason is printed")

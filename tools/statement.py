@@ -8,7 +8,7 @@ needs. Each definition is on one of the two pages once, with its comment.
 
 Their prose is tools/statement.in. A line `<!-- definitions CRATE/FILE: NAME .. -->` is replaced by these definitions, `{law CRATE/FILE
 NAME}` by a contract, `<!-- part NAME -->` by the definitions of a part of the second page, and `<!-- sizes -->`, `<!-- elsewhere -->`, `<!--
-names NAME -->` by tables; `{size}` and `{first}` are times. Its last tables say in words what the first page names and doesn't unfold
+names NAME -->` by tables; `{size}` is a part's size, and `{first}` a time. Its last tables say in words what the first page names and doesn't unfold
 (`believed`), and what neither page unfolds (`closed`)."""
 from __future__ import annotations
 
@@ -47,7 +47,7 @@ KINDS = ("exchange", "texts", "wire", "language", "edits", "steps")
 # (the sections of docs/LANGUAGE.md by which the language is ordered)
 SECTIONS = ["Runs", "Types", "Scopes", "Nesting and limits", "Grammar", "Lexemes"]
 # (how many words and lines of definitions are read in a minute, and how many of these by who is used to the notation)
-WORDS_A_MINUTE, LINES_A_MINUTE, LINES_ONCE_USED = 200, 6, 10
+WORDS_A_MINUTE, LINES_A_MINUTE = 200, 6
 # (how many minutes the first page may take)
 FIRST_TAKES = 40
 # (how long a line of code may be)
@@ -510,38 +510,36 @@ class Page:
 
     # ---- sizes
 
-    def size(self, part: Part, on_first: bool) -> Size:
-        """How many words and how many lines of definitions and contracts are to be read in a section."""
+    def size(self, part: Part) -> Size:
+        """How many words and how many lines of definitions and contracts are to be read in a section of the first page."""
         lines = self.counts(self.items_of(part))[1]
         lines += sum(read_of(["```", *contract(*key)])[1] for key in self.template.contracts([part]))
         # (any time has as many words)
-        text = [re.sub(r"\{(?:size|first)\}", "0 definitions, 0 lines: 0 minutes", line) for line in self.lines(part, on_first) if "<!-- sizes -->" not in line]
-        return read_of(text)[0], lines
+        return read_of(line.replace("{first}", "at most 0 minutes") for line in self.lines(part, True))[0], lines
 
     def first_size(self) -> Size:
         """How much is read before the notation: what is stated, and what isn't."""
         titles = [part.title for part in self.template.first]
-        return summed(self.size(part, True) for part in self.template.first[: titles.index(NOTATION)])
+        return summed(self.size(part) for part in self.template.first[: titles.index(NOTATION)])
 
     def size_words(self, part: Part) -> str:
         many, lines = self.counts(self.items_of(part))
-        return f"{many} definitions, {lines:,} lines: {time_of(self.size(part, False))}"
+        return f"{many} definitions, {lines:,} lines"
 
     def table(self) -> list[str]:
         """The parts with their sizes, and what some of them are together."""
-        rows = [f"| Part | Definitions | Lines | Words | Minutes | At {LINES_ONCE_USED} lines |", "|---|---|---|---|---|---|"]
+        rows = ["| Part | Definitions | Lines |", "|---|---|---|"]
         named = [part for part in self.template.second if self.template.kind(part)]
 
-        def row(name: str, parts: Sequence[tuple[Part, bool]]) -> None:
-            many, lines = summed(self.counts(self.items_of(part)) for part, _ in parts)
-            size = summed(self.size(part, on_first) for part, on_first in parts)
-            rows.append(f"| {name} | {many} | {lines:,} | {size[0]:,} | {minutes(size):,} | {minutes(size, LINES_ONCE_USED):,} |")
+        def row(name: str, parts: Sequence[Part]) -> None:
+            many, lines = summed(self.counts(self.items_of(part)) for part in parts)
+            rows.append(f"| {name} | {many} | {lines:,} |")
 
-        so_far = [(part, True) for part in self.template.first]
+        so_far = [*self.template.first]
         row("**docs/STATEMENT.md**", so_far)
         for part in named:
-            row(f"[{part.title}](#{slug(part.title)})", [(part, False)])
-            so_far.append((part, False))
+            row(f"[{part.title}](#{slug(part.title)})", [part])
+            so_far.append(part)
             if self.template.kind(part) in SUMS:
                 row(f"**{SUMS[self.template.kind(part)]}**", so_far)
         return rows
@@ -630,14 +628,9 @@ def summed(sizes: Iterable[Size]) -> Size:
     return sum(first for first, _ in all_sizes), sum(second for _, second in all_sizes)
 
 
-def minutes(size: Size, lines_a_minute: int = LINES_A_MINUTE) -> int:
+def minutes(size: Size) -> int:
     """How long it takes to read this many words and lines."""
-    return math.ceil(size[0] / WORDS_A_MINUTE + size[1] / lines_a_minute)
-
-
-def time_of(size: Size) -> str:
-    """The same in words, never less."""
-    return f"{minutes(size)} minutes" if minutes(size) < 180 else f"{math.ceil(minutes(size) / 30) / 2:g} hours"
+    return math.ceil(size[0] / WORDS_A_MINUTE + size[1] / LINES_A_MINUTE)
 
 
 def listed(items: Iterable[str]) -> list[str]:
