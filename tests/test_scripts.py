@@ -213,7 +213,7 @@ def traced() -> None:
 
 @test("scripts: ob0-trace says so if the second run prints or ends otherwise than `ob0 run`, with a status of its own")
 def traced_otherwise() -> None:
-    said = "m.mod: the second run ends with Done, or prints something else, unlike `ob0 run`: please report this\n"
+    said = "m.mod: the second run ends with Done or prints something else, unlike `ob0 run`: please report this\n"
     for line in ("printf ' 1 2'", "printf ' 1\\n'; echo 'fault: Index' >&2; exit 1"):
 
         def trial(work: str, own: dict[str, str], line: str = line) -> None:
