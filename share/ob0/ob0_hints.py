@@ -13,8 +13,8 @@ import os
 import re
 from typing import Dict, List, NamedTuple, Optional
 
-RESERVED = """ARRAY BEGIN CONST DIV DO ELSE ELSIF END IF MOD MODULE OF OR PROCEDURE RECORD REPEAT THEN TYPE UNTIL VAR
-WHILE""".split()
+from reference.scanner import WORDS as RESERVED
+
 TOKEN = re.compile(rb"\(\*|\*\)|[A-Za-z][A-Za-z0-9]*|[0-9][0-9A-Za-z]*|:=|<=|>=|[^\x00-\x7f]+|[^ \t\r\n]")
 FIELDS = ("at", "before", "before2", "next", "first", "last", "line", "inside")
 
