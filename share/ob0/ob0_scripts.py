@@ -15,7 +15,7 @@ import stat
 import subprocess
 import sys
 import tempfile
-from typing import IO, Any, Callable, Dict, Iterator, List, NamedTuple, NoReturn, Optional, TextIO, Tuple, Union
+from typing import Any, Callable, Dict, Iterator, List, NamedTuple, NoReturn, Optional, TextIO, Tuple, Union
 
 VERSION = "0.1.0"
 LONGEST = 1 << 20  # the bytes that a module may have
@@ -58,6 +58,8 @@ class Server:
 
     def __init__(self) -> None:
         self.process = subprocess.Popen([program(), "serve"], stdin=subprocess.PIPE, stdout=subprocess.PIPE)
+        assert self.process.stdin and self.process.stdout
+        self.given, self.answers = self.process.stdin, self.process.stdout
         self.numbers = itertools.count(1)
         try:
             found = self.request("initialize", {"capabilities": {"general": {"positionEncodings": ["utf-8"]}}})
@@ -68,26 +70,21 @@ class Server:
             self.end_at_once()
             raise
 
-    def pipe(self, found: Optional[IO[bytes]]) -> IO[bytes]:
-        assert found
-        return found
-
     def send(self, message: Dict[str, Any]) -> None:
         content = json.dumps({"jsonrpc": "2.0", **message}, ensure_ascii=False).encode()
-        given = self.pipe(self.process.stdin)
         try:
-            given.write(b"Content-Length: %d\r\n\r\n%s" % (len(content), content))
-            given.flush()
+            self.given.write(b"Content-Length: %d\r\n\r\n%s" % (len(content), content))
+            self.given.flush()
         except OSError:
             raise Failure("the server ended") from None
 
     def take(self) -> Dict[str, Any]:
         """Returns the next message that the server sends."""
-        answers, length = self.pipe(self.process.stdout), 0
-        for line in iter(lambda: answers.readline().strip(), b""):
+        length = 0
+        for line in iter(lambda: self.answers.readline().strip(), b""):
             name, _, value = line.partition(b":")
             length = int(value) if name.lower() == b"content-length" else length
-        content = answers.read(length)
+        content = self.answers.read(length)
         if not content:
             raise Failure("the server ended")
         found: Dict[str, Any] = json.loads(content)
@@ -132,7 +129,7 @@ class Server:
         """Ends the server by the protocol."""
         self.request("shutdown", None)
         self.notify("exit", None)
-        self.pipe(self.process.stdin).close()
+        self.given.close()
         self.process.wait()
 
     def end_at_once(self) -> None:

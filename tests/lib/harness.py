@@ -19,7 +19,7 @@ from collections.abc import Iterable, Sequence
 from typing import Any, Callable, IO, List, NoReturn, Tuple, TypeVar, Union
 
 TOP = os.path.dirname(os.path.dirname(os.path.dirname(os.path.abspath(__file__))))
-sys.path += [os.path.join(TOP, *it) for it in (["tests"], ["tests", "lib"], ["tests", "inputs"], ["share", "ob0"], ["tools"], ["bench"])]
+sys.path += [os.path.join(TOP, it) for it in ("tests", "tests/lib", "tests/inputs", "share/ob0", "tools", "bench")]
 
 import common  # noqa: E402
 import editors  # noqa: E402
