@@ -30,7 +30,7 @@ def slips() -> Iterator[Slip]:
         yield Slip(name, old, new[1:], says[len("says: ") :], text.rstrip("\n") + "\n")
 
 
-@test("hints: each of the beginners' modules gets a hint that leads to its cure, and the cure leaves no error there or before")
+@test("hints: each of the beginners' modules gets a hint for its cure, which leaves no error there or before")
 def lead_to_cures() -> None:
     need_program()
     count = 0

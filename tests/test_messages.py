@@ -172,7 +172,7 @@ def run_ends() -> None:
         holds(flags in page, f"{name} has no {flags}")
 
 
-@test("messages: each rule of the hints has a row on the page to which it gives its hint, and each row with `expected END` has a hint")
+@test("messages: each rule of the hints has a row that gets its hint, and each row with `expected END` has a hint")
 def rules_and_rows() -> None:
     need_program()
     modules = {"Statements": STATEMENTS, "Declarations": DECLARATIONS, "Whole texts": None}
@@ -188,7 +188,9 @@ def rules_and_rows() -> None:
                     given.append(found.rule)
                     holds(explained, f"no explanation of {snippet}")
     listed = {(it["see"], it["hint"]): it for rules in ob0_hints.rules().values() for it in rules}
-    same(sorted(it for it in listed if listed[it] not in given), [], "rules whose rows are missing or have another hint")
+    same(
+        sorted(it for it in listed if listed[it] not in given), [], "rules whose rows are missing or have another hint"
+    )
     same(len({it["see"] for it in listed.values()}), len(listed), "how many rows the rules have")
 
 

@@ -26,17 +26,21 @@ FORMAT = os.path.join(TOP, "share", "ob0-format")
 LAID_OUT = "MODULE M;\nVAR\n  x: INTEGER;\nBEGIN\n  x := 1\nEND M.\n"
 LOOSE = "MODULE  M;\nVAR x:INTEGER;\nBEGIN x:=1 END M.\n"
 FAULTY = "MODULE M;\nBEGIN\n  x := 1;\n  y := 2\nEND M.\n"
+MISSING = "nowhere.mod: No such file or directory"
+CHANGED = "another program has changed it in the meantime, so it was left unchanged"
 MODULES = {"good.mod": LAID_OUT, "loose.ob0": LOOSE, "two words.Mod": FAULTY}
 
 
 def in_folder(files: dict[str, str], function: Callable[[str, dict[str, str]], T]) -> T:
-    """Runs a function in a folder with these files: it gets the folder and an environment in which `ob0` and the scripts are commands."""
+    """Runs a function in a folder with these files: it gets the folder, and an environment in which `ob0` and the scripts
+    are commands."""
     need_program()
     with tempfile.TemporaryDirectory() as room:
         work = os.path.join(room, "work")
         for name, text in files.items():
             write(os.path.join(work, name), text)
-        for name, path in (("ob0", os.path.abspath(harness.BINARY)), *((it, os.path.join(TOP, "share", it)) for it in package.SCRIPTS)):
+        scripts = {it: os.path.join(TOP, "share", it) for it in package.SCRIPTS}
+        for name, path in {"ob0": os.path.abspath(harness.BINARY), **scripts}.items():
             os.makedirs(os.path.join(room, "bin"), exist_ok=True)
             os.symlink(path, os.path.join(room, "bin", name))
         kept = {key: value for key, value in os.environ.items() if key != "GITHUB_ACTIONS"}
@@ -88,7 +92,11 @@ def in_bytes() -> None:
 def format_forms() -> None:
     def trial(work: str, own: dict[str, str]) -> None:
         same(ran(["ob0-format", "-"], work, own, LOOSE), (0, LAID_OUT, ""), "standard input")
-        same(ran(["ob0-format", "-"], work, own, LAID_OUT.replace("\n", "\r\n")), (0, LAID_OUT.replace("\n", "\r\n"), ""), "with CR LF")
+        same(
+            ran(["ob0-format", "-"], work, own, LAID_OUT.replace("\n", "\r\n")),
+            (0, LAID_OUT.replace("\n", "\r\n"), ""),
+            "with CR LF",
+        )
         said = "- has errors, so it isn't formatted: `ob0-check` lists them\n"
         same(ran(["ob0-format", "-"], work, own, FAULTY), (1, "", said), "standard input with errors")
         same(ran(["ob0-format", "--check", "-"], work, own, LOOSE), (1, "-\n", ""), "standard input with --check")
@@ -109,16 +117,24 @@ def format_forms() -> None:
 
 
 NO_NAME = "there is no name here that can be renamed: predeclared names and the module's own can't (NoName)"
-RENAMED = "MODULE M;\nVAR x, y: INTEGER;\n  PROCEDURE P(z: INTEGER);\n  BEGIN (* \U0001f600 *) x := z + y\n  END P;\nBEGIN P(1)\nEND M.\n"
+BAD_NAME = "the new name isn't one: letters and digits, a letter first, and no reserved word (BadName)"
+RENAMED = """MODULE M;
+VAR x, y: INTEGER;
+  PROCEDURE P(z: INTEGER);
+  BEGIN (* \U0001f600 *) x := z + y
+  END P;
+BEGIN P(1)
+END M.
+"""
 
 
-@test("scripts: ob0-rename renames by a place counted from 1 in characters, prints or replaces, and says a refusal in words")
+@test("scripts: ob0-rename renames by a place counted from 1, prints or replaces, and says a refusal in words")
 def rename_script() -> None:
     refusals = {
         "m.mod:2:5 y": (1, "m.mod:2:5: `y` is declared in line 2 already (Duplicate)"),
         "m.mod:2:5 z": (1, "m.mod:2:5: with the new name, `x` in line 4 would refer to another declaration (Captures)"),
-        "m.mod:2:5 END": (1, "m.mod:2:5: the new name isn't one: letters and digits, a letter first, and no reserved word (BadName)"),
-        "m.mod:2:5 \u00e4": (1, "m.mod:2:5: the new name isn't one: letters and digits, a letter first, and no reserved word (BadName)"),
+        "m.mod:2:5 END": (1, f"m.mod:2:5: {BAD_NAME}"),
+        "m.mod:2:5 \u00e4": (1, f"m.mod:2:5: {BAD_NAME}"),
         "m.mod:2:11 N": (1, "m.mod:2:11: a predeclared name can't be renamed (Predeclared)"),
         "m.mod:1:8 N": (1, f"m.mod:1:8: {NO_NAME}"),
         "m.mod:99:8 N": (1, f"m.mod:99:8: {NO_NAME}"),
@@ -126,8 +142,13 @@ def rename_script() -> None:
         "bad.mod:2:5 N": (1, "bad.mod: it has errors, so nothing is renamed: `ob0-check` lists them"),
         "nowhere:1:1 N": (4, "nowhere: No such file or directory"),
     }
-    defined = re.findall(r"^\| `(\w+)", text_of("docs", "PROTOCOL.md").partition("## Refusals of edits")[2].partition("\n## ")[0], re.M)
-    holds({*re.findall(r'^    "(\w+)": "', text_of("share", "ob0-rename"), re.M)} < {*defined}, "the script has other refusals")
+    defined = re.findall(
+        r"^\| `(\w+)", text_of("docs", "PROTOCOL.md").partition("## Refusals of edits")[2].partition("\n## ")[0], re.M
+    )
+    holds(
+        {*re.findall(r'^    "(\w+)": "', text_of("share", "ob0-rename"), re.M)} < {*defined},
+        "the script has other refusals",
+    )
 
     def trial(work: str, own: dict[str, str]) -> None:
         new = RENAMED.replace("x", "new")
@@ -144,7 +165,11 @@ def rename_script() -> None:
         same((text_of(work, "m.mod"), os.stat(os.path.join(work, "m.mod")).st_mode & 0o777), (new, 0o640), "the file")
         same(ran(["ob0-rename", "-i", "a:b\udcff.mod:2:5", "new"], work, own), (0, "", ""), "an odd name")
         os.chmod(os.path.join(work, "m.mod"), 0o440)
-        same(ran(["ob0-rename", "-i", "m.mod:2:5", "n"], work, own), (4, "", "m.mod: it is read-only\n"), "a read-only file")
+        same(
+            ran(["ob0-rename", "-i", "m.mod:2:5", "n"], work, own),
+            (4, "", "m.mod: it is read-only\n"),
+            "a read-only file",
+        )
         full = ran(["sh", "-c", "exec ob0-rename m.mod:2:5 n > /dev/full"], work, own)
         same(full, (4, "", "ob0-rename: standard output can't be written: No space left on device\n"), "a full disk")
 
@@ -181,12 +206,16 @@ END M.
 """
 # the first numbers of the input, and lines that are printed of the fault
 TRACED: dict[str, list[str]] = {
-    "0": ["m.mod:17:17: TurnBound: WHILE TRUE DO a[0] := a[0] + 1 END", "  in module M", "    i = 0", "    p = (x = 3, b = TRUE)"],
-    "1": ["m.mod:18:33: Index: a[30 * i]", "  in the statement of line 18: REPEAT UNTIL a[30 * i] = 0", "    q = [(x = 0, b = FALSE), (x = 3, b = TRUE)]"],
+    "0": ["m.mod:17:17: TurnBound: WHILE TRUE DO a[0] := a[0] + 1 END", "  in module M", "    p = (x = 3, b = TRUE)"],
+    "1": [
+        "m.mod:18:33: Index: a[30 * i]",
+        "  in the statement of line 18: REPEAT UNTIL a[30 * i] = 0",
+        "    q = [(x = 0, b = FALSE), (x = 3, b = TRUE)]",
+    ],
     "2": ["m.mod:19:20: InputEnd: Read(a[1])", "    i = 2"],
     "3": ["m.mod:13:9: CallBound: Again", "  in procedure Again, called in line 13", "  .. 59 more calls"],
     "4": ["m.mod:22:13: Overflow: a[0] +", "  in the statement of line 22: a[1] := a[0] +"],
-    "7": ["m.mod:9:20: Divisor: 1 DIV n", "  in procedure Down, called in line 8", "    n = 0", "    m = 0", "    k = 0", "    k = 2", "  .. 3 more calls"],
+    "7": ["m.mod:9:20: Divisor: 1 DIV n", "  in procedure Down, called in line 8", "    n = 0", "    k = 2", "  .. 3 more calls"],
 }
 
 
@@ -201,9 +230,20 @@ def traced() -> None:
             same(lines[0], wanted[0], f"the place of {given}")
             same([it for it in wanted if it not in lines], [], f"lines that {lines} lacks")
             holds("isn't proved" in lines[-1] and f": {run[2].split()[1]}: " in lines[0], err)
-        same(ran(["ob0-trace", "gcd.mod"], work, own, text_of("examples", "Gcd.in")), (0, text_of("examples", "Gcd.out"), ""), "a run without a fault")
-        holds(": CallBound: Down(n - 1, m)" in ran(["ob0-trace", "--calls", "3", "m.mod"], work, own, "7")[2], "another bound")
-        same(ran(["ob0-trace", "two words.Mod"], work, own), (1, "", "two words.Mod has errors, so it isn't run: `ob0-check` lists them\n"), "errors")
+        same(
+            ran(["ob0-trace", "gcd.mod"], work, own, text_of("examples", "Gcd.in")),
+            (0, text_of("examples", "Gcd.out"), ""),
+            "a run without a fault",
+        )
+        holds(
+            ": CallBound: Down(n - 1, m)" in ran(["ob0-trace", "--calls", "3", "m.mod"], work, own, "7")[2],
+            "another bound",
+        )
+        same(
+            ran(["ob0-trace", "two words.Mod"], work, own),
+            (1, "", "two words.Mod has errors, so it isn't run: `ob0-check` lists them\n"),
+            "errors",
+        )
         same(ran(["ob0-trace", "m.mod"], work, own, "x"), (4, "", "m.mod: fault: Input\n"), "another input")
         same(ran(["ob0-trace", "nowhere"], work, own), (4, "", "nowhere: No such file or directory\n"), "no file")
         same(ran(["ob0-trace", "--calls", "65", "m.mod"], work, own)[:2], (2, ""), "a bound that is too large")
@@ -213,7 +253,7 @@ def traced() -> None:
 
 @test("scripts: ob0-trace says so if the second run prints or ends otherwise than `ob0 run`, with a status of its own")
 def traced_otherwise() -> None:
-    said = "m.mod: the second run ends with Done, or prints something else, unlike `ob0 run`: please report this\n"
+    said = "m.mod: the second run ends with Done or prints something else, unlike `ob0 run`: please report this\n"
     for line in ("printf ' 1 2'", "printf ' 1\\n'; echo 'fault: Index' >&2; exit 1"):
 
         def trial(work: str, own: dict[str, str], line: str = line) -> None:
@@ -232,7 +272,10 @@ def format_statuses() -> None:
         with open(os.path.join(work, "latin.mod"), "wb") as file:
             file.write(b"MODULE M; (* \xe4 *) END M.")
         found = ran(["ob0-format", "nowhere.mod", "latin.mod", "loose.ob0/", "loose.ob0"], work, own)
-        same(found, (4, "loose.ob0\n", "nowhere.mod: No such file or directory\nlatin.mod isn't UTF-8\nloose.ob0/: Not a directory\n"))
+        same(
+            found,
+            (4, "loose.ob0\n", f"{MISSING}\nlatin.mod isn't UTF-8\nloose.ob0/: Not a directory\n"),
+        )
         lines: list[list[str]] = [[], ["--chekc", "good.mod"], ["--check"]]
         for words in lines:
             same(ran(["ob0-format", *words], work, own)[:2], (2, ""), f"the status of {words}")
@@ -251,14 +294,19 @@ FAULT = harness.diagnostic("Undeclared", "not declared", "4:2-4:3")
 STARTED: list[Content] = [{"id": 1, "result": {"capabilities": {"positionEncoding": "utf-8"}}}]
 
 
-def server_with(edits: list[Message], more: Iterable[Message] = (), faults: Iterable[Message] = (), meanwhile: str = "") -> str:
+def server_with(
+    edits: list[Message], more: Iterable[Message] = (), faults: Iterable[Message] = (), meanwhile: str = ""
+) -> str:
     """A server that answers the first request for a layout with these edits; of the text that they make it has these faults, and
     answers with more edits. It runs a line of Python once the first text is opened."""
     answers: list[Content] = [published([]), {"id": 3, "result": edits}, published([])]
     answers += [published([*faults]), {"id": 5, "result": [*more]}, published([]), {"id": 6, "result": None}]
     waits = "got = b''\nwhile b'didOpen' not in got: got += os.read(0, 65536)"
     says = "sys.stdout.buffer.write(%r); sys.stdout.flush()"
-    return "\n".join(["#!/usr/bin/env python3", "import os, sys", says % frames(STARTED), waits, meanwhile, says % frames(answers), "sys.stdin.read()", ""])
+    begins = says % frames(STARTED)
+    return "\n".join(
+        ["#!/usr/bin/env python3", "import os, sys", begins, waits, meanwhile, says % frames(answers), "sys.stdin.read()", ""]
+    )
 
 
 @test("scripts: ob0-format writes no text whose tokens differ, whatever a server answers")
@@ -282,20 +330,24 @@ def guarded() -> None:
 @test("scripts: ob0-format leaves a file that another program changes before the server has answered")
 def format_late() -> None:
     edits: list[Message] = [{"range": harness.extent("4:7-4:8"), "newText": "1 "}]
-    trials = {
-        f"open('good.mod', 'w').write({FAULTY!r})": (FAULTY, "another program has changed it in the meantime, so it was left unchanged"),
+    trials: dict[str, tuple[str | None, str]] = {
+        f"open('good.mod', 'w').write({FAULTY!r})": (FAULTY, CHANGED),
         f"open('new', 'w').write({LAID_OUT!r}); os.replace('new', 'good.mod')": (LAID_OUT.replace("1\n", "1 \n"), ""),
         "os.unlink('good.mod')": (None, "No such file or directory"),
     }
     for meanwhile, (wanted, why) in trials.items():
 
-        def trial(work: str, own: dict[str, str], meanwhile: str = meanwhile, wanted: str | None = wanted, why: str = why) -> None:
+        def trial(work: str, own: dict[str, str], meanwhile: str = meanwhile, wanted: Any = wanted, why: str = why) -> None:
             other = os.path.join(work, "..", "other")
             write(os.path.join(other, "ob0"), server_with(edits, meanwhile=meanwhile))
             os.chmod(os.path.join(other, "ob0"), 0o755)
             found = ran(["python3", FORMAT, "good.mod"], work, {**own, "PATH": other + os.pathsep + own["PATH"]})
             same(found, (4, "", f"good.mod: {why}\n") if why else (0, "good.mod\n", ""), meanwhile)
-            same({it: text_of(work, it) for it in os.listdir(work)}, {"good.mod": wanted} if wanted else {}, f"the files after {meanwhile}")
+            same(
+                {it: text_of(work, it) for it in os.listdir(work)},
+                {"good.mod": wanted} if wanted else {},
+                f"the files after {meanwhile}",
+            )
 
         in_folder({"good.mod": LAID_OUT}, trial)
 
@@ -389,7 +441,8 @@ def format_others() -> None:
         write(os.path.join(room, "other", "ob0"), server_with([{"range": harness.extent("0:7-0:7"), "newText": " "}]))
         copy(os.path.join(TOP, "share", "ob0"), os.path.join(room, "share", "ob0"))
         copy(FORMAT, os.path.join(room, "other", "ob0-format"))
-        for name, mode in (("", 0o755), ("other", 0o755), ("other/ob0", 0o755), ("work", 0o777), ("work/good.mod", 0o666)):
+        modes = {"": 0o755, "other": 0o755, "other/ob0": 0o755, "work": 0o777, "work/good.mod": 0o666}
+        for name, mode in modes.items():
             os.chmod(os.path.join(room, name), mode)
         found = ran([*as_another(), "python3", os.path.join(room, "other", "ob0-format"), "good.mod"], work, own)
         said = "good.mod: its owner, group, mode or access list can't be kept: Operation not permitted\n"
@@ -485,10 +538,14 @@ ODD = ["-ugly.mod", "100%, a:b.mod", "1:x.mod", "it's.mod", 'quote".mod', "back\
 ESCAPED = [("%", "%25"), ("\n", "%0A"), (":", "%3A"), (",", "%2C")]
 
 
-@test("scripts: ob0-check lists the errors of several files as compilers do, as GitHub wants them and as JSON, with the worst status")
+@test("scripts: ob0-check lists the errors of several files as compilers do, and for GitHub, with the worst status")
 def check_script() -> None:
     def trial(work: str, own: dict[str, str]) -> None:
-        same(ran(["ob0-check", "two words.Mod", "good.mod"], work, own), (1, "\n".join(LISTED) + "\n", ""), "as compilers do")
+        same(
+            ran(["ob0-check", "two words.Mod", "good.mod"], work, own),
+            (1, "\n".join(LISTED) + "\n", ""),
+            "as compilers do",
+        )
         same(ran(["ob0-check", "--github", *MODULES], work, own), (1, "\n".join(MARKED) + "\n", ""), "for GitHub")
         forms: list[list[str]] = [[], ["--github"]]
         for form in forms:
@@ -498,8 +555,13 @@ def check_script() -> None:
             file.write(b"MODULE M; (* \xe4 *) END M.")
         why = {"nowhere.mod": ": No such file or directory", "latin.mod": " isn't UTF-8"}
         said = "".join(f"{name}{it}\n" for name, it in why.items())
-        same(ran(["ob0-check", *why, "two words.Mod"], work, own), (4, "\n".join(LISTED) + "\n", said), "files that can't be checked")
-        marks = [f"::error file={name},line=1,col=1::File: it can't be checked: {it.strip(': ').replace('isn', 'it isn')}\n" for name, it in why.items()]
+        same(
+            ran(["ob0-check", *why, "two words.Mod"], work, own),
+            (4, "\n".join(LISTED) + "\n", said),
+            "files that can't be checked",
+        )
+        words = {name: it.strip(": ").replace("isn", "it isn") for name, it in why.items()}
+        marks = [f"::error file={name},line=1,col=1::File: it can't be checked: {it}\n" for name, it in words.items()]
         same(ran(["ob0-check", "--github", *why], work, own), (4, "".join(marks), said), "the same for GitHub")
 
     in_folder(MODULES, trial)
@@ -513,15 +575,35 @@ def check_places() -> None:
         listed = "m.mod:2:10: BadChar"
         status, out, _ = ran(["ob0-check", "m.mod"], work, own)
         by_program = ran(["ob0", "check", "m.mod"], work, own)[1].splitlines()
-        same((status, [it.split(": ", 1)[1] for it in out.splitlines()]), (1, [it.split(": ", 1)[1] for it in by_program]), "the errors")
+        same(
+            (status, [it.split(": ", 1)[1] for it in out.splitlines()]),
+            (1, [it.split(": ", 1)[1] for it in by_program]),
+            "the errors",
+        )
         same([it.split(": ")[0] for it in out.splitlines()], ["m.mod:4:1"], f"the places, {listed}")
         write(os.path.join(work, "n.mod"), text.replace("\u00e9", ""))
-        same(ran(["ob0-check", "n.mod"], work, own)[1], "n.mod:2:10: Syntax: expected END\n", "a place after characters of two and of four bytes")
+        same(
+            ran(["ob0-check", "n.mod"], work, own)[1],
+            "n.mod:2:10: Syntax: expected END\n",
+            "a place after characters of two and of four bytes",
+        )
         write(os.path.join(work, "long.mod"), "MODULE M; (*" + "\u00e4" * (1 << 19) + "*) END M.")
-        same(ran(["ob0-check", "long.mod"], work, own), (1, "long.mod:1:1: TooLong: text too long\n", ""), "a text that is too long")
-        same(ran(["ob0", "check", "long.mod"], work, own), (1, "0:0: TooLong: text too long\n", ""), "the same by the program")
+        same(
+            ran(["ob0-check", "long.mod"], work, own),
+            (1, "long.mod:1:1: TooLong: text too long\n", ""),
+            "a text that is too long",
+        )
+        same(
+            ran(["ob0", "check", "long.mod"], work, own),
+            (1, "0:0: TooLong: text too long\n", ""),
+            "the same by the program",
+        )
         for name in ("-", "/dev/stdin"):
-            same(ran(["ob0-check", name], work, own, FAULTY)[1], "\n".join(LISTED).replace("two words.Mod", name) + "\n", name)
+            same(
+                ran(["ob0-check", name], work, own, FAULTY)[1],
+                "\n".join(LISTED).replace("two words.Mod", name) + "\n",
+                name,
+            )
 
     in_folder({"m.mod": text}, trial)
 
@@ -531,11 +613,24 @@ def check_json() -> None:
     def trial(work: str, own: dict[str, str]) -> None:
         status, out, _ = ran(["ob0-check", "--json", *MODULES, "nowhere.mod"], work, own)
         found = json.loads(out)
-        places = [(it["location"]["path"], it["location"]["lines"]["begin"], *it["location"]["positions"]["begin"].values()) for it in found]
-        same((status, places), (4, [("two words.Mod", 3, 3, 3), ("two words.Mod", 4, 4, 3), ("nowhere.mod", 1, 1, 1)]), "the places")
-        same([it["location"]["positions"]["end"] for it in found[:2]], [{"line": line, "column": 4} for line in (3, 4)], "their ends")
+        where = [it["location"] for it in found]
+        places = [(it["path"], it["lines"]["begin"], *it["positions"]["begin"].values()) for it in where]
+        same(
+            (status, places),
+            (4, [("two words.Mod", 3, 3, 3), ("two words.Mod", 4, 4, 3), ("nowhere.mod", 1, 1, 1)]),
+            "the places",
+        )
+        same(
+            [it["location"]["positions"]["end"] for it in found[:2]],
+            [{"line": line, "column": 4} for line in (3, 4)],
+            "their ends",
+        )
         same([it["check_name"] for it in found], ["Undeclared", "Undeclared", "File"], "the codes")
-        same([it["description"] for it in found[1:]], ["not declared", "it can't be checked: No such file or directory"], "the messages")
+        same(
+            [it["description"] for it in found[1:]],
+            ["not declared", "it can't be checked: No such file or directory"],
+            "the messages",
+        )
         same(len({it["fingerprint"] for it in found}), 3, "the fingerprints")
 
     in_folder(MODULES, trial)
@@ -543,11 +638,16 @@ def check_json() -> None:
 
 @test("scripts: ob0-check --hints prints a hint under a message, and beside it in the other forms")
 def check_hints() -> None:
-    text, hint = "MODULE M;\nVAR x: INTEGER;\nBEGIN\n  x = 1\nEND M.\n", "an assignment is written `:=`, as in `x := 1`; `=` compares"
+    text = "MODULE M;\nVAR x: INTEGER;\nBEGIN\n  x = 1\nEND M.\n"
+    hint = "an assignment is written `:=`, as in `x := 1`; `=` compares"
 
     def trial(work: str, own: dict[str, str]) -> None:
         words = ["ob0-check", "--hints"]
-        same(ran([*words, "m.mod", "good.mod"], work, own), (1, f"m.mod:4:5: Syntax: expected END\n    hint: {hint}\n", ""), "a hint")
+        same(
+            ran([*words, "m.mod", "good.mod"], work, own),
+            (1, f"m.mod:4:5: Syntax: expected END\n    hint: {hint}\n", ""),
+            "a hint",
+        )
         same(ran([*words, "two words.Mod"], work, own)[1], "\n".join(LISTED) + "\n", "messages without a hint")
         marked = f"::error file=m.mod,line=4,col=5::Syntax: expected END%0Ahint: {hint}\n"
         same(ran([*words, "--github", "m.mod"], work, own)[1], marked, "for GitHub")
@@ -565,7 +665,11 @@ def check_names() -> None:
             for said, listed, words in forms:
                 wanted = "".join(it.replace("two words.Mod", said) + "\n" for it in listed)
                 same(ran(["ob0-check", *words, "--", name], work, own), (1, wanted, ""), repr(name))
-            same(json.loads(ran(["ob0-check", "--json", "--", name], work, own)[1])[0]["location"]["path"], name, f"{name!r} in JSON")
+            same(
+                json.loads(ran(["ob0-check", "--json", "--", name], work, own)[1])[0]["location"]["path"],
+                name,
+                f"{name!r} in JSON",
+            )
 
     names = [*ODD, "gr\udcfc\udcdfe.mod"]
     in_folder(dict.fromkeys(names, FAULTY), trial)
@@ -578,7 +682,9 @@ def check_unprinted() -> None:
         ('exec ob0-check "$@" > /dev/full', "No space left on device"),
         ('exec ob0-check --json "$@" >&-', "it is closed"),
     ):
-        found = in_folder({"a.mod": FAULTY, "b.mod": FAULTY}, functools.partial(ran, ["sh", "-c", line, "sh", "a.mod", "b.mod"]))
+        found = in_folder(
+            {"a.mod": FAULTY, "b.mod": FAULTY}, functools.partial(ran, ["sh", "-c", line, "sh", "a.mod", "b.mod"])
+        )
         same(found, (4, "", f"ob0-check: standard output can't be written: {why}\n"), line)
 
 
@@ -610,11 +716,16 @@ def taken() -> None:
             os.symlink(target, os.path.join(work, name))
         wanted = [name for name, _, is_taken in TAKEN if is_taken]
         status, out, err = ran(["ob0-check", "."], work, own)
-        same((status, list(dict.fromkeys(it.partition(":")[0] for it in out.splitlines())), err), (1, sorted(wanted), ""), out)
+        same(
+            (status, list(dict.fromkeys(it.partition(":")[0] for it in out.splitlines())), err),
+            (1, sorted(wanted), ""),
+            out,
+        )
         _, _, err = ran(["ob0-format", "--check", "."], work, own)
         same([it.partition(" has ")[0] for it in err.splitlines()], sorted(wanted), err)
-        for given, said in (("lib", "lib/j.mod:1:1"), (os.path.join(work, "lib"), os.path.join(work, "lib/j.mod:1:1")), ("links", "links/j.mod:1:1")):
-            holds(ran(["ob0-check", given], work, own)[1].startswith(said + ": "), f"what is printed of {given}")
+        for given in ("lib", os.path.join(work, "lib"), "links"):
+            out = ran(["ob0-check", given], work, own)[1]
+            holds(out.startswith(f"{given}/j.mod:1:1: "), f"what is printed of {given}: {out}")
 
     in_folder({name: text for name, text, _ in TAKEN}, trial)
 
@@ -725,11 +836,12 @@ def hook_names() -> None:
             same((found[0] != 0, said % ((name,) * said.count("%s")) in found[2]), (status, True), f"the commit of {name!r}: {found}")
             git(work, own, "rm", "-q", "-f", "--cached", "--", "./" + name)
 
-    for text, status, said in ((LAID_OUT, False, ""), (FAULTY, True, "%s:3:3: Undeclared: not declared\n"), (LOOSE, True, "%s\n")):
+    listed = "%s:3:3: Undeclared: not declared\n"
+    for text, status, said in ((LAID_OUT, False, ""), (FAULTY, True, listed), (LOOSE, True, "%s\n")):
         in_folder({"other.txt": ""}, functools.partial(trial, text, status, said))
 
 
-@test("scripts: the page's hook checks 200 files with one call of each script, in less than three seconds of a processor")
+@test("scripts: the page's hook checks 200 files in less than three seconds of a processor")
 def hook_of_many() -> None:
     if not shutil.which("git"):
         harness.leave_out("it wants git")
@@ -749,10 +861,13 @@ def hook_of_many() -> None:
 
 @test("scripts: the page's jobs and the hooks for pre-commit find errors and what isn't formatted")
 def job() -> None:
-    blocks = [re.findall(r"^ +- (?:run: )?(ob0-\w+ .*)$", text, re.M) for name, text in fenced("docs/CI.md") if name == "yaml"]
+    listed = [text for name, text in fenced("docs/CI.md") if name == "yaml"]
+    blocks = [re.findall(r"^ +- (?:run: )?(ob0-\w+ .*)$", text, re.M) for text in listed]
     jobs = ["\n".join(it) for it in blocks if it]
     same(len(jobs), 3, "the jobs of GitHub, Forgejo and GitLab")
-    rows: list[tuple[dict[str, str], int, list[str]]] = [(MODULES, 1, LISTED), ({"loose.ob0": LOOSE}, 1, ["loose.ob0"]), ({}, 0, [])]
+    rows: list[tuple[dict[str, str], int, list[str]]] = [
+        (MODULES, 1, LISTED), ({"loose.ob0": LOOSE}, 1, ["loose.ob0"]), ({}, 0, [])
+    ]
     rows.append(({"-ugly.mod": LAID_OUT, "go.mod": "module example.com/x\n"}, 0, []))
     for line in jobs:
         for files, wanted, said in rows:
@@ -764,7 +879,11 @@ def job() -> None:
     same(entries, ["ob0-check --", "ob0-format --"], "the hooks for pre-commit")
     pattern, excluded = match_of(r"^  files: (.*)$", hooks, re.M)[1], match_of(r"^  exclude: (.*)$", hooks, re.M)[1]
     names = ["a.ob0", "lib/b.mod", "c.Mod", "go.mod", "x/go.mod", "cargo.mod", "d.txt"]
-    same([it for it in names if re.search(pattern, it) and not re.search(excluded, it)], ["a.ob0", "lib/b.mod", "c.Mod", "cargo.mod"], "their files")
+    same(
+        [it for it in names if re.search(pattern, it) and not re.search(excluded, it)],
+        ["a.ob0", "lib/b.mod", "c.Mod", "cargo.mod"],
+        "their files",
+    )
     for entry in entries:
         holds(in_folder(MODULES, functools.partial(ran, [*entry.split(), *MODULES]))[0] == 1, entry)
 

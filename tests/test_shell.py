@@ -154,7 +154,11 @@ def manual() -> None:
         same((status, said), (0, ""), f"mandoc -Tlint {it}")
     with temporary() as room:
         write(os.path.join(room, "ob0-messages.7"), package.messages_page().decode())
-        same(run_plainly(["mandoc", "-Tlint", "-W", "warning", "ob0-messages.7"], dict(os.environ), room), (0, ""), "mandoc -Tlint ob0-messages.7")
+        same(
+            run_plainly(["mandoc", "-Tlint", "-W", "warning", "ob0-messages.7"], dict(os.environ), room),
+            (0, ""),
+            "mandoc -Tlint ob0-messages.7",
+        )
 
 
 PAGES = ["README.md", "examples/README.md"]

@@ -93,7 +93,8 @@ def types_fit() -> None:
     want("mypy")
     # (two scripts are named run.py, and those of share/ have no ending: so they are checked apart)
     scripts = [[f"share/{it}"] for it in package.SCRIPTS]
-    for patterns in (["tools/*.py", "tests/**/*.py", "examples/exercises/*.py", "share/ob0/**/*.py"], *scripts, ["bench/*.py"]):
+    most = ["tools/*.py", "tests/**/*.py", "examples/exercises/*.py", "share/ob0/**/*.py"]
+    for patterns in (most, *scripts, ["bench/*.py"]):
         files = [it for pattern in patterns for it in glob.glob(os.path.join(TOP, pattern), recursive=True)]
         words = ["mypy", "--config-file", os.path.join(TOP, "tools", "mypy.ini"), *files]
         status, said = run_plainly(words, dict(os.environ), TOP)

@@ -214,7 +214,8 @@ def nano_lints() -> None:
         write(os.path.join(room, "faulty.ob0"), "MODULE M;\nVAR x: INTEGER;\nBEGIN\n  x := 1 + y\nEND M.\n")
         settings = os.path.join(room, "nanorc")
         write(settings, text_of(room, ".nanorc").replace("~", room))
-        with Screen(["nano", f"--rcfile={settings}", "--constantshow", "faulty.ob0"], {**own, "LC_ALL": "C.UTF-8"}, room) as screen:
+        own["LC_ALL"] = "C.UTF-8"
+        with Screen(["nano", f"--rcfile={settings}", "--constantshow", "faulty.ob0"], own, room) as screen:
             screen.shows(b"BEGIN", "the module in nano")
             screen.keys(b"\x1bb")
             screen.shows(b"not declared", "the message of the linter")

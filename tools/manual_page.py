@@ -53,7 +53,8 @@ def block(lines: list[str]) -> Iterator[str]:
         yield from table(lines)
     elif lines[0].startswith("#"):
         sign, _, title = lines[0].partition(" ")
-        yield (f".SH {plain(title).upper()}\n" if sign == "##" else f".SS {plain(title)}\n") + "".join(block(lines[1:]) if lines[1:] else [])
+        yield f".SH {plain(title).upper()}\n" if sign == "##" else f".SS {plain(title)}\n"
+        yield from block(lines[1:]) if lines[1:] else []
     elif re.match(r"[-0-9]", lines[0]):
         for it in re.split(r"\n(?=- |\d+\. )", "\n".join(lines)):
             yield f".IP \\(bu 2\n{inline(' '.join(it.split()[1:]))}\n"
@@ -62,7 +63,8 @@ def block(lines: list[str]) -> Iterator[str]:
 
 
 def of_messages(page: str, version: str, day: str) -> bytes:
-    """Returns the manual page that is made from a Markdown page. Its first heading, and its list of contents, are left out."""
+    """Returns the manual page that is made from a Markdown page. Its first heading, and its list of contents, are left
+    out."""
     found = HEAD.format(version=version, day=day)
     for at, part in enumerate(re.split(r"^```\n(.*?)^```$", page, flags=re.M | re.S)):
         if at % 2:

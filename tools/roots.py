@@ -106,7 +106,10 @@ def works(root: str, usr: str) -> None:
     """Runs the program and the scripts of an installation on its examples."""
     examples = f"{usr}/{package.DOC}/examples"
     inside(root, f"ob0 check {examples}/Gcd.mod; ob0-format --check {examples}/*.mod; ob0 run {examples}/Gcd.mod < {examples}/Gcd.in")
-    inside(root, f"ob0-check {examples}")
+    inside(
+        root,
+        f"ob0-check {examples}; ob0-trace {examples}/Gcd.mod < {examples}/Gcd.in; ob0-rename {examples}/Gcd.mod:3:3 z",
+    )
     inside(root, f"ob0-watch check {examples}/Gcd.mod")
 
 

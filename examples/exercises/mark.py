@@ -21,7 +21,7 @@ import signal
 import subprocess
 import sys
 import tempfile
-from typing import IO, Any, Dict, Iterator, List, NamedTuple, NoReturn, Optional, TextIO, Union
+from typing import IO, Any, Callable, Dict, Iterator, List, NamedTuple, NoReturn, Optional, TextIO, Union
 
 HERE = os.path.dirname(os.path.abspath(__file__))
 ENDINGS = (".mod", ".Mod", ".ob0")
@@ -120,10 +120,11 @@ def say(line: Union[str, bytes], stream: Optional[TextIO] = sys.stdout) -> None:
 
 
 def on_a_line(name: str) -> str:
-    """Returns a name with a number for each character that isn't shown as it is, such as a line end or a control of the terminal, so that
-    it is a part of one line. Its bytes that aren't UTF-8 are unchanged."""
+    """Returns a name with a number for each character that isn't shown as it is, such as a line end or a control of the
+    terminal, so that it is a part of one line. Its bytes that aren't UTF-8 are unchanged."""
     letters = os.fsencode(name).decode("utf-8", "surrogateescape")
-    shown = (it if it.isprintable() or "\udc80" <= it <= "\udcff" else it.encode("unicode_escape").decode() for it in letters)
+    is_shown: Callable[[str], bool] = lambda it: it.isprintable() or "\udc80" <= it <= "\udcff"
+    shown = (it if is_shown(it) else it.encode("unicode_escape").decode() for it in letters)
     return os.fsdecode("".join(shown).encode("utf-8", "surrogateescape"))
 
 
@@ -261,7 +262,7 @@ def why_wrong(marking: Marking, file: str, case: Case) -> Optional[str]:
 
 
 def line_of_fault(marking: Marking, file: str, case: Case) -> str:
-    """Returns the line in which a run ends with a fault, in words, if the script ob0-trace is installed and finds it."""
+    """Returns the line in which a run ends with a fault, in words, if the script ob0-trace is there and finds it."""
     folders = [os.path.dirname(marking.program), os.path.join(HERE, "..", "..", "share"), os.environ.get("PATH", "")]
     tracer = shutil.which("ob0-trace", path=os.pathsep.join(folders))
     if tracer is None:
@@ -366,7 +367,8 @@ def mark(marking: Marking, path: str, is_said: bool) -> Result:
 
 
 def plain(text: str) -> str:
-    """Returns a text for a cell of a table: in UTF-8, on a line, and no formula, also if a spreadsheet takes `;` for the end of a cell."""
+    """Returns a text for a cell of a table: in UTF-8, on a line, and no formula, also if a spreadsheet takes `;` for the
+    end of a cell."""
     shown = os.fsencode(on_a_line(text)).decode(errors="backslashreplace").replace(";", "\\x3b")
     return "'" + shown if shown.startswith(FORMULA) else shown
 

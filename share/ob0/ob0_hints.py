@@ -1,7 +1,7 @@
-"""Hints beside the messages of errors: what a beginner probably meant. They come from hints.json, whose first rule that fits gives the
-hint. A rule is for a message, and its conditions are on the token at the error (`at`), the two before it, the next one, the first and
-the last one in the line, whether the line is a `new` one for the token before, and whether a RECORD without END is above (`inside`). A
-condition lists tokens: a word in small letters stands for any but the reserved word, and `<name>` and the like for a class. docs/MESSAGES.md has a row
+"""Hints beside the messages of errors: what a beginner probably meant. They come from hints.json, whose first rule that fits gives the hint. A rule is for a message, and its conditions are on the
+token at the error (`at`), the two before it, the next one, the first and the last one in the line, whether the line is
+a `new` one for the token before, and whether a RECORD without END is above (`inside`). A condition lists tokens: a word
+in small letters stands for any but the reserved word, and `<name>` and the like for a class. docs/MESSAGES.md has a row
 for each rule, which `see` names."""
 from __future__ import annotations
 
@@ -12,8 +12,8 @@ import os
 import re
 from typing import Dict, List, NamedTuple, Optional
 
-RESERVED = """ARRAY BEGIN CONST DIV DO ELSE ELSIF END IF MOD MODULE OF OR PROCEDURE RECORD REPEAT THEN TYPE UNTIL VAR
-WHILE""".split()
+from reference.scanner import WORDS as RESERVED
+
 TOKEN = re.compile(rb"\(\*|\*\)|[A-Za-z][A-Za-z0-9]*|[0-9][0-9A-Za-z]*|:=|<=|>=|[^\x00-\x7f]+|[^ \t\r\n]")
 FIELDS = ("at", "before", "before2", "next", "first", "last", "line", "inside")
 

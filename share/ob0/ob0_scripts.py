@@ -1,5 +1,5 @@
-"""What the scripts ob0-check, ob0-format, ob0-rename and ob0-trace share: modules are read and replaced, the server is asked, and lines
-are printed."""
+"""What the scripts ob0-check, ob0-format, ob0-rename and ob0-trace share: modules are read and replaced, the server is
+asked, and lines are printed."""
 from __future__ import annotations
 
 import argparse
@@ -15,7 +15,7 @@ import stat
 import subprocess
 import sys
 import tempfile
-from typing import IO, Any, Callable, Dict, Iterator, List, NamedTuple, NoReturn, Optional, TextIO, Tuple, Union
+from typing import Any, Callable, Dict, Iterator, List, NamedTuple, NoReturn, Optional, TextIO, Tuple, Union
 
 VERSION = "0.1.0"
 LONGEST = 1 << 20  # the bytes that a module may have
@@ -26,7 +26,7 @@ START = {"line": 0, "character": 0}
 TOO_LONG = {"code": "TooLong", "message": "text too long", "range": {"start": START, "end": START}}
 HERE = os.path.dirname(os.path.realpath(sys.argv[0]))
 
-Diagnostic = Dict[str, Any]
+Members = Dict[str, Any]  # of a JSON object
 
 
 class Failure(Exception):
@@ -58,6 +58,8 @@ class Server:
 
     def __init__(self) -> None:
         self.process = subprocess.Popen([program(), "serve"], stdin=subprocess.PIPE, stdout=subprocess.PIPE)
+        assert self.process.stdin and self.process.stdout
+        self.given, self.answers = self.process.stdin, self.process.stdout
         self.numbers = itertools.count(1)
         try:
             found = self.request("initialize", {"capabilities": {"general": {"positionEncodings": ["utf-8"]}}})
@@ -68,26 +70,21 @@ class Server:
             self.end_at_once()
             raise
 
-    def pipe(self, found: Optional[IO[bytes]]) -> IO[bytes]:
-        assert found
-        return found
-
     def send(self, message: Dict[str, Any]) -> None:
         content = json.dumps({"jsonrpc": "2.0", **message}, ensure_ascii=False).encode()
-        given = self.pipe(self.process.stdin)
         try:
-            given.write(b"Content-Length: %d\r\n\r\n%s" % (len(content), content))
-            given.flush()
+            self.given.write(b"Content-Length: %d\r\n\r\n%s" % (len(content), content))
+            self.given.flush()
         except OSError:
             raise Failure("the server ended") from None
 
     def take(self) -> Dict[str, Any]:
         """Returns the next message that the server sends."""
-        answers, length = self.pipe(self.process.stdout), 0
-        for line in iter(lambda: answers.readline().strip(), b""):
+        length = 0
+        for line in iter(lambda: self.answers.readline().strip(), b""):
             name, _, value = line.partition(b":")
             length = int(value) if name.lower() == b"content-length" else length
-        content = answers.read(length)
+        content = self.answers.read(length)
         if not content:
             raise Failure("the server ended")
         found: Dict[str, Any] = json.loads(content)
@@ -113,9 +110,9 @@ class Server:
             found = self.take()
         return found["params"]["diagnostics"]
 
-    def answer(self, text: bytes, method: str = "", params: Optional[Dict[str, Any]] = None) -> Tuple[List[Diagnostic], Any]:
-        """Opens a text and closes it again. Returns its diagnostics, and the answer to a request that is made if it has none. (Of a text
-        that is too long the server examines nothing else, so it isn't sent.)"""
+    def answer(self, text: bytes, method: str = "", params: Optional[Members] = None) -> Tuple[List[Members], Any]:
+        """Opens a text and closes it again. Returns its diagnostics, and the answer to a request that is made if it has
+        none. (Of a text that is too long the server examines nothing else, so it isn't sent.)"""
         if len(text) > LONGEST:
             return [TOO_LONG], None
         document = {"uri": f"file:///{next(self.numbers)}"}
@@ -132,7 +129,7 @@ class Server:
         """Ends the server by the protocol."""
         self.request("shutdown", None)
         self.notify("exit", None)
-        self.pipe(self.process.stdin).close()
+        self.given.close()
         self.process.wait()
 
     def end_at_once(self) -> None:
@@ -182,8 +179,8 @@ def text_of(path: str) -> bytes:
 
 
 def begins_with_module(path: str) -> bool:
-    """Whether the first word of a file is MODULE, also in small letters, after comments and a byte order mark. (Go's files also begin
-    with that word; a path follows it there.)"""
+    """Whether the first word of a file is MODULE, also in small letters, after comments and a byte order mark. (Go's
+    files also begin with that word; a path follows it there.)"""
     depth, text = 0, re.sub(rb"^\xef\xbb\xbf", b"", bytes_of(path))
     for it in re.finditer(rb"\(\*|\*\)|[^ \t\r\n(*]+|[(*]", text):
         if it[0] == b"(*":
@@ -191,15 +188,17 @@ def begins_with_module(path: str) -> bool:
         elif it[0] == b"*)" and depth:
             depth -= 1
         elif not depth:
-            is_go = os.path.basename(path) == "go.mod" or re.match(rb"(?i)module[ \t]+[^ \t\r\n]*[./][a-z0-9]", text[it.start() :])
-            words = rb"MODULE(?![A-Za-z0-9_])" if is_go else rb"(?i)MODULE(?![a-z0-9_])"
-            return bool(re.match(words, text[it.start() :]))
+            rest = text[it.start() :]
+            has_path = re.match(rb"(?i)module[ \t]+[^ \t\r\n]*[./][a-z0-9]", rest)
+            is_go = os.path.basename(path) == "go.mod" or has_path
+            return bool(re.match(rb"MODULE(?![A-Za-z0-9_])" if is_go else rb"(?i)MODULE(?![a-z0-9_])", rest))
     return False
 
 
 def modules_at(path: str) -> Iterator[str]:
-    """Yields a path; if it is a folder, instead the modules in it and in the folders below, except behind links and in hidden folders.
-    A file that ends in .mod can be of another language, and is a module only if its first word is MODULE."""
+    """Yields a path; if it is a folder, instead the modules in it and in the folders below, except behind links and in
+    hidden folders. A file that ends in .mod can be of another language, and is a module only if its first word is
+    MODULE."""
     if path == STANDARD_INPUT or not os.path.isdir(path):
         yield path
         return
@@ -215,7 +214,8 @@ def modules_at(path: str) -> Iterator[str]:
 
 
 def keep_attributes(old: str, new: str) -> None:
-    """Gives a new file the old one's owner, group, mode and access list. If one of them can't be given, an OSError is raised."""
+    """Gives a new file the old one's owner, group, mode and access list. If one of them can't be given, an OSError is
+    raised."""
     found, made = os.stat(old), os.stat(new)
     if (found.st_uid, found.st_gid) != (made.st_uid, made.st_gid):
         os.chown(new, found.st_uid, found.st_gid)
@@ -243,8 +243,8 @@ def need_replaceable(path: str) -> None:
 
 
 def replace(path: str, old: bytes, text: bytes) -> None:
-    """Replaces a file whole, so that a failure leaves the old one. Refuses a file that no longer has the old text, since another program
-    has changed it. Signals wait until that is done."""
+    """Replaces a file whole, so that a failure leaves the old one. Refuses a file that no longer has the old text,
+    since another program has changed it. Signals wait until that is done."""
     need_replaceable(path)
     path = os.path.realpath(path)
     before = signal.pthread_sigmask(signal.SIG_BLOCK, STOPPING)
@@ -268,7 +268,8 @@ def replace(path: str, old: bytes, text: bytes) -> None:
 
 
 def why_unprinted(stream: Optional[TextIO], text: Union[str, bytes]) -> str:
-    """Prints a text, in which a name has the bytes that it has in its folder. Returns why it can't be printed, or an empty text."""
+    """Prints a text, in which a name has the bytes that it has in its folder. Returns why it can't be printed, or an
+    empty text."""
     if stream is None:
         return "it is closed"
     left = os.fsencode(text)
@@ -298,8 +299,8 @@ class Output:
 
 
 class Work:
-    """What a script does with each file: `visit` returns the status that a file gives, or raises why it gives none. Each file is visited,
-    whatever came of the ones before it."""
+    """What a script does with each file: `visit` returns the status that a file gives, or raises why it gives none.
+    Each file is visited, whatever came of the ones before it."""
 
     def __init__(self, name: str) -> None:
         self.name, self.out, self.status = name, Output(), 0
@@ -367,7 +368,7 @@ class Work:
 def parser(name: str, what: str) -> argparse.ArgumentParser:
     """Returns what reads the command line of a script."""
     found = argparse.ArgumentParser(prog=name, description=what, allow_abbrev=False)
-    found.add_argument("-V", "--version", action="version", version=f"{name} {VERSION}", help="print the version and exit")
+    found.add_argument("-V", "--version", action="version", version=f"{name} {VERSION}", help="print the version")
     return found
 
 
