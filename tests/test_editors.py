@@ -431,9 +431,9 @@ def emacs_unread() -> None:
     same(told["no message"][1], "ob0: the server can't read m.mod: it is opened again (not JSON)", "what is said at last")
 
 
-def refused_in_emacs(editor: Client, end: Steps) -> None:
+def refused_in_emacs(editor: Client, end: Steps, *more: str) -> None:
     steps = [(name, f"ob0: {words}") for _, name, words in REFUSED_RENAMES]
-    told = [(it, f"ob0: {ILL_TYPED}") for it in ("rename", "definition", "format")]
+    told = [(it, f"ob0: {ILL_TYPED}") for it in ("rename", "definition", "format", *more)]
     found = editor("refused", REFUSING, renames=[it[:2] for it in REFUSED_RENAMES])
     same(found, [("opened", []), *steps, *told, *end])
 
@@ -445,7 +445,7 @@ def emacs_refused() -> None:
 
 @test("lsp-mode: a refused rename is told in words, and so is what finds nothing while the module has an error")
 def lsp_mode_refused() -> None:
-    refused_in_emacs(in_lsp_mode, [])
+    refused_in_emacs(in_lsp_mode, [], "prompt")
 
 
 @test("Vim: by ALE a refused rename is told in words, and so is what finds nothing while the module has an error")

@@ -445,7 +445,7 @@ def many_line_ends() -> None:
         text = end.join(lines)
         talk = Talk(text)
         places = [f"{line}:6-{line}:6" if line % 6 else f"{line}:3-{line}:4" for line in range(1, 12)]
-        edits = [{"range": extent(it), "text": " " if it[-1] == "6" else "\n  "} for it in places]
+        edits: Edits = [{"range": extent(it), "text": " " if it[-1] == "6" else "\n  "} for it in places]
         talk.is_answered(edits, FORMAT)
         for it in reversed(edits):
             talk.changes([{**it, "text": it["text"].replace("\n", end)}])
@@ -600,14 +600,15 @@ def behind() -> None:
         talk = [harness.initialize(0), notice("initialized", {}), did_open(TEXT), *(did_change([], version=it) for it in range(100))]
         given = harness.frames([*talk, did_change("x", "file:///last")])
         words = [sys.executable, "-c", f"import sys; sys.path[:0] = {sys.path!r}; {slow}", "--report", report, "--", "cat"]
-        start = time.monotonic()
         ran = subprocess.run(words, input=given, capture_output=True, timeout=harness.SECONDS, check=False)
         same((ran.returncode, ran.stdout, ran.stderr), (0, given, b""), "what is passed on")
-        seconds, seen = time.monotonic() - start, set()
+        holds("The server ended" not in harness.text_of(report), "it waits for its judge")
+        seen: set[str] = set()
         while not os.path.exists(report) or "The server ended" not in harness.text_of(report):
-            seen |= {*re.findall(r"^(\d+) messages of the editor were judged.\nIt goes on", harness.text_of(report), re.M)} if os.path.exists(report) else set()
+            said = harness.text_of(report) if os.path.exists(report) else ""
+            seen.update(re.findall(r"^(\d+) messages of the editor were judged.\nIt goes on", said, re.M))
             time.sleep(0.02)
-        holds(seconds < 5 and len(seen) > 5, f"it has ended after {seconds} seconds, and the report has said {seen}")
+        holds(len(seen) > 2, f"the report has said {seen}")
         found = harness.text_of(report)
         holds("BROKEN open: message 104 " in found and found.endswith("\n104 messages of the editor were judged.\nThe server ended with status 0.\n"), found)
 
