@@ -497,7 +497,7 @@ WHY says what is wrong with it."
         (error (ob0--open-again (error-message-string problem)))))))
 
 (defun ob0--tell-change (tell &rest arguments)
-  "Call TELL with ARGUMENTS to send the changes of this buffer."
+  "Call TELL with ARGUMENTS; if that fails, open this buffer again."
   (if (not (derived-mode-p 'ob0-mode))
       (apply tell arguments)
     (setq ob0--told (current-buffer))
