@@ -389,11 +389,15 @@ LINES_ENDED = [
     ("MODULE M;\nBEGIN\n  Write(1)\nEND M.", False, "MODULE M;\nBEGIN\n  Write(1)\nEND M.\n"),
     ("MODULE M;\r\nBEGIN Write(1) END M.\r\n", True, "MODULE M;\r\nBEGIN\r\n  Write(1)\r\nEND M.\r\n"),
     ("MODULE M;\r\nBEGIN\r\n  Write(1)\r\nEND M.\r\n", False, "MODULE M;\r\nBEGIN\r\n  Write(1)\r\nEND M.\r\n"),
-    ("MODULE M;\r\n(* é\U0001f600 *) BEGIN Write(1) END M.", True, "MODULE M;\r\n(* é\U0001f600 *)\r\nBEGIN\r\n  Write(1)\r\nEND M.\r\n"),
+    (
+        "MODULE M;\r\n(* é\U0001f600 *) BEGIN Write(1) END M.",
+        True,
+        "MODULE M;\r\n(* é\U0001f600 *)\r\nBEGIN\r\n  Write(1)\r\nEND M.\r\n",
+    ),
 ]
 
 
-@test("Neovim: a text with CR LF, or without the end of its last line, is formatted once, and the file has its own line ends")
+@test("Neovim: a text with CR LF, or without the end of its last line, is formatted once and keeps its line ends")
 def neovim_line_ends() -> None:
     for text, changes, written in LINES_ENDED:
         steps = [("opened", []), ("changes", changes), ("changes", False), ("file", written), ("ended", ENDED)]
@@ -428,12 +432,13 @@ def emacs_unread() -> None:
     holds(again.startswith("ob0: the server can't read m.mod: it is opened again"), again)
     holds(closed.startswith("ob0: the server can't read m.mod: it stays closed until it is changed"), closed)
     same([told["still"][1], told["mended"][1]], ["", ""], "what is said while it stays closed, and then")
-    same(told["no message"][1], "ob0: the server can't read m.mod: it is opened again (not JSON)", "what is said at last")
+    at_last = "ob0: the server can't read m.mod: it is opened again (not JSON)"
+    same(told["no message"][1], at_last, "what is said at last")
 
 
-def refused_in_emacs(editor: Client, end: Steps) -> None:
+def refused_in_emacs(editor: Client, end: Steps, *more: str) -> None:
     steps = [(name, f"ob0: {words}") for _, name, words in REFUSED_RENAMES]
-    told = [(it, f"ob0: {ILL_TYPED}") for it in ("rename", "definition", "format")]
+    told = [(it, f"ob0: {ILL_TYPED}") for it in ("rename", "definition", "format", *more)]
     found = editor("refused", REFUSING, renames=[it[:2] for it in REFUSED_RENAMES])
     same(found, [("opened", []), *steps, *told, *end])
 
@@ -445,7 +450,7 @@ def emacs_refused() -> None:
 
 @test("lsp-mode: a refused rename is told in words, and so is what finds nothing while the module has an error")
 def lsp_mode_refused() -> None:
-    refused_in_emacs(in_lsp_mode, [])
+    refused_in_emacs(in_lsp_mode, [], "prompt")
 
 
 @test("Vim: by ALE a refused rename is told in words, and so is what finds nothing while the module has an error")

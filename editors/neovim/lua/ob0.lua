@@ -236,7 +236,8 @@ local function open_unread_again(client)
     if result and result.version then
       tried[result.uri] = nil
     end
-    return (publish or vim.lsp.handlers["textDocument/publishDiagnostics"])(fault, result, ...)
+    local shows = publish or vim.lsp.handlers["textDocument/publishDiagnostics"] or vim.lsp.diagnostic.on_publish_diagnostics
+    return shows(fault, result, ...)
   end
   return function(why)
     local uri = told
