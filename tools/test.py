@@ -5,7 +5,8 @@ gate built.
   tools/test.py [--anew]   with --anew nothing is taken that an earlier run on this machine passed
 
 The gate is every proof, the edits that must fail, the tests of the crates, and the program as two compilers build it; what `rt ci`
-says of an edit is compared with the edit's first line, and some of the other mutants are tried too (tools/mutants.py). The last line is
+says of an edit is compared with the edit's first line, and what it says that the program's proof rests on with docs/PROMISES.md. Some
+of the other mutants are tried too (tools/mutants.py). The last line is
 'N passed, M failed' over all of it, and ', K skipped' if tests of missing editors were left out. It also ends bin/results, which has a
 line for each end-to-end test before it, and bin/ob0.stamp. A run with fewer tests than LEAST fails."""
 from __future__ import annotations
@@ -23,6 +24,7 @@ import common
 import editors
 import mutants
 import notices
+import trusted
 from common import TOP
 
 LINE = re.compile(r"^(\d+) passed, (\d+) failed(?:, (\d+) skipped)?$")
@@ -91,13 +93,14 @@ def gate(timer: common.Timer, flags: list[str]) -> Counts:
     for old in (linked, common.BINARY):
         if os.path.exists(old):
             os.remove(old)
-    libraries, refusals = mutants.Libraries(os.path.join(build.ROOMS, "libraries")), mutants.Refusals()
+    libraries, refusals, rests = mutants.Libraries(os.path.join(build.ROOMS, "libraries")), mutants.Refusals(), trusted.Trusted()
 
     def take(line: str) -> None:
         libraries.take(line)
         refusals.take(line)
+        rests.take(line)
 
-    counts = stream(["rt", "ci", *flags], timer, take, **jobs()).at_least("the gate")
+    counts = stream(["rt", "ci", *flags], timer, take, **jobs()).at_least("the gate").with_(Counts(0, rests.end()))
     if os.path.isfile(linked):
         common.keep(linked)
         notices.keep()
