@@ -5,11 +5,12 @@ gate built.
   tools/test.py [--anew]   with --anew nothing is taken that an earlier run on this machine passed
 
 The gate is every proof, the edits that must fail, the tests of the crates, and the program as two compilers build it; what `rt ci`
-says of an edit is compared with the edit's first line, and some of the other mutants are tried too (tools/mutants.py). All that
-`rt ci` prints goes to bin/gate.log, and a line for each end-to-end test to bin/results; the screen shows how far the run is. At the
-end it repeats each failure with its first lines, and says how many of the proofs this run did itself. The last line is 'N passed,
-M failed' over all of it, and ', K skipped' if tests of missing editors were left out; bin/results and bin/ob0.stamp have it too. A
-run with fewer tests than LEAST fails."""
+says of an edit is compared with the edit's first line, and what it says that the program's proof rests on with
+docs/PROMISES.md. Some of the other mutants are tried too (tools/mutants.py). All that `rt ci` prints goes to bin/gate.log, and a
+line for each end-to-end test to bin/results; the screen shows how far the run is. At the end it repeats each failure with its
+first lines, and says how many of the proofs this run did itself. The last line is 'N passed, M failed' over all of it, and
+', K skipped' if tests of missing editors were left out; bin/results and bin/ob0.stamp have it too. A run with fewer tests than
+LEAST fails."""
 from __future__ import annotations
 
 import contextlib
@@ -30,6 +31,7 @@ import editors
 import mutants
 import notices
 import package
+import trusted
 from common import TOP
 
 LINE = re.compile(r"^(\d+) passed, (\d+) failed(?:, (\d+) skipped)?$")
@@ -113,12 +115,14 @@ class Gate:
         self.block: list[str] = []
         self.told: dict[str, list[str]] = {}
         self.libraries, self.refusals = mutants.Libraries(os.path.join(build.ROOMS, "libraries")), mutants.Refusals()
+        self.rests = trusted.Trusted()
 
     def take(self, line: str) -> str:
         """Takes a line, and returns what the screen shows of it."""
         self.log.write(line)
         self.libraries.take(line)
         self.refusals.take(line)
+        self.rests.take(line)
         if LINE.match(line.strip()):
             return f"rt: {line}"
         if not line.startswith("rt: "):
@@ -209,6 +213,10 @@ def gate(flags: list[str]) -> Counts:
     with open(GATE_LOG, "w", encoding="utf-8") as log:
         taken = Gate(log)
         counts = stream(["rt", "ci", *flags], taken.take, **jobs()).at_least("the gate")
+    wrong = taken.rests.difference()
+    if wrong:
+        RUN.fail("what is trusted, in docs/PROMISES.md, isn't what the gate prints", wrong)
+        counts = counts.with_(Counts(0, 1))
     if os.path.isfile(linked):
         common.keep(linked)
         notices.keep()

@@ -280,11 +280,10 @@ conversation_is_served one feeds nothing read taken sent after small talk put re
     frames_sent one feeds taken sent after talk (read taken small, nothing.1) put e.0 e.1
 
 pub conversation_is_served_at_reads : ConversationIsDetermined → OneFeed → PieceAdvancesStream (Open []) [] [] (Open []) → ((contents : Contents) → All (λ content. length content ≤ max_content_length) contents → Frames (flat_map frame contents) contents []) → ServeHasAnsweredAtReads
-conversation_is_served_at_reads one feeds nothing read taken sent after small talk steps owes more given =
+conversation_is_served_at_reads one feeds nothing read taken sent after small talk steps more owes given =
     let rest : StreamRest = Open owes.left in
     let all : AnswersAllContents (flat_map frame taken ++ more) rest (bytes_written steps) = subst (λ bytes. AnswersAllContents bytes rest (bytes_written steps)) given owes.answered in
-    let first = frames_first one feeds taken sent after talk (read taken small, nothing.1) more (bytes_written steps) (with_rest rest) all in
-    (first.0, first.1, owes.flushed)
+    frames_first one feeds taken sent after talk (read taken small, nothing.1) more (bytes_written steps) (with_rest rest) all
 
 -- ---- the frames of a conversation that ended
 

@@ -1,7 +1,7 @@
 -- States that the server's input determines the server's output: the diagnostics of a text, the
 -- replies to a message, and the written bytes.
 -- Rule: none; laws of the session.
-use Rattle.std.specs.Prelude.{◌≡◌, ◌≢◌, ◌≤◌, ◌<◌, ◌+◌, ◌++◌, ◌⊎◌, ℕ, List, [], length, All, Bool, true, Result, Ok, Err, ⊤}
+use Rattle.std.specs.Prelude.{◌≡◌, ◌≢◌, ◌≤◌, ◌<◌, ◌+◌, ◌++◌, ◌⊎◌, ℕ, List, [], length, All, Bool, Result, Ok, Err, ⊤}
 use Rattle.std.specs.List.{flat_map}
 use Rattle.ob0_frame.specs.Frames.{Frames, frame}
 use Rattle.ob0_frame.specs.FramerState.{Open, PieceAdvancesStream}
@@ -13,7 +13,7 @@ use Rattle.ob0_session_server.specs.Answers.{ServerState, initial_server_state, 
 use Rattle.ob0_session_server.specs.declared.session.Phase.TheVariants.{Ended}
 use Rattle.ob0_session.specs.OwedAnswers.{OwesNothing}
 use Rattle.ob0_session.specs.ServeResults.{EndsByExit, Serves}
-use Rattle.ob0_session.specs.StreamSteps.{StreamStep, bytes_given, bytes_written, is_all_flushed}
+use Rattle.ob0_session.specs.StreamSteps.{StreamStep, bytes_given, bytes_written}
 use Rattle.ob0_session.specs.declared.serve_loop.ServeFault.{ServeFault}
 use Rattle.ob0_session.specs.declared.serve_loop.ServeFault.TheVariants.{BadHead, Truncated, Read, Write, Memory, TooManyReads}
 
@@ -182,14 +182,13 @@ ServeEndsLikeSession =
 -- States that `serve` has answered as the session does whenever no answer is owed, as at the
 -- beginning of each read (`NeverReadsOwing`). Suppose that the bytes given so far begin with the
 -- frames of the contents that a session took. Then the bytes written begin with the frames of the
--- contents that the session sent, and everything is flushed. The law excludes contents of more than
--- `max_content_length` bytes.
+-- contents that the session sent. (`OwesNothing` states that they are flushed.) The law excludes
+-- contents of more than `max_content_length` bytes.
 abbrev pub ServeHasAnsweredAtReads : Type 0
 ServeHasAnsweredAtReads =
     (taken sent : List (List ℕ)) (after : ServerState)
     → All (λ content. length content ≤ max_content_length) taken
     → IsConversation initial_server_state taken sent after
-    → (steps : List StreamStep) → OwesNothing steps
-    → (more : List ℕ) → bytes_given steps ≡ flat_map frame taken ++ more
+    → (steps : List StreamStep) (more : List ℕ) → OwesNothing steps
+    → bytes_given steps ≡ flat_map frame taken ++ more
     → (later : List ℕ) × (bytes_written steps ≡ flat_map frame sent ++ later)
-    × (is_all_flushed steps ≡ true)

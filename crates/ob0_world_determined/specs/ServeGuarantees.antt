@@ -1,14 +1,14 @@
 -- States what `serve` guarantees about the bytes that it writes, for every editor that keeps ob0's
 -- rules.
 -- Rule: docs/PROMISES.md, Client and server.
-use Rattle.std.specs.Prelude.{◌≡◌, ◌≤◌, ◌++◌, ℕ, List, [], ◌∷◌, length, All, true, Result, Ok}
+use Rattle.std.specs.Prelude.{◌≡◌, ◌≤◌, ◌++◌, ℕ, List, [], ◌∷◌, length, All, Result, Ok}
 use Rattle.std.specs.List.{flat_map}
 use Rattle.ob0_text.specs.declared.position_types.Unit.{Unit}
 use Rattle.ob0_frame.specs.Frames.{frame}
 use Rattle.ob0_frame.specs.Head.{max_content_length}
 use Rattle.ob0_session.specs.OwedAnswers.{OwesNothing}
 use Rattle.ob0_session.specs.ServeResults.{AnswersPrefixOfContents}
-use Rattle.ob0_session.specs.StreamSteps.{StreamStep, bytes_given, bytes_written, is_all_flushed}
+use Rattle.ob0_session.specs.StreamSteps.{StreamStep, bytes_given, bytes_written}
 use Rattle.ob0_session.specs.declared.serve_loop.ServeFault.{ServeFault}
 use Rattle.ob0_world_rules.specs.EveryEditor.{ExchangeTurn}
 use Rattle.serde_json.specs.Data.{Data}
@@ -38,14 +38,13 @@ pub record ServeGuaranteesHoldForExchange (begin now : Exchange) : Type 0 where
       → (more put : List ℕ) (result : Result ℕ ServeFault) → AllOutputIsWritten result
       → ServeMayReturn result (flat_map frame (now.wire.taken ++ shutdown ∷ exit ∷ []) ++ more) put
       → (put ≡ flat_map frame ((now.wire.got ++ now.wire.to_editor) ++ sent)) × (result ≡ Ok 0)
-  -- Before each read of its device, `serve` owes nothing (`NeverReadsOwing`). Then it has written and
-  -- flushed the frames of the contents that the session sent, if the bytes that it was given begin
+  -- `serve` owes nothing when it reads its device (`NeverReadsOwing`). Then it has written the frames
+  -- of the contents that the session sent, and flushed them, if the bytes that it was given begin
   -- with the frames of the contents that the session took.
   pub answered_at_reads : All (λ content. length content ≤ max_content_length) now.wire.taken
-      → (steps : List StreamStep) → OwesNothing steps → (more : List ℕ)
-      → bytes_given steps ≡ flat_map frame now.wire.taken ++ more → (later : List ℕ)
-      × (bytes_written steps ≡ flat_map frame (now.wire.got ++ now.wire.to_editor) ++ later)
-      × (is_all_flushed steps ≡ true)
+      → (steps : List StreamStep) (more : List ℕ) → OwesNothing steps
+      → bytes_given steps ≡ flat_map frame now.wire.taken ++ more
+      → (later : List ℕ) × (bytes_written steps ≡ flat_map frame (now.wire.got ++ now.wire.to_editor) ++ later)
   -- If `serve` returns `Memory`, it has answered the first contents of its input
   -- (`AnswersPrefixOfContents`). If these are exactly the contents that the session took, `serve`
   -- has written the frames of the contents that the session sent.

@@ -128,7 +128,7 @@ pub fn serve_ends_like_session()
 /// Proves that `serve` has answered as the session does whenever no answer is owed, as at the
 /// beginning of each read. Suppose that the bytes given so far begin with the frames of the contents
 /// that a session took, each of at most `max_content_length` bytes. Then the bytes written begin
-/// with the frames of the contents that the session sent, and everything is flushed.
+/// with the frames of the contents that the session sent.
 pub fn serve_has_answered_at_reads()
     ensures { ServeHasAnsweredAtReads }
 {

@@ -27,8 +27,8 @@ returns c unit begin now turns begins leads =
           c.serve_ends_like_session.ensures (now.wire.taken ++ shutdown ∷ exit ∷ []) ((now.wire.got ++ now.wire.to_editor) ++ sent) end 0 short
           (conversation_then initial_server_state now.wire.taken (now.wire.got ++ now.wire.to_editor) now.wire.session (shutdown ∷ exit ∷ []) sent end holds.conversation talked)
           (holds.ends id shutdown exit is_shutdown is_exit sent end talked).ended more put result written served;
-      answered_at_reads = λ short steps owes more given.
-          c.serve_has_answered_at_reads.ensures now.wire.taken (now.wire.got ++ now.wire.to_editor) now.wire.session short holds.conversation steps owes more given;
+      answered_at_reads = λ short steps more owes given.
+          c.serve_has_answered_at_reads.ensures now.wire.taken (now.wire.got ++ now.wire.to_editor) now.wire.session short holds.conversation steps more owes given;
       written_after_memory_fault = λ taken put part are.
           part.frames
           ∙ ap (flat_map frame)
