@@ -1,4 +1,5 @@
-"""The hints beside messages: each wrong module of inputs/slips.txt gets one that leads to its cure."""
+"""The hints beside messages: each wrong module of inputs/slips.txt gets one that leads to its cure, and so do those of
+inputs/judged_slips.txt, except the ones that are listed here."""
 from __future__ import annotations
 
 import re
@@ -8,7 +9,7 @@ from typing import NamedTuple
 import ob0_hints
 import ob0_scripts
 from harness import Server, holds, need_program, same, test, text_of
-from hinted import first_error
+from hinted import Found, first_error
 
 
 class Slip(NamedTuple):
@@ -21,29 +22,51 @@ class Slip(NamedTuple):
     text: str
 
 
-def slips() -> Iterator[Slip]:
-    """Yields the modules of inputs/slips.txt."""
-    parts = re.split(r"^== (.*)\n", text_of("tests", "inputs", "slips.txt"), flags=re.M)[1:]
+# The judged modules that get a wrong hint or none. Remove a name when a rule gets better; add none.
+WRONG = ["a colon after a call", "no END of a procedure"]
+NONE = ["END before ELSE, with a semicolon", "a reserved word as the second variable's name", "a slip in the closing name"]
+
+
+def slips(file: str) -> Iterator[Slip]:
+    """Yields the modules of a file in inputs/."""
+    parts = re.split(r"^== (.*)\n", text_of("tests", "inputs", file), flags=re.M)[1:]
     for name, part in zip(parts[::2], parts[1::2]):
         cure, says, text = part.split("\n", 2)
         old, new = cure[len("cure: ") :].replace("⏎", "\n").split(" =>", 1)
         yield Slip(name, old, new[1:], says[len("says: ") :], text.rstrip("\n") + "\n")
 
 
-@test("hints: each of the beginners' modules gets a hint for its cure, which leaves no error there or before")
+def cured(server: Server, it: Slip) -> Found:
+    """Returns the first error of a module, after a test that its cure leaves no error there or before."""
+    found = first_error(server, it.text)
+    holds(found and it.old in it.text, f"{it.name} has no error, or no place for the cure")
+    assert found
+    left = first_error(server, it.text.replace(it.old, it.new, 1))
+    holds(left is None or left.place > found.place, f"{it.name}: the cure leaves {left}")
+    return found
+
+
+@test("hints: each of the beginners' modules gets a hint that leads to its cure, and the cure leaves no error there or before")
 def lead_to_cures() -> None:
     need_program()
     count = 0
     with Server() as server:
-        for it in slips():
-            found = first_error(server, it.text)
-            holds(found and it.old in it.text, f"{it.name} has no error, or no place for the cure")
-            assert found
+        for it in slips("slips.txt"):
+            found = cured(server, it)
             count += found.message == "expected END"
-            cured = first_error(server, it.text.replace(it.old, it.new, 1))
-            holds(cured is None or cured.place > found.place, f"{it.name}: the cure leaves {cured}")
             holds(re.search(it.says, found.hint) if it.says != "-" else not found.hint, f"{it.name}: {found}")
     holds(count >= 25, f"{count} of them begin with `expected END`")
+
+
+@test("hints: of the modules that judge them, only the listed ones get a hint that doesn't lead to the cure, or none")
+def judged() -> None:
+    need_program()
+    right, wrong, none = [], [], []
+    with Server() as server:
+        for it in slips("judged_slips.txt"):
+            hint = cured(server, it).hint
+            (none if not hint else right if re.search(it.says, hint) else wrong).append(it.name)
+    same((len(right), wrong, none), (60 - len(WRONG) - len(NONE), WRONG, NONE), "right hints, wrong ones and none")
 
 
 @test("hints: tokens are found in any text, and a place without a token has a rule only for the end of the text")
