@@ -61,7 +61,9 @@ def lead_to_cures() -> None:
 @test("hints: of the modules that judge them, only the listed ones get a hint that doesn't lead to the cure, or none")
 def judged() -> None:
     need_program()
-    right, wrong, none = [], [], []
+    right: list[str] = []
+    wrong: list[str] = []
+    none: list[str] = []
     with Server() as server:
         for it in slips("judged_slips.txt"):
             hint = cured(server, it).hint
