@@ -140,7 +140,8 @@ fn command_lines_are_read(rt: HostRuntime) {
 const MODULE: &[u8] = b"MODULE M; VAR x: INTEGER; BEGIN Read(x); Write(x) END M.";
 
 /// Files, each with the statuses of the three commands and the numbers of printed and of reported
-/// bytes: the run's ` 12` and the renamed module, three lines of diagnostics, three lines of faults.
+/// bytes. They print the run's ` 12` and the renamed module, or three lines of diagnostics, or
+/// report three faults.
 static FILE_CASES: &[(&[u8], ((u8, u8, u8), usize, usize))] = &[
     (MODULE, ((0, 0, 0), 3 + MODULE.len() + 3, 0)),
     (

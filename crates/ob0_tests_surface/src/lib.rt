@@ -2,8 +2,9 @@
 //! with its variants or fields, each trait, constant and function. The result of each call has a
 //! written type, and each method is called with its receiver as the first argument. So this crate
 //! doesn't compile if such a name is renamed, or if a parameter, a result, a variant or a field
-//! changes. (Which names these are, and which of them have another form and why, is in
-//! docs/DECISIONS.md, Forms of public calls.) The tests run each call once.
+//! changes. A name that has another form than specified is used in its present form:
+//! docs/DECISIONS.md (Forms of public calls) lists these and says why. The tests run each call
+//! once.
 #![tactic(auto)]
 
 #[cfg(test)]

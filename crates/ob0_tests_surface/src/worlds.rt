@@ -1,5 +1,5 @@
-//! The names of `ob0_world`. `Played` has further fields, and `PlayFault` also has the number of the
-//! events that happened.
+//! The names of `ob0_world`. `Played` has further fields, and `PlayFault` also has the number of
+//! the events that happened.
 
 use ob0_text::{Change, Indent, Lines, Position, TextStore, Unit, Whole};
 use ob0_world::{Applied, Ask, Event, Made, PlayFault, Played, Seen, World, WorldFault};
