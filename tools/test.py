@@ -28,7 +28,7 @@ from common import TOP
 LINE = re.compile(r"^(\d+) passed, (\d+) failed(?:, (\d+) skipped)?$")
 RESULTS = os.path.join(TOP, "bin", "results")
 # How many tests there are at least, passed or left out by name. (A test holds these numbers near those of the present tests.)
-LEAST = {"the gate": 81, "end to end": 560}
+LEAST = {"the gate": 82, "end to end": 560}
 
 
 class Counts(NamedTuple):
