@@ -8,6 +8,7 @@ import os
 import re
 import shlex
 import sys
+from typing import List, Set
 
 import common
 import edits
@@ -112,27 +113,60 @@ def sizes_counted() -> None:
         holds(word in said, f"{word}: {said}")
 
 
-# pages whose names in backticks are those of functions, definitions, types and files
-CITING = ["docs/PROMISES.md", "docs/ARCHITECTURE.md", "docs/GLOSSARY.md", "docs/PROVING.md", "CONTRIBUTING.md", "docs/notes/*.md"]
-# words in backticks that name no part of the sources: of the kit, of the system, of commands, or examples
+# pages with names in backticks that aren't of the sources: words that users type, and what isn't Oberon-0
+OF_USERS = ("docs/MESSAGES.md", "editors/", "examples/")
+# words in backticks that name no part of the sources: of the kit, of the system, of editors, of commands, or examples
 OTHERS = {"FILE", "NAME", "WORDS", "XWriteJson", "X_made", "Lts", "Proof", "tidy", "Serialize", "getrusage", "nm"}
+OTHERS |= {"Interrupted", "Rc", "changedtick", "codeDescription", "keystroke", "text_of_value"}
+# what the kit's names in pairs belong to
+OF_KIT = {"Box", "Read", "Vec", "Write"}
 
 
-@test("sources: the names that the pages on promises, architecture, words and proofs, and the notes cite are in the sources")
-def cited_names() -> None:
-    files = [it for part in ("src", "specs", "proofs") for it in glob.glob(os.path.join(TOP, "crates", "*", part, "**", "*"), recursive=True)]
+def known_words() -> Set[str]:
+    """The words of the sources, and the names of files, crates and mutants."""
+    parts = [os.path.join(TOP, "crates", "*", part, "**", "*") for part in ("src", "specs", "proofs")]
+    files = [it for part in parts for it in glob.glob(part, recursive=True)]
     files += glob.glob(os.path.join(TOP, "t*", "**", "*.py"), recursive=True)
     words = {word for it in files if os.path.isfile(it) for word in re.findall(r"\w+", text_of(it))}
     words |= {word for it in files for word in re.findall(r"\w+", os.path.relpath(it, TOP))} | {*common.listed()} | OTHERS
     words |= {word for names in common.listed().values() for word in names}
     # (of mutants the names count, and not what is in them)
-    words |= {os.path.splitext(os.path.basename(it.file))[0] for crate in common.listed() for it in edits.edits_of(crate)}
-    pages = [os.path.relpath(it, TOP) for page in CITING for it in sorted(glob.glob(os.path.join(TOP, page)))]
-    holds(len(pages) > len(CITING), "no notes were found")
+    mutants = [it for crate in common.listed() for it in edits.edits_of(crate)]
+    return words | {os.path.splitext(os.path.basename(it.file))[0] for it in mutants}
+
+
+def known_pairs() -> Set[str]:
+    """`A::b` for each function, variant and public field `b` of a type, trait, module or crate `A`."""
+    found = set()
+    for crate in common.listed():
+        source = reading.Source(crate)
+        for it in source.functions:
+            found |= {f"{owner}::{it.name}" for owner in (crate, *it.module[-1:], it.owner) if owner}
+        for item in source.type_items:
+            found.add(f"{crate}::{item.name}")
+            found |= {f"{item.name}::{word}" for part in item.parts for word in re.findall(r"^\w+", part)}
+        found |= {f"{crate}::{word}" for _, words in source.brought_out for word in words}
+    return found
+
+
+def all_pages() -> List[str]:
+    """Each page of the repository, by its path."""
+    patterns = ("*.md", "docs/*.md", "docs/notes/*.md", "editors/**/*.md", "examples/**/*.md")
+    found = [it for pattern in patterns for it in sorted(glob.glob(os.path.join(TOP, pattern), recursive=True))]
+    return [os.path.relpath(it, TOP) for it in found]
+
+
+@test("sources: the names that the pages cite are in the sources, and `A::b` is a name of `A`")
+def cited_names() -> None:
+    words, pairs, pages = known_words(), known_pairs(), all_pages()
+    holds(len(pages) > 40 and len(pairs) > 2000, "few pages or names were found")
     for page in pages:
         text = re.sub(r"^```.*?^```$", "", text_of(page), flags=re.M | re.S)
-        cited = {it for it in re.findall(r"`([A-Za-z]\w*(?:::\w+)?)`", text)}
-        same(sorted(it for it in cited if not all(word in words for word in it.split("::"))), [], f"what {page} cites and isn't there")
+        cited = {tuple(it.split("::")) for it in re.findall(r"`([A-Za-z]\w*(?:::\w+)*)`", text)}
+        single = [] if page.startswith(OF_USERS) else sorted("::".join(it) for it in cited if not words.issuperset(it))
+        same(single, [], f"what {page} cites and isn't there")
+        paired = ("::".join(it[-2:]) for it in cited if len(it) > 1 and it[-2] not in OF_KIT)
+        same(sorted({*paired} - pairs), [], f"what {page} cites, of which the second is no name of the first")
 
 
 @test("sources: each search that a recipe begins with finds something beside the recipe")
