@@ -163,10 +163,10 @@ PARTS = {"docs/STATEMENT.md": PAGE, **{f"Part {part}": "" for part in range(4, 1
 SUMS = {"Without the language": 3, "With the language": 4}
 
 
-@test("statement: without the language the pages have at most 250 definitions and 1,160 lines, with it 495 and 2,800")
+@test("statement: without the language the pages have at most 260 definitions and 1,190 lines, with it 505 and 2,800")
 def short_enough() -> None:
     table = rows()
-    for name, most in (("Without the language", (250, 1160)), ("With the language", (495, 2800))):
+    for name, most in (("Without the language", (260, 1190)), ("With the language", (505, 2800))):
         many, lines = table[name][:2]
         holds(0 < many <= most[0] and 0 < lines <= most[1], f"{name}: {many} definitions and {lines} lines")
 

@@ -1,10 +1,10 @@
 -- Proves that an unfinished message has fewer bytes than the longest head and the longest content
 -- have together. In more bytes a head would end, since otherwise no message could begin with them.
 -- The head would be accepted, for the same reason, and its content would be complete.
-use Rattle.std.proofs.Common.{◌≡◌, ◌∙◌, ◌<◌, ◌≤◌, ◌+◌, ◌-◌, ℕ, zero, suc, inl, inr, List, [], ◌∷◌, ◌++◌, length, take, drop, sym, ap, subst, arith}
+use Rattle.std.proofs.Common.{◌≡◌, ◌∙◌, ◌<◌, ◌≤◌, ◌+◌, ℕ, zero, suc, inl, inr, List, [], ◌∷◌, ◌++◌, length, take, drop, sym, ap, subst, arith}
 use Rattle.std.proofs.Math.Nat.{lt_of_not-le}
 use Rattle.std.proofs.lemmas.List.{length-drop, length-take-le, take-append-drop, take-take, take_all}
-use Rattle.ob0_frame.specs.Frames.{BeginsWithNoMessage, BeginsWithMessage, CannotBeginMessage, Frames}
+use Rattle.ob0_frame.specs.Frames.{BeginsWithNoMessage, CannotBeginMessage, Frames}
 use Rattle.ob0_frame.specs.Head.{AnnouncesContentLength, EndsInEmptyLine, IsHead, max_content_length, max_head_length}
 use Rattle.ob0_world_determined.specs.DeterminedOutput.{UnfinishedMessageIsBounded}
 
