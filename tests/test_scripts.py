@@ -245,6 +245,8 @@ def traced() -> None:
             "errors",
         )
         same(ran(["ob0-trace", "m.mod"], work, own, "x"), (4, "", "m.mod: fault: Input\n"), "another input")
+        closed = ran(["sh", "-c", "exec ob0-trace m.mod <&-"], work, own)
+        same(closed, (4, "", "m.mod: standard input is closed\n"), "a standard input that is closed")
         same(ran(["ob0-trace", "nowhere"], work, own), (4, "", "nowhere: No such file or directory\n"), "no file")
         same(ran(["ob0-trace", "--calls", "65", "m.mod"], work, own)[:2], (2, ""), "a bound that is too large")
 
@@ -598,6 +600,8 @@ def check_places() -> None:
             (1, "0:0: TooLong: text too long\n", ""),
             "the same by the program",
         )
+        closed = ran(["sh", "-c", "exec ob0-check - <&-"], work, own)
+        same(closed, (4, "", "-: it is closed\n"), "a standard input that is closed")
         for name in ("-", "/dev/stdin"):
             same(
                 ran(["ob0-check", name], work, own, FAULTY)[1],

@@ -2,7 +2,8 @@
 fits gives the hint. A rule is for a message, and its conditions are on the token at the error (`at`), the two before
 it, the next one, the first and the last one in the line, whether the line is a `new` one for the token before, and
 whether a RECORD without END is above (`inside`). A condition lists tokens: a word in small letters stands for any but
-the reserved word, and `<name>` and the like for a class. docs/MESSAGES.md has a row for each rule, which `see` names."""
+the reserved word, and `<name>` and the like for a class. docs/MESSAGES.md has a row for each rule, which `see`
+names."""
 from __future__ import annotations
 
 import bisect

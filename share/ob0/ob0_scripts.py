@@ -162,6 +162,8 @@ def place_of(text: bytes, starts: List[int], position: Dict[str, int]) -> Place:
 
 def bytes_of(path: str) -> bytes:
     """Returns the bytes of a file or of standard input; of more than a module may have, one byte too many."""
+    if path == STANDARD_INPUT and sys.stdin is None:
+        raise OSError(errno.EBADF, "it is closed")
     if path == STANDARD_INPUT:
         return sys.stdin.buffer.read(LONGEST + 1)
     with open(path, "rb") as file:
