@@ -103,10 +103,10 @@ def edits_of_kit() -> None:
     holds(not any(edits.has(crate, "gate-mutants") for crate in common.listed()), "a folder that nothing reads")
 
 
-# The calls that the promises are about: of each an edit changes the public function itself.
+# The calls that the promises are about: of each an edit changes the public function itself. (`serve` only calls `serve_stream`.)
 PROMISED = (
     "Documents::did_change", "Framer::feed", "Session::step", "captures", "check", "command", "execute", "format", "inline_all",
-    "inline_here", "parse", "rename", "run", "serve",
+    "inline_here", "parse", "rename", "run", "serve_stream",
 )  # fmt: skip
 
 
