@@ -1,9 +1,9 @@
 """Hints beside the messages of errors: what a beginner probably meant. They come from hints.json, whose first rule that
 fits gives the hint. A rule is for a message, and its conditions are on the token at the error (`at`), the two before
 it, the next one, the first and the last one in the line, whether the line is a `new` one for the token before, and
-whether a RECORD without END is above (`inside`). A condition lists tokens: a word in small letters stands for any but
-the reserved word, and `<name>` and the like for a class. docs/MESSAGES.md has a row for each rule, which `see`
-names."""
+the word that opens the innermost construct around it (`inside`). A condition lists tokens: a word in small letters
+stands for any but the reserved word, and `<name>` and the like for a class. docs/MESSAGES.md has a row for each rule,
+which `see` names."""
 from __future__ import annotations
 
 import bisect
@@ -16,6 +16,7 @@ from typing import Dict, List, NamedTuple, Optional
 from reference.scanner import WORDS as RESERVED
 
 TOKEN = re.compile(rb"\(\*|\*\)|[A-Za-z][A-Za-z0-9]*|[0-9][0-9A-Za-z]*|:=|<=|>=|[^\x00-\x7f]+|[^ \t\r\n]")
+OPENING = ("MODULE", "PROCEDURE", "RECORD", "IF", "WHILE", "REPEAT")
 FIELDS = ("at", "before", "before2", "next", "first", "last", "line", "inside")
 
 Rule = Dict[str, str]
@@ -84,7 +85,6 @@ class Hints:
         before2, before, at, following = around[index : index + 4]
         line = at.line or before.line
         in_line = [it.text for it in self.tokens if it.line == line] or [""]
-        ended = [it.text for it in self.tokens[:index] if it.text in ("RECORD", "END")] or [""]
         return {
             "at": at.text,
             "before": before.text,
@@ -92,10 +92,20 @@ class Hints:
             "next": following.text,
             "first": in_line[0],
             "last": in_line[-1],
-            "inside": ended[-1],
+            "inside": self.inside(index),
             "line": "same" if line == before.line else "new",
             "number": str(before.line),
         }
+
+    def inside(self, index: int) -> str:
+        """Returns the word that opens the innermost construct that isn't ended before a token, or an empty text."""
+        opened: List[str] = []
+        for it in self.tokens[:index]:
+            if it.text in OPENING:
+                opened.append(it.text)
+            elif it.text in ("END", "UNTIL") and opened:
+                opened.pop()
+        return opened[-1] if opened else ""
 
     def rule(self, message: str, offset: int) -> Optional[Rule]:
         """Returns the first rule that fits an error, or None."""
