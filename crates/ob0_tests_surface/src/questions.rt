@@ -7,12 +7,13 @@ use ob0_scope::Resolved;
 use ob0_types::WellTyped;
 use std::alloc::{AllocError, Global};
 
-/// Returns the ordinal of a declaration, 0 for a predeclared name, and the index of a field.
+/// Returns the ordinal of a declaration, 0 for a predeclared name, and for a field the sum of its
+/// numbers.
 fn number_of(of: Of) -> usize {
     match of {
         Of::Declared(ordinal) => ordinal,
         Of::Predeclared => 0,
-        Of::Field { ordinal, index } => ordinal + index,
+        Of::Field { ordinal, index } => ordinal.saturating_add(index),
     }
 }
 
