@@ -100,7 +100,8 @@ def furnish(room: str, ci: str, first: str, rest: str, others: int = 0, tried: T
 
 def environment(room: str, **named: str) -> Dict[str, str]:
     """The variables of a run in a room, with some that have no effect there."""
-    own = {**os.environ, "PATH": os.path.join(room, "path") + os.pathsep + os.environ["PATH"], **dict.fromkeys(VARIABLES, "0")}
+    kept = {key: value for key, value in os.environ.items() if key != "OB0_MAY_LACK"}  # (.ci/run sets it)
+    own = {**kept, "PATH": os.path.join(room, "path") + os.pathsep + os.environ["PATH"], **dict.fromkeys(VARIABLES, "0")}
     own["TMPDIR"] = os.path.join(room, "tmp")
     os.makedirs(own["TMPDIR"], exist_ok=True)
     os.chmod(room, 0o711)
