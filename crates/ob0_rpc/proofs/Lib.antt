@@ -1,3 +1,2 @@
 pub mod AppendedJson
-mod Lists
 mod Whole

@@ -1,12 +1,13 @@
 //! Reads the members of JSON objects, such as params, and the positions and ranges in them.
-ghost use Rattle.std.specs.Prelude.{◌≡◌, option_map, string_bytes};
+ghost use Rattle.std.specs.Prelude.{◌≡◌, IfOk, option_map, string_bytes};
 ghost use Rattle.std.specs.Str.{chars};
-ghost use Rattle.serde_json.specs.Find.{as_str, get};
+ghost use Rattle.serde_json.specs.Find.{get};
 ghost use Rattle.serde_json.specs.View.{view};
 ghost use Rattle.ob0_rpc.specs.Members.{is_absent_or_null as absent, text_member, bool_member, unsigned_member, document_uri, document_version, document_text, position_from_json, position_member, range_from_json, range_member};
 
 use ob0_text::{Position, Range};
 use serde_json::Value;
+use std::alloc::{AllocError, Global};
 
 /// Returns whether an optional member is absent (None) or null.
 pub fn is_absent_or_null(member: Option<&Value>) -> bool
@@ -57,20 +58,32 @@ pub fn document_version_in_params(params: &Value) -> Option<i64>
     params.get("textDocument")?.get("version")?.as_i64()
 }
 
-/// Moves the text of the document (`textDocument.text`) out of params. Returns None if the text is
-/// missing or isn't a string.
-pub fn into_document_text(params: Value) -> Option<String>
-    ensures { option_map (λ s. chars (string_bytes s)) result ≡ document_text (view params) }
+/// Returns a copy of the text of the document in params (`textDocument.text`). Returns None if the
+/// text is missing or isn't a string.
+pub fn copy_document_text(alloc: Global, params: &Value) -> Result<Option<String>, AllocError>
+    ensures { IfOk result (λ text. option_map (λ s. chars (string_bytes s)) text
+        ≡ document_text (view params.now)) }
 {
-    into_text_member(into_member(params, "textDocument")?, "text")
+    match params.get("textDocument") {
+        Some(document) => copy_text_of_member(alloc, document, "text"),
+        None => Ok(None),
+    }
 }
 
-/// Moves the text of the member `name` out of a value. Returns None if the member is absent or
-/// isn't a string.
-pub fn into_text_member(value: Value, name: &str) -> Option<String>
-    ensures { option_map string_bytes result ≡ text_member name.now (view value) }
+/// Returns a copy of the text of the member `name`. Returns None if the member is absent or isn't a
+/// string.
+pub fn copy_text_of_member(
+    alloc: Global,
+    value: &Value,
+    name: &str,
+) -> Result<Option<String>, AllocError>
+    ensures { IfOk result
+        (λ text. option_map string_bytes text ≡ text_member name.now (view value.now)) }
 {
-    into_json_string(into_member(value, name)?)
+    match text_of_member(value, name) {
+        Some(text) => Ok(Some(String::from_str(alloc, text)?)),
+        None => Ok(None),
+    }
 }
 
 /// Moves the member `name` out of a value. Returns None if the value has no such member.
@@ -84,20 +97,6 @@ pub fn into_member(value: Value, name: &str) -> Option<Value>
         Value::String(_) => None,
         Value::Array(_) => None,
         Value::Object(mut members) => members.remove(name),
-    }
-}
-
-/// Moves the text out of a JSON string. Returns None if the value isn't a string.
-fn into_json_string(value: Value) -> Option<String>
-    ensures { option_map string_bytes result ≡ as_str (view value) }
-{
-    match value {
-        Value::Null => None,
-        Value::Bool(_) => None,
-        Value::Number(_) => None,
-        Value::String(text) => Some(text),
-        Value::Array(_) => None,
-        Value::Object(_) => None,
     }
 }
 

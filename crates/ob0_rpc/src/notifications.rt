@@ -7,7 +7,7 @@ ghost use Rattle.ob0_rpc.specs.MessageViews.{ReadsNotification, notification_vie
 
 use crate::changes::read_changes;
 use crate::incoming_messages::RpcFault;
-use crate::members::{document_uri_in_params, document_version_in_params, into_document_text};
+use crate::members::{copy_document_text, document_uri_in_params, document_version_in_params};
 use ob0_text::Change;
 use serde_json::Value;
 use std::alloc::{AllocError, Global};
@@ -37,11 +37,10 @@ pub enum ClientNotification {
     Other,
 }
 
-/// Reads a notification from its method and its params. Texts of documents are moved out of the
-/// params, not copied. Params that can't be read give `Unreadable`, and an unknown method gives
-/// `Other`, so the only possible fault is `Memory`.
-pub fn notice(alloc: Global, method: &str, params: Value) -> Result<ClientNotification, RpcFault>
-    ensures { ReadsNotification method.now (view params) result }
+/// Reads a notification from its method and its params. Params that can't be read give
+/// `Unreadable`, and an unknown method gives `Other`, so the only possible fault is `Memory`.
+pub fn notice(alloc: Global, method: &str, params: &Value) -> Result<ClientNotification, RpcFault>
+    ensures { ReadsNotification method.now (view params.now) result }
 {
     if method == "exit" {
         Ok(ClientNotification::Exit)
@@ -50,25 +49,25 @@ pub fn notice(alloc: Global, method: &str, params: Value) -> Result<ClientNotifi
     } else if method == "textDocument/didChange" {
         Ok(read_did_change(alloc, params)?)
     } else if method == "textDocument/didClose" {
-        Ok(read_did_close(alloc, &params)?)
+        Ok(read_did_close(alloc, params)?)
     } else {
         Ok(ClientNotification::Other)
     }
 }
 
 /// Reads the params of `textDocument/didOpen`. If they can't be read, returns `Unreadable`.
-fn read_did_open(alloc: Global, params: Value) -> Result<ClientNotification, AllocError>
+fn read_did_open(alloc: Global, params: &Value) -> Result<ClientNotification, AllocError>
     ensures { IfOk result (λ note. notification_view note
-        ≡ open_or_unreadable (document_uri (view params)) (document_version (view params))
-        (document_text (view params))) }
+        ≡ open_or_unreadable (document_uri (view params.now)) (document_version (view params.now))
+        (document_text (view params.now))) }
 {
-    let Some(uri) = document_uri_in_params(&params) else {
+    let Some(uri) = document_uri_in_params(params) else {
         return Ok(ClientNotification::Unreadable { uri: None });
     };
     let uri = String::from_str(alloc, uri)?;
     match (
-        document_version_in_params(&params),
-        into_document_text(params),
+        document_version_in_params(params),
+        copy_document_text(alloc, params)?,
     ) {
         (Some(version), Some(text)) => Ok(ClientNotification::Open { uri, version, text }),
         _ => Ok(ClientNotification::Unreadable { uri: Some(uri) }),
@@ -76,17 +75,17 @@ fn read_did_open(alloc: Global, params: Value) -> Result<ClientNotification, All
 }
 
 /// Reads the params of `textDocument/didChange`. If they can't be read, returns `Unreadable`.
-fn read_did_change(alloc: Global, params: Value) -> Result<ClientNotification, AllocError>
+fn read_did_change(alloc: Global, params: &Value) -> Result<ClientNotification, AllocError>
     ensures { IfOk result (λ note. notification_view note
-        ≡ change_or_unreadable (document_uri (view params)) (document_version (view params))
-        (changes_in (view params))) }
+        ≡ change_or_unreadable (document_uri (view params.now)) (document_version (view params.now))
+        (changes_in (view params.now))) }
 {
-    let Some(uri) = document_uri_in_params(&params) else {
+    let Some(uri) = document_uri_in_params(params) else {
         return Ok(ClientNotification::Unreadable { uri: None });
     };
     let uri = String::from_str(alloc, uri)?;
     match (
-        document_version_in_params(&params),
+        document_version_in_params(params),
         read_changes(alloc, params)?,
     ) {
         (Some(version), Some(changes)) => Ok(ClientNotification::Change {

@@ -450,10 +450,24 @@ impl<T: TextStore> Session<T> {
         ensures { IfOk result (λ sent. MatchesReaction
             (apply_notification self.old (notification_by_method method.now (view params))) sent self.new) }
     {
-        let Ok(note) = notice(self.alloc, method, params) else {
-            return Err(AllocError);
-        };
+        let note = self.parse_notification(method, params)?;
         self.apply_notification(note)
+    }
+
+    /// Reads a notification from its method and its params. Frees the params, so that a text isn't
+    /// stored twice while the notification is applied.
+    fn parse_notification(
+        &self,
+        method: &str,
+        params: Value,
+    ) -> Result<ClientNotification, AllocError>
+        ensures { IfOk result
+            (λ note. notification_by_method method.now (view params) ≡ notification_view note) }
+    {
+        match notice(self.alloc, method, &params) {
+            Ok(note) => Ok(note),
+            Err(_fault) => Err(AllocError),
+        }
     }
 
     /// Ends the session because of `exit`. The exit status is 0 after `shutdown`, otherwise 1.

@@ -238,7 +238,7 @@ fn note_in_words(note: &Note) -> &'static str {
 
 /// Returns in words the meaning of a notification with this method and these params, or the fault
 /// of reading it.
-fn parsed_notification_in_words(alloc: Global, method: &str, params: Value) -> &'static str {
+fn parsed_notification_in_words(alloc: Global, method: &str, params: &Value) -> &'static str {
     match notice(alloc, method, params) {
         Ok(note) => note_in_words(&note),
         Err(fault) => fault.text(),
@@ -249,7 +249,7 @@ fn parsed_notification_in_words(alloc: Global, method: &str, params: Value) -> &
 /// the expected meaning.
 fn notification_has_meaning(alloc: Global, method: &str, params: &str, wanted: &str) -> bool {
     match Value::from_str(alloc, params) {
-        Ok(params) => parsed_notification_in_words(alloc, method, params) == wanted,
+        Ok(params) => parsed_notification_in_words(alloc, method, &params) == wanted,
         Err(_fault) => false,
     }
 }
