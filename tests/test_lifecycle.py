@@ -279,6 +279,21 @@ def prompted() -> None:
         holds(said.decode().strip() in page, "a page that doesn't have this line")
 
 
+@test("program: `serve` says on standard error that an editor starts it, where standard input is a terminal")
+def served_at_terminal() -> None:
+    same(run(["serve"]).err, b"", "what is said if standard input is no terminal")
+    keys, terminal = os.openpty()
+    os.write(keys, b"\x04")
+    how: dict[str, Any] = {"stdin": terminal, "capture_output": True, "timeout": harness.SECONDS}
+    ran = subprocess.run([harness.BINARY, "serve"], check=False, **how)
+    os.close(keys)
+    os.close(terminal)
+    said = "ob0: an editor starts `ob0 serve` and talks to it (Ctrl-D ends it)"
+    same((ran.stdout, ran.stderr, ran.returncode), (b"", f"{said}\n".encode(), 1), "what is said")
+    for page in (text_of("docs", "MESSAGES.md"), text_of("share", "ob0.1").replace("\\-", "-")):
+        holds(said in page, "a page that doesn't have this line")
+
+
 @test("program: the version is printed on standard output, status 0, and is that of CHANGELOG.md and of the manual page")
 def version() -> None:
     # (where no version was released yet, it is the first one)
