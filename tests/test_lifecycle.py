@@ -199,7 +199,7 @@ def refused_lines() -> None:
 HELP_HEADS = {
     "": ("A language server for Oberon-0", "<COMMAND>"),
     "serve": ("Serve one conversation with an editor over standard input and output", "serve [OPTIONS]"),
-    "check": ("Print what is wrong with a module", "check <FILE>"),
+    "check": ("Print the errors of a module", "check <FILE>"),
     "run": ("Run a module on the numbers of standard input", "run [OPTIONS] <FILE>"),
     "rename": ("Print a module with another name for one of its names", "rename <FILE> <LINE> <COLUMN> <NAME>"),
 }

@@ -423,14 +423,14 @@ def tried_by(function: Callable[[], object]) -> Tuple[List[str], str]:
     return sorted(tried), said.getvalue()
 
 
-@test("mutants: `make test` tries the drawn ones, whatever their rows say, and prints the words that try them again")
+@test("mutants: `make test` tries those of the drawn ones that have a row of their present form, and prints the words that try them again")
 def drawn_again() -> None:
     found = verdicts.Mutants()
     with mock.patch.object(mutants, "Mutants", lambda: found):
         tried, said = tried_by(lambda: mutants.try_some(mutants.Libraries("no folder")))
         start = common.match_of(r"--from (\d+)", said)[1]
         same(sorted(it.path for it in mutants.drawn_from(found, int(start))), tried, said)
-        same(len([it for it in tried if not it.endswith(edits.RIGHT)]), mutants.DRAWN, said)
+        holds(0 < len([it for it in tried if not it.endswith(edits.RIGHT)]) <= mutants.DRAWN, said)
         same(tried_by(lambda: mutants.main(["--from", start]))[0], tried, "those that are tried again")
         for words in (["--from", "0"], ["--from", str(len(found.mutants) + 1)], ["--from", "1", "ob0_text"]):
             with contextlib.redirect_stderr(io.StringIO()) as wrong:

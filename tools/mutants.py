@@ -341,7 +341,9 @@ def drawn_from(mutants: Mutants, number: int) -> List[Edit]:
     or two, so they need few checks.)"""
     found = mutants.mutants
     paths = [found[(number - 1 + it) % len(found)] for it in range(min(len(found), DRAWN))]
-    return [mutants.edits[it] for path in paths for it in (path, path + edits.RIGHT) if it in mutants.edits]
+    forms = [it for path in paths for it in (path, path + edits.RIGHT) if it in mutants.edits]
+    # (what was never tried in its present form is left to `make wrong-bodies`)
+    return [mutants.edits[it] for it in forms if mutants.is_current(it)] or [mutants.edits[it] for it in forms[:1]]
 
 
 def try_some(libraries: checks.Libraries) -> Tuple[int, int]:
