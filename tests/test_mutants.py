@@ -423,7 +423,7 @@ def tried_by(function: Callable[[], object]) -> Tuple[List[str], str]:
     return sorted(tried), said.getvalue()
 
 
-@test("mutants: `make test` tries those of the drawn ones that have a row of their present form, and prints the words that try them again")
+@test("mutants: `make test` tries the drawn ones that have a current row, and prints the words that try them again")
 def drawn_again() -> None:
     found = verdicts.Mutants()
     with mock.patch.object(mutants, "Mutants", lambda: found):
