@@ -24,10 +24,10 @@ use Rattle.ob0_language_types.specs.Expressions.{Meanings}
 use Rattle.ob0_language_values.specs.Values.{Shape}
 use Rattle.ob0_types_fields.specs.OwnerTables.{is_token_of_field}
 use Rattle.ob0_types_fields.proofs.ByToken.{renaming_follows_owners-holds}
-use Rattle.ob0_types_fields.specs.IdentifierOwners.{fields_in_block, fields_in_parameter_sections, fields_in_procedure, fields_in_procedures, fields_in_tree, fields_in_types, fields_in_variables, fields_with_owners, identifier_owners_in_resolution, meanings_by_token, table_with_owners}
-use Rattle.ob0_types_fields.specs.FieldIdentifiers.{AreInTextOrder, RenamingChangesFieldTokens, belongs_to_field, declared_fields, field_at_offset, field_identifiers, field_tokens_in_module, fields_declared_in_block, fields_declared_in_procedure, fields_declared_in_procedures, token_indexes, tokens_of_field}
-use Rattle.ob0_types_fields.proofs.OwnersByToken.{module-tokens, table_with_entered_owners_is_owner_table-holds, tokens}
-use Rattle.ob0_types_fields.proofs.WalkedFields.{module-fields}
+use Rattle.ob0_language_fields.specs.MarkedFields.{mark_module, marking_declarations}
+use Rattle.ob0_types_fields.specs.IdentifierOwners.{declared_identifiers, fields_with_owners, identifier_owners_in_resolution, owner, table_with_owners}
+use Rattle.ob0_types_fields.specs.FieldIdentifiers.{AreInTextOrder, RenamingChangesFieldTokens, belongs_to_field, declared_fields, field_at_offset, field_identifiers, field_tokens_in_module, token_indexes, tokens_of_field}
+use Rattle.ob0_types_fields.proofs.OwnersByToken.{declared-tokens, module-tokens, table_with_entered_owners_is_owner_table-holds, tokens}
 
 -- ---- fields among identifiers
 
@@ -51,47 +51,17 @@ fields_are_identifiers r parsed =
     among_are_identifiers r.module_read.source.tokens (identifier_owners_in_resolution r)
     (subst (AreIdentifierTokens r.module_read.source.tokens) (sym (module-tokens r)) (leaves_are_identifiers r.module_read parsed))
 
--- ---- the declared fields are among all fields, so there are no more of them than tokens
+-- ---- there are no more declared fields than tokens
 
 pub ascending_few : (low : ℕ) (xs : List ℕ) (high : ℕ) → AreAscendingWithin low xs high → low + length xs ≤ high
 ascending_few low [] high h = omega (arith, h)
 ascending_few low (x ∷ xs) high h = let later = ascending_few (x + 1) xs high h.1 in omega (arith, h.0, later)
 
-module _ {P : Type 0} (m : Meanings ℕ Shape P) where
-  mutual
-    block_declares : (k : ℕ) (b : Tree ℕ block) → length (fields_declared_in_block k b) ≤ length (fields_in_block m k b)
-    block_declares k (forms_block (declares cs ts vs ps) statements) =
-        let b : Tree ℕ block = forms_block (declares cs ts vs ps) statements in
-        let T = fields_in_types k (section_types ts) in
-        let V = fields_in_variables (constructor_count_before_variables k b) (section_variables vs) in
-        let j : ℕ = constructor_count_before_procedures k b in
-        let D = fields_declared_in_procedures j ps in
-        let Q = fields_in_procedures m j ps in
-        omega (arith, procedures_declare j ps, length-append T (V ++ D), length-append V D, length-append (T ++ (V ++ Q)) (fields_in_tree m statements), length-append T (V ++ Q), length-append V Q)
-
-    procedures_declare : (k : ℕ) (ps : Tree ℕ (items procedure)) → length (fields_declared_in_procedures k ps) ≤ length (fields_in_procedures m k ps)
-    procedures_declare k end = omega arith
-    procedures_declare k (more p rest) =
-        let j : ℕ = k + procedure_constructor_count p in
-        omega (arith, procedure_declares k p, procedures_declare j rest, length-append (fields_declared_in_procedure k p) (fields_declared_in_procedures j rest), length-append (fields_in_procedure m k p) (fields_in_procedures m j rest))
-
-    procedure_declares : (k : ℕ) (p : Tree ℕ (item procedure)) → length (fields_declared_in_procedure k p) ≤ length (fields_in_procedure m k p)
-    procedure_declares k (declares_procedure x fs b closing) =
-        let j : ℕ = constructor_count_before_procedure_block k (declares_procedure x fs b closing) in
-        let F = fields_in_parameter_sections k (formal_parameter_sections fs) in
-        omega (arith, block_declares j b, length-append F (fields_declared_in_block j b), length-append F (fields_in_block m j b))
-
 pub declared_are_few : (r : Resolution) → TreeMatchesText r.module_read → length (declared_fields r.module_read) ≤ length r.module_read.source.tokens
 declared_are_few r parsed =
-    let m = meanings_by_token (declared_object (named_tree_of r.module_read)) r in
-    let fields = field_identifiers r in
-    omega (
-      arith,
-      block_declares m 0 (module_block (tree_of r.module_read)),
-      ap length (module-fields m (tree_of r.module_read)),
-      ascending_few 0 (token_indexes fields) (length r.module_read.source.tokens) (fields_ascend r parsed),
-      length-map fields (λ (x : FieldIdentifier). x.token),
-    )
+    let n : ℕ = length r.module_read.source.tokens in
+    let ascend = among_ascend (declared_identifiers (mark_module marking_declarations tt (tree_of r.module_read))) 0 n (subst (λ ts. AreAscendingWithin 0 ts n) (sym (declared-tokens (tree_of r.module_read))) (leaves_ascend r.module_read parsed)) in
+    omega (arith, ascending_few 0 (token_indexes (declared_fields r.module_read)) n ascend, length-map (declared_fields r.module_read) (λ (x : FieldIdentifier). x.token))
 
 -- ---- one field among fields
 

@@ -6,7 +6,7 @@ use Rattle.ob0_language_types.specs.Typing.{named_field_shape}
 use Rattle.ob0_types_table.specs.declared.declaration_table.FieldId.{FieldId}
 use Rattle.ob0_types_table.specs.FieldPlaces.{position_of_field}
 use Rattle.ob0_language_values.specs.Values.{FieldShapes, Shape, next_field_shape, no_field_shape, record_shape}
-use Rattle.ob0_types_fields.specs.IdentifierOwners.{field_if_owned, owner}
+use Rattle.ob0_types_fields.specs.IdentifierOwners.{owner}
 
 -- returns the ordinal `k` of the record if a field has a position in the record
 abbrev owner_with : ℕ → Option ℕ → Option ℕ
@@ -25,6 +25,6 @@ owner_at k (next_field_shape y s rest) x = by_test (same_name x y) (owner_at k r
     by_test true later = refl
     by_test false later = one_further k (position_of_field rest x) ∙ later
 
--- The field that is appended for a name depends on whether the record has a type for the name.
-pub marked_by_type : (k : ℕ) (fs : FieldShapes) (x : Name) (name : ℕ) (t : Option Shape) → t ≡ named_field_shape fs x → field_if_owned name (owner (Some (record_shape k fs)) x) ≡ field_if_owned name (option_map (λ _. k) t)
-marked_by_type k fs x name t e = ap (field_if_owned name) (owner_at k fs x ∙ ap (option_map (λ _. k)) (sym e))
+-- The owner of a name depends on whether the record has a type for the name.
+pub marked_by_type : (k : ℕ) (fs : FieldShapes) (x : Name) (t : Option Shape) → t ≡ named_field_shape fs x → owner (Some (record_shape k fs)) x ≡ option_map (λ _. k) t
+marked_by_type k fs x t e = owner_at k fs x ∙ ap (option_map (λ _. k)) (sym e)

@@ -10,9 +10,11 @@ use Rattle.ob0_types_fields.specs.declared.field_visitors.DeclaredField.{Declare
 use Rattle.ob0_types_fields.specs.declared.field_visitors.DeclaredFieldSearch.{DeclaredFieldSearch}
 use Rattle.ob0_types_fields.specs.declared.field_visitors.FieldSearch.{FieldSearch}
 use Rattle.ob0_types_fields.specs.declared.field_visitors.NamedField.{NamedField}
-use Rattle.ob0_types_fields.specs.FieldVisitors.{collection_after_field, declared_index, declared_search_after_field, declared_search_after_token, declared_token, search_after_field}
+use Rattle.ob0_types_fields.specs.IdentifierOwners.{owner}
 use Rattle.ob0_types_fields.specs.FieldWalks.{state_after_fields}
 use Rattle.ob0_types_fields.specs.FieldIdentifiers.{belongs_to_field, field_at_token, field_tokens_of_record, first_token, tokens_of_field}
+use Rattle.ob0_types_fields.proofs.OwnersByToken.{tokens}
+use Rattle.ob0_types_fields.specs.FieldVisitors.{collection_after_field, declared_index, declared_search_after_field, declared_search_after_token, declared_token, search_after_field}
 
 -- ---- the search for the field at a token
 

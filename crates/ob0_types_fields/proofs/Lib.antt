@@ -5,7 +5,6 @@ pub mod MarksByToken
 pub mod FieldLookups
 pub mod OwnersByToken
 pub mod SingleFactorFields
-pub mod WalkedFields
 pub mod FieldIdentifierList
 pub mod DuplicateFields
 pub mod FieldsAreDeclared

@@ -1,15 +1,15 @@
 -- The marks of a tree whose names are token indexes are the marks of the tree with the tokens' spellings. In statements
 -- this holds if the names have the same meanings.
 use Rattle.std.proofs.Common.{◌≡◌, ℕ, suc, ◌+◌, List, [], ◌∷◌, ◌++◌, None, Option, option_and_then, refl, ap, ◌∙◌, sym}
-use Rattle.ob0_tree.specs.Tree.{GrammarItem, Sort, Tree, adds, array_type, assigns, begins, block, branches, calls, compares, declares, declares_procedure, declares_type, declares_type_section, declares_variable, declares_var_section, designator, else_branch, elsif_branch, end, field, fields, formals, fields_after_semicolon, section_after_semicolon, forms_block, index, item, items, mapped_tree, maybe, more, multiplies, named_type, negation, no_fields, no_formals, none, occurrences, one, parenthesised, procedure, product, record_type, relates, repeat_loop, runs, section, some_arguments, some_fields, some_formals, sum, comma_then_argument, semicolon_then_fields, semicolon_then_section, semicolon_then_statement, type_definition, type_definitions, value_section, variable, variable_section, variables, while_loop, written_type}
+use Rattle.ob0_tree.specs.Tree.{GrammarItem, Sort, Tree, adds, array_type, assigns, begins, block, branches, calls, compares, declares, declares_procedure, declares_type, declares_type_section, declares_variable, declares_var_section, designator, else_branch, elsif_branch, end, field, fields, formals, fields_after_semicolon, section_after_semicolon, forms_block, index, item, items, mapped_tree, maybe, more, multiplies, named_type, negation, no_fields, no_formals, none, occurrences, one, parenthesised, procedure, product, record_type, relates, repeat_loop, runs, section, some_arguments, some_fields, some_formals, sum, comma_then_argument, semicolon_then_fields, semicolon_then_section, semicolon_then_statement, type_definition, type_definitions, value_section, variable, variable_section, variables, while_loop, written_type, module_text, forms_module}
 use Rattle.ob0_tree.proofs.Mapped.{mapped_twice}
 use Rattle.ob0_language_names.specs.Names.{Name}
 use Rattle.ob0_language_names.specs.BlockParts.{formal_parameter_sections, parameter_section_type, section_types, section_variables}
-use Rattle.ob0_language_types.specs.Declarations.{block_constructor_count, formals_constructor_count, procedure_constructor_count, procedure_list_constructor_count, types_constructor_count, variables_constructor_count}
+use Rattle.ob0_language_types.specs.Declarations.{block_constructor_count, formals_constructor_count, procedure_constructor_count, procedure_list_constructor_count, types_constructor_count, variables_constructor_count, constructor_count_before_procedure_block, constructor_count_before_procedures, constructor_count_before_variables}
 use Rattle.ob0_language_types.specs.Expressions.{Meanings}
 use Rattle.ob0_language_types.specs.Typing.{constructor_count, field_type, group_constructor_count, later_groups_constructor_count, type_of_variable_or_constant}
 use Rattle.ob0_language_values.specs.Values.{Shape}
-use Rattle.ob0_language_fields.specs.MarkedFields.{NameUse, UsedName, declares_field, item_constructor_count, mark_all_names, mark_declared_fields, mark_selected_fields, no_field, type_after_selector}
+use Rattle.ob0_language_fields.specs.MarkedFields.{NameUse, UsedName, declares_field, item_constructor_count, mark_all_names, mark_block, mark_declared_fields, mark_module, mark_procedure, mark_procedures, mark_selected_fields, marking_declarations, no_field, type_after_selector}
 
 -- The number of words ARRAY and RECORD in a tree doesn't depend on the representation of its names.
 module _ {M : Type 0} (f : ℕ → M) (g : ℕ → ℕ) where
@@ -113,6 +113,35 @@ module _ {M : Type 0} (f : ℕ → M) (g : ℕ → ℕ) where
       some_formals (declared_mapped u k s i)
       ((ap (λ n. mark_declared_fields u (k + n) (mapped_tree f g fs)) (counted_section f g s) ∙ declared_mapped u (k + constructor_count (parameter_section_type s)) fs) i)
   declared_mapped u k t = plain_mapped no_field t
+
+-- ---- the marks of declarations
+
+module _ {M : Type 0} (f : ℕ → M) (g : ℕ → ℕ) where
+  mutual
+    block-mapped : (k : ℕ) (b : Tree ℕ block) → mark_block marking_declarations tt k (mapped_tree f g b) ≡ mapped_tree (with_text f) g (mark_block marking_declarations tt k b)
+    block-mapped k (forms_block (declares cs ts vs ps) statements) =
+        let b : Tree ℕ block = forms_block (declares cs ts vs ps) statements in
+        let n : ℕ = constructor_count_before_variables k b in
+        let l : ℕ = constructor_count_before_procedures k b in
+        let types : constructor_count_before_variables k (mapped_tree f g b) ≡ n = ap (λ c. k + c) (counted_type_section f g ts) in
+        let variables : constructor_count_before_procedures k (mapped_tree f g b) ≡ l = λ i. types i + counted_variable_section f g vs i in
+        λ i. forms_block (declares (plain_mapped f g no_field cs i) (declared_mapped f g no_field k ts i)
+        ((ap (λ c. mark_declared_fields no_field c (mapped_tree f g vs)) types ∙ declared_mapped f g no_field n vs) i)
+        ((ap (λ c. mark_procedures marking_declarations tt c (mapped_tree f g ps)) variables ∙ procedures-mapped l ps) i)) (plain_mapped f g no_field statements i)
+
+    procedures-mapped : (k : ℕ) (ps : Tree ℕ (items procedure)) → mark_procedures marking_declarations tt k (mapped_tree f g ps) ≡ mapped_tree (with_text f) g (mark_procedures marking_declarations tt k ps)
+    procedures-mapped k end = refl
+    procedures-mapped k (more p rest) = λ i.
+        more (procedure-mapped k p i) ((ap (λ c. mark_procedures marking_declarations tt (k + c) (mapped_tree f g rest)) (counted_procedure f g p) ∙ procedures-mapped (k + procedure_constructor_count p) rest) i)
+
+    procedure-mapped : (k : ℕ) (p : Tree ℕ (item procedure)) → mark_procedure marking_declarations tt k (mapped_tree f g p) ≡ mapped_tree (with_text f) g (mark_procedure marking_declarations tt k p)
+    procedure-mapped k (declares_procedure x fs b closing) =
+        let n : ℕ = constructor_count_before_procedure_block k (declares_procedure x fs b closing) in λ i.
+        declares_procedure (f x, no_field) (declared_mapped f g no_field k fs i)
+        ((ap (λ c. mark_block marking_declarations tt (k + c) (mapped_tree f g b)) (counted_formals_section f g fs) ∙ block-mapped n b) i) (f closing, no_field)
+
+  pub module-mapped : (m : Tree ℕ module_text) → mark_module marking_declarations tt (mapped_tree f g m) ≡ mapped_tree (with_text f) g (mark_module marking_declarations tt m)
+  module-mapped (forms_module x b closing) = λ i. forms_module (f x, no_field) (block-mapped 0 b i) (f closing, no_field)
 
 -- holds if the spellings of tokens have the types that the tokens have
 abbrev pub Alike : {P Q : Type 0} → Meanings Name Shape Q → Meanings ℕ Shape P → List ℕ → Type 0

@@ -9,7 +9,7 @@ use Rattle.ob0_tree.specs.declared.tree.Role.TheVariants as role
 use Rattle.ob0_tree.specs.IdentifierIndexes.{AreAscendingWithin, identifier_names, names_without_roles}
 use Rattle.ob0_tree.specs.ParsedModule.{named_tree_of, tree_of}
 use Rattle.ob0_tree.specs.TokenIndexLeaves.{token_text_at, token_value_at}
-use Rattle.ob0_tree.specs.Tree.{Sort, Tree, mapped_tree}
+use Rattle.ob0_tree.specs.Tree.{Sort, Tree, mapped_tree, module_text, identifiers}
 use Rattle.ob0_tree.proofs.Leaves.{ascending_bounds, leaves_ascend}
 use Rattle.ob0_tree.proofs.Mapped.{mapped_twice}
 use Rattle.ob0_tree.proofs.MappedIdentifiers.{beside_role, identifiers-mapped_tree}
@@ -20,12 +20,12 @@ use Rattle.ob0_language_types.specs.Bindings.{declared_object}
 use Rattle.ob0_language_values.specs.Values.{Shape}
 use Rattle.ob0_types_fields.specs.OwnerTables.{renaming_by_record}
 use Rattle.ob0_types_fields.proofs.FieldLookups.{owner_at}
-use Rattle.ob0_language_fields.specs.MarkedFields.{UsedName, declares_field, mark_module, marked_module, marking_by_meanings, marking_declarations, no_field, selects_field, used_names}
+use Rattle.ob0_language_fields.specs.MarkedFields.{UsedName, declares_field, mark_module, marking_by_meanings, marking_declarations, no_field, selects_field, used_names}
 use Rattle.ob0_language_fields.specs.RenamedFields.{record_ordinal, rename_used_name}
-use Rattle.ob0_language_fields.proofs.MarkedNames.{EachName, IsDeclaration, each_so, maps_alike, module-declares, module_without_marks, selected_without_marks, without_marks}
+use Rattle.ob0_language_fields.proofs.MarkedNames.{EachName, IsDeclaration, each_so, maps_alike, module-declares, module_without_marks, plain_without_marks, selected_without_marks, without_marks}
 use Rattle.ob0_language_fields.proofs.KnownFields.{KnownName, Selection, module-known}
-use Rattle.ob0_types_fields.specs.IdentifierOwners.{AgreeingTableIsOwnerTable, AgreesWithOwnerList, TableWithEnteredOwnersIsOwnerTable, fields_with_owners, identifier_owners_in_resolution, marks_in_resolution, meanings_by_token, owned_identifiers, owned_tree, owner, owner_of_use, table_with_owners}
-use Rattle.ob0_types_fields.proofs.MarksMapped.{with_text}
+use Rattle.ob0_types_fields.specs.IdentifierOwners.{AgreeingTableIsOwnerTable, AgreesWithOwnerList, TableWithEnteredOwnersIsOwnerTable, declared_identifiers, fields_with_owners, identifier_owners_in_resolution, marks_in_resolution, meanings_by_token, owner, owner_if_declared, owner_of_use, table_with_owners}
+use Rattle.ob0_types_fields.proofs.MarksMapped.{module-mapped, with_text}
 use Rattle.ob0_types_fields.proofs.MarksByToken.{marks_by_token}
 
 -- ---- the tokens of the identifiers
@@ -37,11 +37,15 @@ same_tokens : (xs : List (Role × (ℕ × Option ℕ))) → tokens xs ≡ names_
 same_tokens [] = refl
 same_tokens (x ∷ xs) = ap (λ z. x.1.0 ∷ z) (same_tokens xs)
 
-pub marked-tokens : {s : Sort} (text : ℕ → Name) (marks : Tree (UsedName ℕ) s) → tokens (owned_identifiers text marks) ≡ identifier_names (without_marks marks)
-marked-tokens text marks =
-    same_tokens (owned_identifiers text marks)
-    ∙ (ap names_without_roles (sym (identifiers-mapped_tree (λ x. x.0) (λ n. n) role.DeclaringName (owned_tree text marks)))
-    ∙ ap identifier_names (mapped_twice (λ x. x.0) (λ x. x.0) (λ n. n) (λ x. (x.0, owner_of_use x.1 (text x.0))) (λ x. (x.0, owner_of_use x.1 (text x.0))) (λ n. n) marks))
+pub marked-tokens : {s : Sort} (own : UsedName ℕ → Option ℕ) (marks : Tree (UsedName ℕ) s) → tokens (identifiers role.DeclaringName (mapped_tree (λ x. (x.0, own x)) (λ n. n) marks)) ≡ identifier_names (without_marks marks)
+marked-tokens own marks =
+    same_tokens (identifiers role.DeclaringName (mapped_tree (λ x. (x.0, own x)) (λ n. n) marks))
+    ∙ (ap names_without_roles (sym (identifiers-mapped_tree (λ x. x.0) (λ n. n) role.DeclaringName (mapped_tree (λ x. (x.0, own x)) (λ n. n) marks)))
+    ∙ ap identifier_names (mapped_twice (λ x. x.0) (λ x. x.0) (λ n. n) (λ x. (x.0, own x)) (λ x. (x.0, own x)) (λ n. n) marks))
+
+pub declared-tokens : (t : Tree ℕ module_text) → tokens (declared_identifiers (mark_module marking_declarations tt t)) ≡ identifier_names t
+declared-tokens t =
+    marked-tokens (λ x. owner_if_declared x.1) (mark_module marking_declarations tt t) ∙ ap identifier_names (module_without_marks marking_declarations (λ e b. plain_without_marks no_field b) tt t)
 
 marks-are_of : (r : Resolution) → without_marks (marks_in_resolution r) ≡ tree_of r.module_read
 marks-are_of r =
@@ -49,7 +53,7 @@ marks-are_of r =
     module_without_marks (marking_by_meanings m) (λ e t. selected_without_marks m None t) tt (tree_of r.module_read)
 
 pub module-tokens : (r : Resolution) → tokens (identifier_owners_in_resolution r) ≡ identifier_names (tree_of r.module_read)
-module-tokens r = marked-tokens (token_text_at r.module_read.source) (marks_in_resolution r) ∙ ap identifier_names (marks-are_of r)
+module-tokens r = marked-tokens (λ x. owner_of_use x.1 (token_text_at r.module_read.source x.0)) (marks_in_resolution r) ∙ ap identifier_names (marks-are_of r)
 
 -- ---- the table
 
@@ -95,30 +99,41 @@ fields_have-owners r named =
 abbrev pub Any : ℕ → Name → Type 0
 Any k x = Unit {0}
 
-declares-any : (x : UsedName Name) → IsDeclaration x → KnownName Any x
-declares-any (x, no_field) h = tt
-declares-any (x, declares_field k) h = tt
-declares-any (x, selects_field s) h = absurd h
-
 each_mapped : {N M : Type 0} (P : M → Type 0) (f : N → M) (xs : List (Role × N)) → EachName P (map (beside_role f) xs) → EachName (λ x. P (f x)) xs
 each_mapped P f [] h = tt
 each_mapped P f (x ∷ xs) h = (h.0, each_mapped P f xs h.1)
 
--- holds for a token that has an owner if it selects a field
-abbrev pub KnownToken : (ℕ → Name) → UsedName ℕ → Type 0
-KnownToken text x = KnownName Any (text x.0, x.1)
+mapped_each : {N M : Type 0} (P : M → Type 0) (f : N → M) (xs : List (Role × N)) → EachName (λ x. P (f x)) xs → EachName P (map (beside_role f) xs)
+mapped_each P f [] h = tt
+mapped_each P f (x ∷ xs) h = (h.0, mapped_each P f xs h.1)
 
-pub known_tokens : (r : Resolution) → IsResolution r → WellTyped (named_tree_of r.module_read) → EachName (KnownToken (token_text_at r.module_read.source)) (used_names (marks_in_resolution r))
+-- holds for a token if the property `D` holds for its field, if it is one
+abbrev pub KnownToken : (ℕ → Name → Type 0) → (ℕ → Name) → UsedName ℕ → Type 0
+KnownToken D text x = KnownName D (text x.0, x.1)
+
+declares-any : (text : ℕ → Name) (x : UsedName ℕ) → IsDeclaration x → KnownToken Any text x
+declares-any text (x, no_field) h = tt
+declares-any text (x, declares_field k) h = tt
+declares-any text (x, selects_field s) h = absurd h
+
+-- In a well-typed module a property of fields holds for each token if it holds for those that declare fields.
+pub known_tokens : (D : ℕ → Name → Type 0) (r : Resolution) → IsResolution r → WellTyped (named_tree_of r.module_read)
+    → EachName (KnownToken D (token_text_at r.module_read.source)) (used_names (mark_module marking_declarations tt (tree_of r.module_read)))
+    → EachName (KnownToken D (token_text_at r.module_read.source)) (used_names (marks_in_resolution r))
 unfolding WellTyped
-known_tokens r named fits =
+known_tokens D r named fits declared =
     let m = named_tree_of r.module_read in
     let text : ℕ → Name = token_text_at r.module_read.source in
-    let known : EachName (KnownName Any) (used_names (marked_module m)) = module-known Any m (each_so declares-any (used_names (mark_module marking_declarations tt m)) (module-declares m)) fits.1 in
-    each_mapped (KnownName Any) (with_text text) (used_names (marks_in_resolution r))
-    (subst (EachName (KnownName Any)) (ap used_names (marks_by_token r named fits) ∙ identifiers-mapped_tree (with_text text) (token_value_at r.module_read.source) role.DeclaringName (marks_in_resolution r)) known)
+    let value : ℕ → ℕ = token_value_at r.module_read.source in
+    let marks = mark_module marking_declarations tt (tree_of r.module_read) in
+    let before : EachName (KnownName D) (used_names (mark_module marking_declarations tt m)) =
+    subst (EachName (KnownName D)) (sym (ap used_names (module-mapped text value (tree_of r.module_read)) ∙ identifiers-mapped_tree (with_text text) value role.DeclaringName marks))
+    (mapped_each (KnownName D) (with_text text) (used_names marks) declared) in
+    each_mapped (KnownName D) (with_text text) (used_names (marks_in_resolution r))
+    (subst (EachName (KnownName D)) (ap used_names (marks_by_token r named fits) ∙ identifiers-mapped_tree (with_text text) value role.DeclaringName (marks_in_resolution r)) (module-known D m before fits.1))
 
-pub selected-owner : (s : Option Shape) (x : Name) (h : Selection Any s x) → owner s x ≡ Some h.ordinal
-selected-owner s x h = ap (λ o. owner o x) h.from_record ∙ (owner_at h.ordinal h.declared x ∙ ap (option_map (λ _. h.ordinal)) h.typed)
+pub selected-owner : (D : ℕ → Name → Type 0) (s : Option Shape) (x : Name) (h : Selection D s x) → owner s x ≡ Some h.ordinal
+selected-owner D s x h = ap (λ o. owner o x) h.from_record ∙ (owner_at h.ordinal h.declared x ∙ ap (option_map (λ _. h.ordinal)) h.typed)
 
 -- ---- renaming by a table of owners
 
@@ -130,13 +145,13 @@ module _ (text : ℕ → Name) (at : ℕ → Option ℕ) where
   agreeing [] h = tt
   agreeing (x ∷ xs) h = (h.0, agreeing xs h.1)
 
-  renamed-known : (l : ℕ → Name → Name) (x : UsedName ℕ) → KnownToken text x → HasOwner x → rename_used_name (renaming_by_record l) (text x.0, x.1) ≡ renaming_by_record l (at x.0) (text x.0)
+  renamed-known : (l : ℕ → Name → Name) (x : UsedName ℕ) → KnownToken Any text x → HasOwner x → rename_used_name (renaming_by_record l) (text x.0, x.1) ≡ renaming_by_record l (at x.0) (text x.0)
   renamed-known l (i, no_field) known has = ap (λ o. renaming_by_record l o (text i)) (sym has)
   renamed-known l (i, declares_field k) known has = ap (λ o. renaming_by_record l o (text i)) (sym has)
   renamed-known l (i, selects_field s) known has =
-      ap (λ o. renaming_by_record l (record_ordinal o) (text i)) known.from_record ∙ ap (λ o. renaming_by_record l o (text i)) (sym (has ∙ selected-owner s (text i) known))
+      ap (λ o. renaming_by_record l (record_ordinal o) (text i)) known.from_record ∙ ap (λ o. renaming_by_record l o (text i)) (sym (has ∙ selected-owner Any s (text i) known))
 
-  each-renamed : (l : ℕ → Name → Name) (xs : List (Role × UsedName ℕ)) → EachName (KnownToken text) xs → EachName HasOwner xs
+  each-renamed : (l : ℕ → Name → Name) (xs : List (Role × UsedName ℕ)) → EachName (KnownToken Any text) xs → EachName HasOwner xs
       → EachName (λ x. rename_used_name (renaming_by_record l) (text x.0, x.1) ≡ renaming_by_record l (at x.0) (text x.0)) xs
   each-renamed l [] known has = tt
   each-renamed l (x ∷ xs) known has = (renamed-known l x.1 known.0 has.0, each-renamed l xs known.1 has.1)
@@ -153,7 +168,7 @@ agreeing_table_is_owner_table-holds r owners named fits has = λ l.
     let agree = agreeing text at (used_names marks) (subst (AgreesWithOwnerList at) (identifiers-mapped_tree (λ x. (x.0, owner_of_use x.1 (text x.0))) (λ n. n) role.DeclaringName marks) has) in
     ap (mapped_tree old (λ n. n)) (marks_by_token r named fits)
     ∙ (mapped_twice old old (λ n. n) (with_text text) (with_text text) value marks
-    ∙ (maps_alike (λ x. old (text x.0, x.1)) (λ x. new x.0) value role.DeclaringName marks (each-renamed text at l (used_names marks) (known_tokens r named fits) agree)
+    ∙ (maps_alike (λ x. old (text x.0, x.1)) (λ x. new x.0) value role.DeclaringName marks (each-renamed text at l (used_names marks) (known_tokens Any r named fits (each_so (declares-any text) (used_names (mark_module marking_declarations tt (tree_of p))) (module-declares (tree_of p)))) agree)
     ∙ (sym (mapped_twice new new value (λ x. x.0) (λ x. x.0) (λ n. n) marks) ∙ ap (mapped_tree new value) (marks-are_of r))))
 
 pub table_with_entered_owners_is_owner_table-holds : TableWithEnteredOwnersIsOwnerTable

@@ -2,6 +2,10 @@
 -- declarations of records are considered. `Has made k ordinal x` states that the type with this ordinal has the field
 -- x; the first of the types `made` has the ordinal k. A record declares a field once, so the fields of a group can be
 -- looked up in the whole record.
+use Rattle.ob0_tree.proofs.MappedIdentifiers.{beside_role, identifiers-mapped_tree}
+use Rattle.ob0_tree.proofs.Mapped.{mapped_twice}
+use Rattle.ob0_tree.specs.declared.tree.Role.{Role}
+use Rattle.ob0_tree.specs.declared.tree.Role.TheVariants as role
 use Rattle.std.proofs.Common.{◌≡◌, ◌⊎◌, inl, inr, ℕ, suc, ◌+◌, ◌<◌, ◌==◌, Bool, true, false, ◌&&◌, ◌||◌, not, if◌then◌else◌, nat_le, List, [], ◌∷◌, ◌++◌, map, length, get_or, is_some, Some, None, Option, option_map, option_and_then, refl, sym, ap, ◌∙◌, subst, true≢false, arith, length-append, eqb-true}
 use Rattle.std.proofs.lemmas.Bool.{and_parts, or_right}
 use Rattle.std.proofs.lemmas.List.{get_or-append-add, get_or_append_left}
@@ -10,7 +14,7 @@ use Rattle.std.proofs.lemmas.Slice.Eq.{bytes_eq-Decides}
 use Rattle.std.specs.List.{AllByRecursion}
 use Rattle.ob0_tree.specs.ParsedModule.{named_tree_of, tree_of}
 use Rattle.ob0_tree.specs.TokenIndexLeaves.{token_text_at, token_value_at}
-use Rattle.ob0_tree.specs.Tree.{Tree, array_type, block, declares, declares_procedure, declares_type, declares_type_section, declares_variable, declares_var_section, end, fields, formals, fields_after_semicolon, name_after_comma, section_after_semicolon, forms_block, item, items, listed, mapped_tree, maybe, module_text, more, named_type, names, no_fields, no_formals, none, one, procedure, record_type, some_fields, some_formals, semicolon_then_fields, comma_then_name, semicolon_then_section, type_definition, type_definitions, value_section, variable, variable_section, variables, written_type}
+use Rattle.ob0_tree.specs.Tree.{Tree, array_type, block, declares, declares_procedure, declares_type, declares_type_section, declares_variable, declares_var_section, end, fields, formals, fields_after_semicolon, name_after_comma, section_after_semicolon, forms_block, item, items, listed, mapped_tree, maybe, module_text, more, named_type, names, no_fields, no_formals, none, one, procedure, record_type, some_fields, some_formals, semicolon_then_fields, comma_then_name, semicolon_then_section, type_definition, type_definitions, value_section, variable, variable_section, variables, written_type, Sort, identifiers}
 use Rattle.ob0_language_names.specs.ConsistentNames.{are_distinct, block_has_consistent_names, has_distinct_fields, formals_have_distinct_fields, group_field_names, group_has_distinct_fields, field_names_after_first_group, later_groups_have_distinct_fields, is_among, procedure_has_consistent_names, procedure_list_has_consistent_names, types_have_distinct_fields, variables_have_distinct_fields}
 use Rattle.ob0_language_names.specs.Names.{Label, Name, naming_by_label, naming_by_spelling, label_text, same_name}
 use Rattle.ob0_language_names.specs.BlockParts.{formal_parameter_names, formal_parameter_sections, names_after_first, module_block, names_in_list, section_types, section_variables}
@@ -32,8 +36,9 @@ use Rattle.ob0_types_fields.specs.declared.field_identifier.FieldIdentifier.{Fie
 use Rattle.ob0_types_fields.proofs.DeclaredTypes.{BlockIsTyped, Denotes, FormalsAreTyped, ProcedureIsTyped, ProceduresAreTyped, TypesAreTyped, VariablesAreTyped, meaning, module-typed}
 use Rattle.ob0_types_fields.proofs.FieldLabels.{AllWritten, BlockPlain, GroupPlain, GroupsPlain, IsWritten, ProcedurePlain, ProceduresPlain, SectionsPlain, TypePlain, TypesPlain, VariablesPlain, numbered-plain}
 use Rattle.ob0_types_fields.proofs.FieldsAreDeclared.{fields_are_declared-holds}
-use Rattle.ob0_types_fields.specs.IdentifierOwners.{fields_at_tokens, fields_in_group, fields_in_groups, fields_in_parameter_sections, fields_in_type, fields_in_types, fields_in_variables}
-use Rattle.ob0_types_fields.specs.FieldIdentifiers.{belongs_to_field, declared_fields, field_declaring_token, field_identifiers, fields_declared_in_block, fields_declared_in_procedure, fields_declared_in_procedures, first_token, tokens_of_field}
+use Rattle.ob0_language_fields.specs.MarkedFields.{declares_field, mark_all_names, no_field}
+use Rattle.ob0_types_fields.specs.IdentifierOwners.{declared_identifiers, fields_with_owners, group_identifiers, owner, owner_if_declared, section_identifiers}
+use Rattle.ob0_types_fields.specs.FieldIdentifiers.{belongs_to_field, declared_fields, field_declaring_token, field_identifiers, first_token, identifiers_declared_in_block, identifiers_declared_in_procedure, identifiers_declared_in_procedures, tokens_of_field}
 
 -- ---- the fields of the record itself
 
@@ -201,13 +206,46 @@ has-next : (t : Option Shape) (made : List (Option Shape)) (k ordinal : ℕ) (x 
 has-next t made k ordinal x h =
     record { place = suc h.place; is_at = omega (arith, h.is_at); within = omega (arith, h.within); typed = h.typed }
 
-each-both : {X : Type 0} (P : X → Type 0) (xs ys : List X) → AllByRecursion P xs → AllByRecursion P ys → AllByRecursion P (xs ++ ys)
+-- the property of an identifier with an owner, which holds if it has none
+abbrev Owned : (FieldIdentifier → Type 0) → ℕ → Option ℕ → Type 0
+Owned P x None = Unit {0}
+Owned P x (Some k) = P (record { token = x; owner = k })
+
+-- holds if each identifier of a list with an owner has a property
+abbrev EachOwned : (FieldIdentifier → Type 0) → List (Role × (ℕ × Option ℕ)) → Type 0
+EachOwned P [] = Unit {0}
+EachOwned P (x ∷ xs) = Owned P x.1.0 x.1.1 × EachOwned P xs
+
+each-both : (P : FieldIdentifier → Type 0) (xs ys : List (Role × (ℕ × Option ℕ))) → EachOwned P xs → EachOwned P ys → EachOwned P (xs ++ ys)
 each-both P [] ys a b = b
 each-both P (x ∷ xs) ys a b = (a.0, each-both P xs ys a.1 b)
 
-each-weaker : {X : Type 0} (P Q : X → Type 0) → ((x : X) → P x → Q x) → (xs : List X) → AllByRecursion P xs → AllByRecursion Q xs
+each-weaker : (P Q : FieldIdentifier → Type 0) → ((x : FieldIdentifier) → P x → Q x) → (xs : List (Role × (ℕ × Option ℕ))) → EachOwned P xs → EachOwned Q xs
 each-weaker P Q f [] a = tt
-each-weaker P Q f (x ∷ xs) a = (f x a.0, each-weaker P Q f xs a.1)
+each-weaker P Q f ((_, (x, None)) ∷ xs) a = (tt, each-weaker P Q f xs a.1)
+each-weaker P Q f ((_, (x, Some k)) ∷ xs) a = (f (record { token = x; owner = k }) a.0, each-weaker P Q f xs a.1)
+
+each-field : (P : FieldIdentifier → Type 0) (xs : List (Role × (ℕ × Option ℕ))) → EachOwned P xs → AllByRecursion P (fields_with_owners xs)
+each-field P [] a = tt
+each-field P ((_, (x, None)) ∷ xs) a = each-field P xs a.1
+each-field P ((_, (x, Some k)) ∷ xs) a = (a.0, each-field P xs a.1)
+
+-- returns the identifiers of a tree without fields
+abbrev plain : {s : Sort} → Tree ℕ s → List (Role × (ℕ × Option ℕ))
+plain t = declared_identifiers (mark_all_names no_field t)
+
+plain-listed : (P : FieldIdentifier → Type 0) (xs : List (Role × ℕ)) → EachOwned P (map (beside_role (λ x. (x, None))) xs)
+plain-listed P [] = tt
+plain-listed P (x ∷ xs) = (tt, plain-listed P xs)
+
+plain-have : {s : Sort} (P : FieldIdentifier → Type 0) (t : Tree ℕ s) → EachOwned P (plain t)
+plain-have P t =
+    subst (EachOwned P) (sym (ap (identifiers role.DeclaringName) (mapped_twice (λ x. (x.0, owner_if_declared x.1)) (λ x. (x.0, owner_if_declared x.1)) (λ n. n) (λ x. (x, no_field)) (λ x. (x, no_field)) (λ n. n) t) ∙ identifiers-mapped_tree (λ x. (x, None)) (λ n. n) role.DeclaringName t))
+    (plain-listed P (identifiers role.DeclaringName t))
+
+-- returns the identifiers of the names of a group of fields of the record `j`
+abbrev group_names : {s : Sort} → ℕ → Tree ℕ s → List (Role × (ℕ × Option ℕ))
+group_names j ns = identifiers role.FieldName (mapped_tree (λ x. (x.0, owner_if_declared x.1)) (λ n. n) (mark_all_names (declares_field j) ns))
 
 module _ (r : Resolution) where
   abbrev text : ℕ → Name
@@ -252,14 +290,14 @@ module _ (r : Resolution) where
   of-record s j made x (inr h) = has-next (Some s) made j x.owner (text x.token) h
 
   -- If the fields of two parts are fields of the parts' types, the fields of both are fields of all these types.
-  parts-have : (made later : List (Option Shape)) (k n : ℕ) (xs ys : List FieldIdentifier) → n ≡ k + length made → AllByRecursion (HasField made k) xs → AllByRecursion (HasField later n) ys → AllByRecursion (HasField (made ++ later) k) (xs ++ ys)
+  parts-have : (made later : List (Option Shape)) (k n : ℕ) (xs ys : List (Role × (ℕ × Option ℕ))) → n ≡ k + length made → EachOwned (HasField made k) xs → EachOwned (HasField later n) ys → EachOwned (HasField (made ++ later) k) (xs ++ ys)
   parts-have made later k n xs ys e a b =
       each-both (HasField (made ++ later) k) xs ys
       (each-weaker (HasField made k) (HasField (made ++ later) k) (λ x h. has-before made later k x.owner (text x.token) h) xs a)
       (each-weaker (HasField later n) (HasField (made ++ later) k) (λ x h. has-later made later k x.owner (text x.token) (subst (λ j. Has later j x.owner (text x.token)) e h)) ys b)
 
-  groups-have : (s : Shape) (j : ℕ) (made later : List (Option Shape)) (k n : ℕ) (xs ys : List FieldIdentifier) → n ≡ k + length made → AllByRecursion (InRecord s j made k) xs → AllByRecursion (InRecord s j later n) ys
-      → AllByRecursion (InRecord s j (made ++ later) k) (xs ++ ys)
+  groups-have : (s : Shape) (j : ℕ) (made later : List (Option Shape)) (k n : ℕ) (xs ys : List (Role × (ℕ × Option ℕ))) → n ≡ k + length made → EachOwned (InRecord s j made k) xs → EachOwned (InRecord s j later n) ys
+      → EachOwned (InRecord s j (made ++ later) k) (xs ++ ys)
   groups-have s j made later k n xs ys e a b =
       each-both (InRecord s j (made ++ later) k) xs ys
       (each-weaker (InRecord s j made k) (InRecord s j (made ++ later) k) (λ x h. in-before s j made later k x h) xs a)
@@ -272,9 +310,12 @@ module _ (r : Resolution) where
         let place = place-found all x s typed in
         λ i. is_some (option_and_then (λ f. option_map (of_field f) (typed i)) (option_map (place_in o) (place.1 i)))
 
-    own-names : (j k : ℕ) (made : List (Option Shape)) (xs : List ℕ) → AllByRecursion (λ x. is_some (typed_field_with_name (record_shape o all) (text x)) ≡ true) xs → AllByRecursion (InRecord (record_shape o all) j made k) (fields_at_tokens j xs)
-    own-names j k made [] h = tt
-    own-names j k made (x ∷ xs) h = (inl (refl, h.0), own-names j k made xs h.1)
+    further-names : (j k : ℕ) (made : List (Option Shape)) (ns : Tree ℕ (items name_after_comma)) → AllByRecursion (λ x. is_some (typed_field_with_name (record_shape o all) (text x)) ≡ true) (names_after_first ns) → EachOwned (InRecord (record_shape o all) j made k) (group_names j ns)
+    further-names j k made end h = tt
+    further-names j k made (more (comma_then_name x) rest) h = (inl (refl, h.0), further-names j k made rest h.1)
+
+    own-names : (j k : ℕ) (made : List (Option Shape)) (ns : Tree ℕ names) → AllByRecursion (λ x. is_some (typed_field_with_name (record_shape o all) (text x)) ≡ true) (names_in_list ns) → EachOwned (InRecord (record_shape o all) j made k) (group_names j ns)
+    own-names j k made (listed x rest) h = (inl (refl, h.0), further-names j k made rest h.1)
 
     further-have : (ns : Tree ℕ (items name_after_comma)) (before : List Name) (s : Shape) → ((y : Name) → is_among y (before ++ names_after_first (mapped_tree text value ns)) ≡ true → named_field_shape all y ≡ Some s)
         → AllByRecursion (λ x. is_some (typed_field_with_name (record_shape o all) (text x)) ≡ true) (names_after_first ns)
@@ -299,26 +340,26 @@ module _ (r : Resolution) where
   following-group : (env : TypeEnvironment Label) (k : ℕ) (later fs : FieldShapes) (g : Tree ℕ fields) → denoted_group_fields (meanings naming_by_label env) k later (tree_with_labels r g) ≡ Some fs → GroupPlain (tree_with_labels r g)
       → (others : List Name) → are_distinct (group_field_names (mapped_tree text value g) ++ others) ≡ true → (y : Name) → is_among y others ≡ true → named_field_shape fs y ≡ named_field_shape later y
   unfolding denoted_type
-  following-group env k later fs no_fields h plain others distinct y among = ap (λ z. named_field_shape z y) (sym (some_inverse h))
-  following-group env k later fs (some_fields ns t) h plain others distinct y among =
+  following-group env k later fs no_fields h written others distinct y among = ap (λ z. named_field_shape z y) (sym (some_inverse h))
+  following-group env k later fs (some_fields ns t) h written others distinct y among =
       let one = then_some (denoted_type (meanings naming_by_label env) k (tree_with_labels r t)) (λ s. Some (prepend_fields (map label_text (names_in_list (tree_with_labels r ns))) s later)) fs h in
       let own : List Name = names_in_list (mapped_tree text value ns) in
-      ap (λ z. named_field_shape z y) (sym (some_inverse one.2) ∙ ap (λ xs. prepend_fields xs one.0 later) (texts ns plain.0)) ∙ with-none y own one.0 later (distinct-apart y own others distinct among)
+      ap (λ z. named_field_shape z y) (sym (some_inverse one.2) ∙ ap (λ xs. prepend_fields xs one.0 later) (texts ns written.0)) ∙ with-none y own one.0 later (distinct-apart y own others distinct among)
 
   mutual
     unfolding denoted_type
 
     type-have : (env : TypeEnvironment Label) (k : ℕ) (u : Tree ℕ written_type) (s : Shape) → denoted_type (meanings naming_by_label env) k (tree_with_labels r u) ≡ Some s → TypePlain (tree_with_labels r u) → has_distinct_fields (mapped_tree text value u) ≡ true
-        → (j : ℕ) → AllByRecursion (HasField (constructed_types (meaning r) (Some s) u) j) (fields_in_type j u)
-    type-have env k (named_type x) s h plain once j = tt
-    type-have env k (array_type e t) s h plain once j =
+        → (j : ℕ) → EachOwned (HasField (constructed_types (meaning r) (Some s) u) j) (section_identifiers j u)
+    type-have env k (named_type x) s h written once j = (tt, tt)
+    type-have env k (array_type e t) s h written once j =
         let one = then_some (constant_expression_value (meanings naming_by_label env) (tree_with_labels r e)) (λ v. option_and_then (λ n. option_and_then (λ a. type_if_within_limits (array_shape k n a)) (denoted_type (meanings naming_by_label env) (suc k) (tree_with_labels r t))) (array_length_from_value v)) s h in
         let two = then_some (array_length_from_value one.0) (λ n. option_and_then (λ a. type_if_within_limits (array_shape k n a)) (denoted_type (meanings naming_by_label env) (suc k) (tree_with_labels r t))) s one.2 in
         let three = then_some (denoted_type (meanings naming_by_label env) (suc k) (tree_with_labels r t)) (λ a. type_if_within_limits (array_shape k two.0 a)) s two.2 in
         let inner : List (Option Shape) = constructed_types (meaning r) (Some three.0) t in
-        subst (λ z. AllByRecursion (HasField (constructed_types (meaning r) (Some z) (array_type e t)) j) (fields_in_type (suc j) t)) (within-is (array_shape k two.0 three.0) s three.2)
-        (each-weaker (HasField inner (suc j)) (HasField (Some (array_shape k two.0 three.0) ∷ inner) j) (λ x h. has-next (Some (array_shape k two.0 three.0)) inner j x.owner (text x.token) h) (fields_in_type (suc j) t) (type-have env (suc k) t three.0 three.1 plain once (suc j)))
-    type-have env k (record_type g rest) s h plain once j =
+        subst (λ z. EachOwned (HasField (constructed_types (meaning r) (Some z) (array_type e t)) j) (plain e ++ section_identifiers (suc j) t)) (within-is (array_shape k two.0 three.0) s three.2)
+        (each-both (HasField (Some (array_shape k two.0 three.0) ∷ inner) j) (plain e) (section_identifiers (suc j) t) (plain-have (HasField (Some (array_shape k two.0 three.0) ∷ inner) j) e) (each-weaker (HasField inner (suc j)) (HasField (Some (array_shape k two.0 three.0) ∷ inner) j) (λ x h. has-next (Some (array_shape k two.0 three.0)) inner j x.owner (text x.token) h) (section_identifiers (suc j) t) (type-have env (suc k) t three.0 three.1 written once (suc j))))
+    type-have env k (record_type g rest) s h written once j =
         let n : ℕ = suc k + group_constructor_count (tree_with_labels r g) in
         let own : List Name = group_field_names (mapped_tree text value g) in
         let others : List Name = field_names_after_first_group (mapped_tree text value rest) in
@@ -330,101 +371,103 @@ module _ (r : Resolution) where
         let o2 = and_parts (group_has_distinct_fields (mapped_tree text value g)) (later_groups_have_distinct_fields (mapped_tree text value rest)) o1.1 in
         let first : List (Option Shape) = constructed_types (meaning r) (Some z) g in
         let later : List (Option Shape) = constructed_types (meaning r) (Some z) rest in
-        let xs : List FieldIdentifier = fields_in_group j (suc j) g in
-        let ys : List FieldIdentifier = fields_in_groups j (suc j + group_constructor_count g) rest in
-        subst (λ y. AllByRecursion (HasField (constructed_types (meaning r) (Some y) (record_type g rest)) j) (xs ++ ys)) (within-is z s two.2)
+        let xs : List (Role × (ℕ × Option ℕ)) = group_identifiers j (suc j) g in
+        let ys : List (Role × (ℕ × Option ℕ)) = group_identifiers j (suc j + group_constructor_count g) rest in
+        subst (λ y. EachOwned (HasField (constructed_types (meaning r) (Some y) (record_type g rest)) j) (xs ++ ys)) (within-is z s two.2)
         (each-weaker (InRecord z j (first ++ later) (suc j)) (HasField (Some z ∷ (first ++ later)) j) (λ x h. of-record z j (first ++ later) x h) (xs ++ ys)
         (groups-have z j first later (suc j) (suc j + group_constructor_count g) xs ys (ap (λ c. suc j + c) (sym (group-counted r (Some z) g)))
-        (group-has env (suc k) k all one.0 all g two.1 plain.0 o2.0 (λ y among. refl) j (suc j))
-        (groups-all env n k all one.0 rest one.1 plain.1 o2.1 (distinct-right own others o1.0) (λ y among. following-group env (suc k) one.0 all g two.1 plain.0 others o1.0 y among) j (suc j + group_constructor_count g))))
+        (group-has env (suc k) k all one.0 all g two.1 written.0 o2.0 (λ y among. refl) j (suc j))
+        (groups-all env n k all one.0 rest one.1 written.1 o2.1 (distinct-right own others o1.0) (λ y among. following-group env (suc k) one.0 all g two.1 written.0 others o1.0 y among) j (suc j + group_constructor_count g))))
 
     group-has : (env : TypeEnvironment Label) (k o : ℕ) (all later fs : FieldShapes) (g : Tree ℕ fields) → denoted_group_fields (meanings naming_by_label env) k later (tree_with_labels r g) ≡ Some fs → GroupPlain (tree_with_labels r g) → group_has_distinct_fields (mapped_tree text value g) ≡ true
-        → Agree o all (group_field_names (mapped_tree text value g)) fs → (j n : ℕ) → AllByRecursion (InRecord (record_shape o all) j (constructed_types (meaning r) (Some (record_shape o all)) g) n) (fields_in_group j n g)
-    group-has env k o all later fs no_fields h plain once agree j n = tt
-    group-has env k o all later fs (some_fields (listed x rest) t) h plain once agree j n =
+        → Agree o all (group_field_names (mapped_tree text value g)) fs → (j n : ℕ) → EachOwned (InRecord (record_shape o all) j (constructed_types (meaning r) (Some (record_shape o all)) g) n) (group_identifiers j n g)
+    group-has env k o all later fs no_fields h written once agree j n = tt
+    group-has env k o all later fs (some_fields (listed x rest) t) h written once agree j n =
         let ns : Tree ℕ names = listed x rest in
         let own : List Name = names_in_list (mapped_tree text value ns) in
         let one = then_some (denoted_type (meanings naming_by_label env) k (tree_with_labels r t)) (λ s. Some (prepend_fields (map label_text (names_in_list (tree_with_labels r ns))) s later)) fs h in
-        let is : fs ≡ prepend_fields own one.0 later = sym (some_inverse one.2) ∙ ap (λ xs. prepend_fields xs one.0 later) (texts ns plain.0) in
+        let is : fs ≡ prepend_fields own one.0 later = sym (some_inverse one.2) ∙ ap (λ xs. prepend_fields xs one.0 later) (texts ns written.0) in
         let has : (y : Name) → is_among y own ≡ true → named_field_shape all y ≡ Some one.0 = λ y among. agree y among ∙ (ap (λ z. named_field_shape z y) is ∙ with-among y own one.0 later among) in
         let first : named_field_shape all (text x) ≡ Some one.0 = has (text x) (ap (λ b. b || is_among (text x) (names_after_first (mapped_tree text value rest))) (same_name-refl (text x))) in
         let made : List (Option Shape) = constructed_types (meaning r) (Some one.0) t in
-        subst (λ z. AllByRecursion (InRecord (record_shape o all) j (constructed_types (meaning r) z t) n) (fields_at_tokens j (names_in_list ns) ++ fields_in_type n t)) (sym first)
-        (each-both (InRecord (record_shape o all) j made n) (fields_at_tokens j (names_in_list ns)) (fields_in_type n t)
-        (own-names o all j n made (names_in_list ns) (names-have o all ns one.0 has))
-        (each-weaker (HasField made n) (InRecord (record_shape o all) j made n) (λ y e. inr e) (fields_in_type n t) (type-have env k t one.0 one.1 plain.1 once n)))
+        subst (λ z. EachOwned (InRecord (record_shape o all) j (constructed_types (meaning r) z t) n) (group_names j ns ++ section_identifiers n t)) (sym first)
+        (each-both (InRecord (record_shape o all) j made n) (group_names j ns) (section_identifiers n t)
+        (own-names o all j n made ns (names-have o all ns one.0 has))
+        (each-weaker (HasField made n) (InRecord (record_shape o all) j made n) (λ y e. inr e) (section_identifiers n t) (type-have env k t one.0 one.1 written.1 once n)))
 
     groups-all : (env : TypeEnvironment Label) (k o : ℕ) (all fs : FieldShapes) (gs : Tree ℕ (items fields_after_semicolon)) → denoted_further_fields (meanings naming_by_label env) k (tree_with_labels r gs) ≡ Some fs → GroupsPlain (tree_with_labels r gs) → later_groups_have_distinct_fields (mapped_tree text value gs) ≡ true
-        → are_distinct (field_names_after_first_group (mapped_tree text value gs)) ≡ true → Agree o all (field_names_after_first_group (mapped_tree text value gs)) fs → (j n : ℕ) → AllByRecursion (InRecord (record_shape o all) j (constructed_types (meaning r) (Some (record_shape o all)) gs) n) (fields_in_groups j n gs)
-    groups-all env k o all fs end h plain once distinct agree j n = tt
-    groups-all env k o all fs (more (semicolon_then_fields g) rest) h plain once distinct agree j n =
+        → are_distinct (field_names_after_first_group (mapped_tree text value gs)) ≡ true → Agree o all (field_names_after_first_group (mapped_tree text value gs)) fs → (j n : ℕ) → EachOwned (InRecord (record_shape o all) j (constructed_types (meaning r) (Some (record_shape o all)) gs) n) (group_identifiers j n gs)
+    groups-all env k o all fs end h written once distinct agree j n = tt
+    groups-all env k o all fs (more (semicolon_then_fields g) rest) h written once distinct agree j n =
         let own : List Name = group_field_names (mapped_tree text value g) in
         let others : List Name = field_names_after_first_group (mapped_tree text value rest) in
         let one = then_some (denoted_further_fields (meanings naming_by_label env) (k + group_constructor_count (tree_with_labels r g)) (tree_with_labels r rest)) (λ later. denoted_group_fields (meanings naming_by_label env) k later (tree_with_labels r g)) fs h in
         let o1 = and_parts (group_has_distinct_fields (mapped_tree text value g)) (later_groups_have_distinct_fields (mapped_tree text value rest)) once in
         let z : Shape = record_shape o all in
-        groups-have z j (constructed_types (meaning r) (Some z) g) (constructed_types (meaning r) (Some z) rest) n (n + group_constructor_count g) (fields_in_group j n g) (fields_in_groups j (n + group_constructor_count g) rest) (ap (λ c. n + c) (sym (group-counted r (Some z) g)))
-        (group-has env k o all one.0 fs g one.2 plain.0 o1.0 (λ y among. agree y (among-left y own others among)) j n)
-        (groups-all env (k + group_constructor_count (tree_with_labels r g)) o all one.0 rest one.1 plain.1 o1.1 (distinct-right own others distinct)
-        (λ y among. agree y (among-right y own others among) ∙ following-group env k one.0 fs g one.2 plain.0 others distinct y among) j (n + group_constructor_count g))
+        groups-have z j (constructed_types (meaning r) (Some z) g) (constructed_types (meaning r) (Some z) rest) n (n + group_constructor_count g) (group_identifiers j n g) (group_identifiers j (n + group_constructor_count g) rest) (ap (λ c. n + c) (sym (group-counted r (Some z) g)))
+        (group-has env k o all one.0 fs g one.2 written.0 o1.0 (λ y among. agree y (among-left y own others among)) j n)
+        (groups-all env (k + group_constructor_count (tree_with_labels r g)) o all one.0 rest one.1 written.1 o1.1 (distinct-right own others distinct)
+        (λ y among. agree y (among-right y own others among) ∙ following-group env k one.0 fs g one.2 written.0 others distinct y among) j (n + group_constructor_count g))
 
   -- ---- declarations
 
   -- The fields that a declared type declares have types, because the declared type is the one that its written type
   -- denotes.
-  declared-have : (t : Option Shape) (u : Tree ℕ written_type) (s : Shape) → t ≡ Some s → Denotes r u s → TypePlain (tree_with_labels r u) → has_distinct_fields (mapped_tree text value u) ≡ true → (k : ℕ) → AllByRecursion (HasField (constructed_types (meaning r) t u) k) (fields_in_type k u)
-  declared-have t u s is d plain once k =
-      subst (λ z. AllByRecursion (HasField (constructed_types (meaning r) z u) k) (fields_in_type k u)) (sym is) (type-have d.env d.ordinal u s d.denotes plain once k)
+  declared-have : (t : Option Shape) (u : Tree ℕ written_type) (s : Shape) → t ≡ Some s → Denotes r u s → TypePlain (tree_with_labels r u) → has_distinct_fields (mapped_tree text value u) ≡ true → (k : ℕ) → EachOwned (HasField (constructed_types (meaning r) t u) k) (section_identifiers k u)
+  declared-have t u s is d written once k =
+      subst (λ z. EachOwned (HasField (constructed_types (meaning r) z u) k) (section_identifiers k u)) (sym is) (type-have d.env d.ordinal u s d.denotes written once k)
 
-  types-have : (ds : Tree ℕ (items type_definition)) → TypesAreTyped r ds → TypesPlain (tree_with_labels r ds) → types_have_distinct_fields (mapped_tree text value ds) ≡ true → (k : ℕ) → AllByRecursion (HasField (constructed_types (meaning r) None ds) k) (fields_in_types k ds)
-  types-have end are_typed plain once k = tt
-  types-have (more (declares_type x u) ds) are_typed plain once k =
+  types-have : (ds : Tree ℕ (items type_definition)) → TypesAreTyped r ds → TypesPlain (tree_with_labels r ds) → types_have_distinct_fields (mapped_tree text value ds) ≡ true → (k : ℕ) → EachOwned (HasField (constructed_types (meaning r) None ds) k) (section_identifiers k ds)
+  types-have end are_typed written once k = tt
+  types-have (more (declares_type x u) ds) are_typed written once k =
       let o = and_parts (has_distinct_fields (mapped_tree text value u)) (types_have_distinct_fields (mapped_tree text value ds)) once in
-      let t : Option Shape = type_of_object ((meaning r).object_for x) in
-      parts-have (constructed_types (meaning r) t u) (constructed_types (meaning r) None ds) k (k + constructor_count u) (fields_in_type k u) (fields_in_types (k + constructor_count u) ds) (ap (λ c. k + c) (sym (type-counted r t u)))
-      (declared-have t u are_typed.0.0 (ap type_of_object are_typed.0.1) are_typed.0.2 plain.0 o.0 k) (types-have ds are_typed.1 plain.1 o.1 (k + constructor_count u))
+      let t : Option Shape = type_of_object ((meaning r).object_for x) in (
+        tt,
+        parts-have (constructed_types (meaning r) t u) (constructed_types (meaning r) None ds) k (k + constructor_count u) (section_identifiers k u) (section_identifiers (k + constructor_count u) ds) (ap (λ c. k + c) (sym (type-counted r t u)))
+            (declared-have t u are_typed.0.0 (ap type_of_object are_typed.0.1) are_typed.0.2 written.0 o.0 k) (types-have ds are_typed.1 written.1 o.1 (k + constructor_count u)),
+      )
 
-  variables-have : (gs : Tree ℕ (items variable)) → VariablesAreTyped r gs → VariablesPlain (tree_with_labels r gs) → variables_have_distinct_fields (mapped_tree text value gs) ≡ true → (k : ℕ) → AllByRecursion (HasField (constructed_types (meaning r) None gs) k) (fields_in_variables k gs)
-  variables-have end are_typed plain once k = tt
-  variables-have (more (declares_variable (listed x others) u) gs) are_typed plain once k =
+  variables-have : (gs : Tree ℕ (items variable)) → VariablesAreTyped r gs → VariablesPlain (tree_with_labels r gs) → variables_have_distinct_fields (mapped_tree text value gs) ≡ true → (k : ℕ) → EachOwned (HasField (constructed_types (meaning r) None gs) k) (section_identifiers k gs)
+  variables-have end are_typed written once k = tt
+  variables-have (more (declares_variable (listed x others) u) gs) are_typed written once k =
       let o = and_parts (has_distinct_fields (mapped_tree text value u)) (variables_have_distinct_fields (mapped_tree text value gs)) once in
       let t : Option Shape = type_of_object ((meaning r).object_for x) in
-      parts-have (constructed_types (meaning r) t u) (constructed_types (meaning r) None gs) k (k + constructor_count u) (fields_in_type k u) (fields_in_variables (k + constructor_count u) gs) (ap (λ c. k + c) (sym (type-counted r t u)))
-      (declared-have t u are_typed.0.0 (ap type_of_object are_typed.0.1) are_typed.0.2 plain.0 o.0 k) (variables-have gs are_typed.1 plain.1 o.1 (k + constructor_count u))
+      parts-have (constructed_types (meaning r) t u) (constructed_types (meaning r) None gs) k (k + constructor_count u) (plain (listed x others) ++ section_identifiers k u) (section_identifiers (k + constructor_count u) gs) (ap (λ c. k + c) (sym (type-counted r t u)))
+      (each-both (HasField (constructed_types (meaning r) t u) k) (plain (listed x others)) (section_identifiers k u) (plain-have (HasField (constructed_types (meaning r) t u) k) (listed x others)) (declared-have t u are_typed.0.0 (ap type_of_object are_typed.0.1) are_typed.0.2 written.0 o.0 k)) (variables-have gs are_typed.1 written.1 o.1 (k + constructor_count u))
 
-  sections-have : (fs : Tree ℕ (items section_after_semicolon)) → FormalsAreTyped r fs → SectionsPlain (tree_with_labels r fs) → formals_have_distinct_fields (mapped_tree text value fs) ≡ true → (k : ℕ) → AllByRecursion (HasField (constructed_types (meaning r) None fs) k) (fields_in_parameter_sections k fs)
-  sections-have end are_typed plain once k = tt
-  sections-have (more (semicolon_then_section (value_section (listed x others) u)) fs) are_typed plain once k =
+  sections-have : (fs : Tree ℕ (items section_after_semicolon)) → FormalsAreTyped r fs → SectionsPlain (tree_with_labels r fs) → formals_have_distinct_fields (mapped_tree text value fs) ≡ true → (k : ℕ) → EachOwned (HasField (constructed_types (meaning r) None fs) k) (section_identifiers k fs)
+  sections-have end are_typed written once k = tt
+  sections-have (more (semicolon_then_section (value_section (listed x others) u)) fs) are_typed written once k =
       let o = and_parts (has_distinct_fields (mapped_tree text value u)) (formals_have_distinct_fields (mapped_tree text value fs)) once in
       let t : Option Shape = type_of_object ((meaning r).object_for x) in
-      parts-have (constructed_types (meaning r) t u) (constructed_types (meaning r) None fs) k (k + constructor_count u) (fields_in_type k u) (fields_in_parameter_sections (k + constructor_count u) fs) (ap (λ c. k + c) (sym (type-counted r t u)))
-      (declared-have t u are_typed.0.0 (ap type_of_object are_typed.0.1) are_typed.0.2 plain.0 o.0 k) (sections-have fs are_typed.1 plain.1 o.1 (k + constructor_count u))
-  sections-have (more (semicolon_then_section (variable_section (listed x others) u)) fs) are_typed plain once k =
+      parts-have (constructed_types (meaning r) t u) (constructed_types (meaning r) None fs) k (k + constructor_count u) (plain (listed x others) ++ section_identifiers k u) (section_identifiers (k + constructor_count u) fs) (ap (λ c. k + c) (sym (type-counted r t u)))
+      (each-both (HasField (constructed_types (meaning r) t u) k) (plain (listed x others)) (section_identifiers k u) (plain-have (HasField (constructed_types (meaning r) t u) k) (listed x others)) (declared-have t u are_typed.0.0 (ap type_of_object are_typed.0.1) are_typed.0.2 written.0 o.0 k)) (sections-have fs are_typed.1 written.1 o.1 (k + constructor_count u))
+  sections-have (more (semicolon_then_section (variable_section (listed x others) u)) fs) are_typed written once k =
       let o = and_parts (has_distinct_fields (mapped_tree text value u)) (formals_have_distinct_fields (mapped_tree text value fs)) once in
       let t : Option Shape = type_of_object ((meaning r).object_for x) in
-      parts-have (constructed_types (meaning r) t u) (constructed_types (meaning r) None fs) k (k + constructor_count u) (fields_in_type k u) (fields_in_parameter_sections (k + constructor_count u) fs) (ap (λ c. k + c) (sym (type-counted r t u)))
-      (declared-have t u are_typed.0.0 (ap type_of_object are_typed.0.1) are_typed.0.2 plain.0 o.0 k) (sections-have fs are_typed.1 plain.1 o.1 (k + constructor_count u))
+      parts-have (constructed_types (meaning r) t u) (constructed_types (meaning r) None fs) k (k + constructor_count u) (plain (listed x others) ++ section_identifiers k u) (section_identifiers (k + constructor_count u) fs) (ap (λ c. k + c) (sym (type-counted r t u)))
+      (each-both (HasField (constructed_types (meaning r) t u) k) (plain (listed x others)) (section_identifiers k u) (plain-have (HasField (constructed_types (meaning r) t u) k) (listed x others)) (declared-have t u are_typed.0.0 (ap type_of_object are_typed.0.1) are_typed.0.2 written.0 o.0 k)) (sections-have fs are_typed.1 written.1 o.1 (k + constructor_count u))
 
   type_section-have : (ts : Tree ℕ (maybe type_definitions)) → TypesAreTyped r (section_types ts) → TypesPlain (section_types (tree_with_labels r ts)) → types_have_distinct_fields (section_types (mapped_tree text value ts)) ≡ true → (k : ℕ)
-      → AllByRecursion (HasField (constructed_types (meaning r) None ts) k) (fields_in_types k (section_types ts))
-  type_section-have none are_typed plain once k = tt
-  type_section-have (one (declares_type_section ts)) are_typed plain once k = types-have ts are_typed plain once k
+      → EachOwned (HasField (constructed_types (meaning r) None ts) k) (section_identifiers k ts)
+  type_section-have none are_typed written once k = tt
+  type_section-have (one (declares_type_section ts)) are_typed written once k = types-have ts are_typed written once k
 
   variable_section-have : (vs : Tree ℕ (maybe variables)) → VariablesAreTyped r (section_variables vs) → VariablesPlain (section_variables (tree_with_labels r vs)) → variables_have_distinct_fields (section_variables (mapped_tree text value vs)) ≡ true → (k : ℕ)
-      → AllByRecursion (HasField (constructed_types (meaning r) None vs) k) (fields_in_variables k (section_variables vs))
-  variable_section-have none are_typed plain once k = tt
-  variable_section-have (one (declares_var_section vs)) are_typed plain once k = variables-have vs are_typed plain once k
+      → EachOwned (HasField (constructed_types (meaning r) None vs) k) (section_identifiers k vs)
+  variable_section-have none are_typed written once k = tt
+  variable_section-have (one (declares_var_section vs)) are_typed written once k = variables-have vs are_typed written once k
 
   formal_section-have : (fs : Tree ℕ (maybe formals)) → FormalsAreTyped r (formal_parameter_sections fs) → SectionsPlain (formal_parameter_sections (tree_with_labels r fs)) → formals_have_distinct_fields (formal_parameter_sections (mapped_tree text value fs)) ≡ true → (k : ℕ)
-      → AllByRecursion (HasField (constructed_types (meaning r) None fs) k) (fields_in_parameter_sections k (formal_parameter_sections fs))
-  formal_section-have none are_typed plain once k = tt
-  formal_section-have (one no_formals) are_typed plain once k = tt
-  formal_section-have (one (some_formals (value_section ns u) fs)) are_typed plain once k = sections-have (more (semicolon_then_section (value_section ns u)) fs) are_typed plain once k
-  formal_section-have (one (some_formals (variable_section ns u) fs)) are_typed plain once k = sections-have (more (semicolon_then_section (variable_section ns u)) fs) are_typed plain once k
+      → EachOwned (HasField (constructed_types (meaning r) None fs) k) (section_identifiers k fs)
+  formal_section-have none are_typed written once k = tt
+  formal_section-have (one no_formals) are_typed written once k = tt
+  formal_section-have (one (some_formals (value_section ns u) fs)) are_typed written once k = sections-have (more (semicolon_then_section (value_section ns u)) fs) are_typed written once k
+  formal_section-have (one (some_formals (variable_section ns u) fs)) are_typed written once k = sections-have (more (semicolon_then_section (variable_section ns u)) fs) are_typed written once k
 
   mutual
-    block-has : (own : List Name) (b : Tree ℕ block) → BlockIsTyped r b → BlockPlain (tree_with_labels r b) → block_has_consistent_names own (mapped_tree text value b) ≡ true → (k : ℕ) → AllByRecursion (HasField (constructed_types (meaning r) None b) k) (fields_declared_in_block k b)
-    block-has own (forms_block (declares cs ts vs ps) statements) are_typed plain once k =
+    block-has : (own : List Name) (b : Tree ℕ block) → BlockIsTyped r b → BlockPlain (tree_with_labels r b) → block_has_consistent_names own (mapped_tree text value b) ≡ true → (k : ℕ) → EachOwned (HasField (constructed_types (meaning r) None b) k) (identifiers_declared_in_block k b)
+    block-has own (forms_block (declares cs ts vs ps) statements) are_typed written once k =
         let b : Tree ℕ block = forms_block (declares cs ts vs ps) statements in
         let T : Bool = types_have_distinct_fields (section_types (mapped_tree text value ts)) in
         let V : Bool = variables_have_distinct_fields (section_variables (mapped_tree text value vs)) in
@@ -432,30 +475,37 @@ module _ (r : Resolution) where
         let o1 = and_parts _ (T && (V && P)) once in
         let o2 = and_parts T (V && P) o1.1 in
         let o3 = and_parts V P o2.1 in
-        parts-have (constructed_types (meaning r) None ts) (constructed_types (meaning r) None vs ++ constructed_types (meaning r) None ps) k (constructor_count_before_variables k b)
-        (fields_in_types k (section_types ts)) (fields_in_variables (constructor_count_before_variables k b) (section_variables vs) ++ fields_declared_in_procedures (constructor_count_before_procedures k b) ps) (ap (λ c. k + c) (sym (type_section-counted r ts)))
-        (type_section-have ts are_typed.0.0 plain.0.0 o2.0 k)
+        let H : FieldIdentifier → Type 0 = HasField (constructed_types (meaning r) None b) k in
+        let rest = section_identifiers k ts ++ (section_identifiers (constructor_count_before_variables k b) vs ++ identifiers_declared_in_procedures (constructor_count_before_procedures k b) ps) in
+        each-both H (plain cs ++ rest) (plain statements) (each-both H (plain cs) rest (plain-have H cs)
+        (parts-have (constructed_types (meaning r) None ts) (constructed_types (meaning r) None vs ++ constructed_types (meaning r) None ps) k (constructor_count_before_variables k b)
+        (section_identifiers k ts) (section_identifiers (constructor_count_before_variables k b) vs ++ identifiers_declared_in_procedures (constructor_count_before_procedures k b) ps) (ap (λ c. k + c) (sym (type_section-counted r ts)))
+        (type_section-have ts are_typed.0.0 written.0.0 o2.0 k)
         (parts-have (constructed_types (meaning r) None vs) (constructed_types (meaning r) None ps) (constructor_count_before_variables k b) (constructor_count_before_procedures k b)
-        (fields_in_variables (constructor_count_before_variables k b) (section_variables vs)) (fields_declared_in_procedures (constructor_count_before_procedures k b) ps) (ap (λ c. constructor_count_before_variables k b + c) (sym (variable_section-counted r vs)))
-        (variable_section-have vs are_typed.0.1 plain.0.1 o3.0 (constructor_count_before_variables k b)) (procedures-have ps are_typed.1 plain.1 o3.1 (constructor_count_before_procedures k b)))
+        (section_identifiers (constructor_count_before_variables k b) vs) (identifiers_declared_in_procedures (constructor_count_before_procedures k b) ps) (ap (λ c. constructor_count_before_variables k b + c) (sym (variable_section-counted r vs)))
+        (variable_section-have vs are_typed.0.1 written.0.1 o3.0 (constructor_count_before_variables k b)) (procedures-have ps are_typed.1 written.1 o3.1 (constructor_count_before_procedures k b))))) (plain-have H statements)
 
-    procedures-have : (ps : Tree ℕ (items procedure)) → ProceduresAreTyped r ps → ProceduresPlain (tree_with_labels r ps) → procedure_list_has_consistent_names (mapped_tree text value ps) ≡ true → (k : ℕ) → AllByRecursion (HasField (constructed_types (meaning r) None ps) k) (fields_declared_in_procedures k ps)
-    procedures-have end are_typed plain once k = tt
-    procedures-have (more q rest) are_typed plain once k =
+    procedures-have : (ps : Tree ℕ (items procedure)) → ProceduresAreTyped r ps → ProceduresPlain (tree_with_labels r ps) → procedure_list_has_consistent_names (mapped_tree text value ps) ≡ true → (k : ℕ) → EachOwned (HasField (constructed_types (meaning r) None ps) k) (identifiers_declared_in_procedures k ps)
+    procedures-have end are_typed written once k = tt
+    procedures-have (more q rest) are_typed written once k =
         let o = and_parts (procedure_has_consistent_names (mapped_tree text value q)) (procedure_list_has_consistent_names (mapped_tree text value rest)) once in
         parts-have (constructed_types (meaning r) None q) (constructed_types (meaning r) None rest) k (k + procedure_constructor_count q)
-        (fields_declared_in_procedure k q) (fields_declared_in_procedures (k + procedure_constructor_count q) rest) (ap (λ c. k + c) (sym (procedure-counted r q)))
-        (procedure-has q are_typed.0 plain.0 o.0 k) (procedures-have rest are_typed.1 plain.1 o.1 (k + procedure_constructor_count q))
+        (identifiers_declared_in_procedure k q) (identifiers_declared_in_procedures (k + procedure_constructor_count q) rest) (ap (λ c. k + c) (sym (procedure-counted r q)))
+        (procedure-has q are_typed.0 written.0 o.0 k) (procedures-have rest are_typed.1 written.1 o.1 (k + procedure_constructor_count q))
 
-    procedure-has : (q : Tree ℕ (item procedure)) → ProcedureIsTyped r q → ProcedurePlain (tree_with_labels r q) → procedure_has_consistent_names (mapped_tree text value q) ≡ true → (k : ℕ) → AllByRecursion (HasField (constructed_types (meaning r) None q) k) (fields_declared_in_procedure k q)
-    procedure-has (declares_procedure x fs b closing) are_typed plain once k =
+    procedure-has : (q : Tree ℕ (item procedure)) → ProcedureIsTyped r q → ProcedurePlain (tree_with_labels r q) → procedure_has_consistent_names (mapped_tree text value q) ≡ true → (k : ℕ) → EachOwned (HasField (constructed_types (meaning r) None q) k) (identifiers_declared_in_procedure k q)
+    procedure-has (declares_procedure x fs b closing) are_typed written once k =
         let F : Bool = formals_have_distinct_fields (formal_parameter_sections (mapped_tree text value fs)) in
         let B : Bool = block_has_consistent_names (formal_parameter_names (formal_parameter_sections (mapped_tree text value fs))) (mapped_tree text value b) in
         let o1 = and_parts (same_name (text x) (text closing)) (F && B) once in
         let o2 = and_parts F B o1.1 in
         let n : ℕ = constructor_count_before_procedure_block k (declares_procedure x fs b closing) in
-        parts-have (constructed_types (meaning r) None fs) (constructed_types (meaning r) None b) k n (fields_in_parameter_sections k (formal_parameter_sections fs)) (fields_declared_in_block n b) (ap (λ c. k + c) (sym (formal_section-counted r fs)))
-        (formal_section-have fs are_typed.0 plain.0 o2.0 k) (block-has (formal_parameter_names (formal_parameter_sections (mapped_tree text value fs))) b are_typed.1 plain.1 o2.1 n)
+        let last : List (Role × (ℕ × Option ℕ)) = (role.ClosingName, (closing, None)) ∷ [] in (
+          tt,
+          parts-have (constructed_types (meaning r) None fs) (constructed_types (meaning r) None b) k n (section_identifiers k fs) (identifiers_declared_in_block n b ++ last) (ap (λ c. k + c) (sym (formal_section-counted r fs)))
+              (formal_section-have fs are_typed.0 written.0 o2.0 k)
+              (each-both (HasField (constructed_types (meaning r) None b) n) (identifiers_declared_in_block n b) last (block-has (formal_parameter_names (formal_parameter_sections (mapped_tree text value fs))) b are_typed.1 written.1 o2.1 n) (tt, tt)),
+        )
 
   -- returns all types that a module constructs
   abbrev made_in_module : List (Option Shape)
@@ -465,9 +515,11 @@ module _ (r : Resolution) where
   unfolding WellTyped
   declared-typed is well =
       let b : Tree ℕ block = module_block (tree_of r.module_read) in
-      let plain : BlockPlain (tree_with_labels r b) = subst (λ (z : Tree Label module_text). BlockPlain (module_block z)) is.numbering (numbered-plain (named_tree_of r.module_read)) in
+      let written : BlockPlain (tree_with_labels r b) = subst (λ (z : Tree Label module_text). BlockPlain (module_block z)) is.numbering (numbered-plain (named_tree_of r.module_read)) in
       let once = and_parts (same_name (text r.module_read.name) (text r.module_read.closing)) (block_has_consistent_names [] (mapped_tree text value b)) well.0 in
-      block-has [] b (module-typed r is well) plain once.1 0
+      let last : List (Role × (ℕ × Option ℕ)) = (role.ModuleName, (r.module_read.closing, None)) ∷ [] in
+      each-field (HasField made_in_module 0) ((role.ModuleName, (r.module_read.name, None)) ∷ (identifiers_declared_in_block 0 b ++ last))
+      (tt, each-both (HasField made_in_module 0) (identifiers_declared_in_block 0 b) last (block-has [] b (module-typed r is well) written once.1 0) (tt, tt))
 
   -- If an identifier declares a field of a record, the record's type has this field.
   declaring-has : (k : ℕ) (x : Name) (xs : List FieldIdentifier) → AllByRecursion (HasField made_in_module 0) xs → is_some (first_token (tokens_of_field r.module_read.source k x xs)) ≡ true → Has made_in_module 0 k x

@@ -7,7 +7,7 @@ use Rattle.ob0_scan.specs.TextWithTokens.{TextWithTokens}
 use Rattle.ob0_tree.specs.declared.tree.Role.{Role}
 use Rattle.ob0_tree.specs.declared.tree.Role.TheVariants as role
 use Rattle.ob0_tree.specs.IdentifierIndexes.{AreAscendingWithin}
-use Rattle.ob0_tree.specs.Tree.{Tree, block, declares, declares_procedure, end, forms_block, identifiers, item, items, mapped_tree, more, procedure}
+use Rattle.ob0_tree.specs.Tree.{Tree, module_text, block, declares, declares_procedure, end, forms_block, identifiers, item, items, mapped_tree, more, procedure}
 use Rattle.ob0_tree.specs.ParsedModule.{ParsedModule, named_tree_of, tree_of}
 use Rattle.ob0_tree.specs.TokenIndexLeaves.{token_text_at, token_value_at}
 use Rattle.ob0_language_names.specs.Names.{Name, same_name}
@@ -17,8 +17,9 @@ use Rattle.ob0_scope_table.specs.Spans.{is_in_span_or_at_end}
 use Rattle.ob0_language_types.specs.Declarations.{constructor_count_before_procedure_block, constructor_count_before_variables, constructor_count_before_procedures, procedure_constructor_count}
 use Rattle.ob0_language_types.specs.WellTyped.{WellTyped}
 use Rattle.ob0_types_fields.specs.declared.field_identifier.FieldIdentifier.{FieldIdentifier}
+use Rattle.ob0_language_fields.specs.MarkedFields.{mark_block, mark_module, mark_procedure, mark_procedures, marking_declarations}
 use Rattle.ob0_language_fields.specs.SingleFieldRenaming.{is_duplicate_field_name, module_with_renamed_field}
-use Rattle.ob0_types_fields.specs.IdentifierOwners.{fields_in_parameter_sections, fields_in_types, fields_in_variables, fields_with_owners, identifier_owners_in_resolution}
+use Rattle.ob0_types_fields.specs.IdentifierOwners.{declared_identifiers, fields_with_owners, identifier_owners_in_resolution, owner}
 
 -- returns the identifiers in a module that declare or select a field, in text order
 abbrev pub field_identifiers : Resolution → List FieldIdentifier
@@ -78,34 +79,23 @@ module_field_at_offset r offset = field_at_offset r.module_read.source offset (f
 
 -- ---- the identifiers that declare fields; `k` is the number of words ARRAY and RECORD before the visited part
 
-abbrev mutual
-  -- Returns the fields that the declarations of a block declare, in text order. `k` is the ordinal
-  -- of the next word ARRAY or RECORD: the number of such words before the block.
-  pub fields_declared_in_block : ℕ → Tree ℕ block → List FieldIdentifier
-  fields_declared_in_block k (forms_block (declares cs ts vs ps) statements) =
-      fields_in_types k (section_types ts)
-      ++ (fields_in_variables (constructor_count_before_variables k (forms_block (declares cs ts vs ps) statements))
-      (section_variables vs)
-      ++ fields_declared_in_procedures (constructor_count_before_procedures k (forms_block (declares cs ts vs ps) statements)) ps)
+-- returns the identifiers of a block, of procedures and of a procedure, with the owners of the declared fields
+abbrev pub identifiers_declared_in_block : ℕ → Tree ℕ block → List (Role × (ℕ × Option ℕ))
+identifiers_declared_in_block k b = declared_identifiers (mark_block marking_declarations tt k b)
 
-  -- Returns the fields that procedures declare, in text order. `k` is the ordinal of the next word
-  -- ARRAY or RECORD: the number of such words before the procedures.
-  pub fields_declared_in_procedures : ℕ → Tree ℕ (items procedure) → List FieldIdentifier
-  fields_declared_in_procedures k end = []
-  fields_declared_in_procedures k (more p rest) =
-      fields_declared_in_procedure k p ++ fields_declared_in_procedures (k + procedure_constructor_count p) rest
+abbrev pub identifiers_declared_in_procedures : ℕ → Tree ℕ (items procedure) → List (Role × (ℕ × Option ℕ))
+identifiers_declared_in_procedures k ps = declared_identifiers (mark_procedures marking_declarations tt k ps)
 
-  -- Returns the fields that a procedure declares: its parameters' fields, then its block's fields.
-  -- `k` is the ordinal of the next word ARRAY or RECORD: the number of such words before the
-  -- procedure.
-  pub fields_declared_in_procedure : ℕ → Tree ℕ (item procedure) → List FieldIdentifier
-  fields_declared_in_procedure k (declares_procedure x fs b closing) =
-      fields_in_parameter_sections k (formal_parameter_sections fs)
-      ++ fields_declared_in_block (constructor_count_before_procedure_block k (declares_procedure x fs b closing)) b
+abbrev pub identifiers_declared_in_procedure : ℕ → Tree ℕ (item procedure) → List (Role × (ℕ × Option ℕ))
+identifiers_declared_in_procedure k p = declared_identifiers (mark_procedure marking_declarations tt k p)
+
+-- returns the identifiers of a module, with the owners of the declared fields
+abbrev pub identifiers_declared_in_module : Tree ℕ module_text → List (Role × (ℕ × Option ℕ))
+identifiers_declared_in_module t = declared_identifiers (mark_module marking_declarations tt t)
 
 -- returns the identifiers that declare a field in a module, in text order
 abbrev pub declared_fields : ParsedModule → List FieldIdentifier
-declared_fields m = fields_declared_in_block 0 (module_block (tree_of m))
+declared_fields m = fields_with_owners (identifiers_declared_in_module (tree_of m))
 
 -- returns the first token index of a list; None if the list is empty
 abbrev pub first_token : List ℕ → Option ℕ

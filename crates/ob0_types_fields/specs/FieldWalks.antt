@@ -1,6 +1,7 @@
 -- Definitions for the contracts of the walks that visit the fields of a module or of a part of one.
 -- Rule: none; used in contracts of private functions.
-use Rattle.std.specs.Prelude.{◌≡◌, ◌<◌, ◌+◌, ◌^◌, ℕ, List, [], ◌∷◌, Option}
+use Rattle.std.specs.Prelude.{◌≡◌, ◌<◌, ◌+◌, ◌^◌, ℕ, List, [], ◌∷◌, Option, None, Some}
+use Rattle.ob0_tree.specs.declared.tree.Role.{Role}
 use Rattle.ob0_tree.specs.Tree.{Tree, field, index, item, selector}
 use Rattle.ob0_language_types.specs.Expressions.{Meanings}
 use Rattle.ob0_types_table.specs.declared.declaration_table.RecordShape.{RecordShape}
@@ -11,7 +12,7 @@ use Rattle.ob0_language_types.specs.WellTyped.{Signature}
 use Rattle.ob0_language_values.specs.Values.{Shape}
 use Rattle.ob0_types_fields.specs.declared.field_identifier.FieldIdentifier.{FieldIdentifier}
 use Rattle.ob0_types_fields.specs.declared.field_walk.FieldWalk.{FieldWalk}
-use Rattle.ob0_types_fields.specs.IdentifierOwners.{field_if_owned, fields_in_tree, meanings_by_token, owner}
+use Rattle.ob0_types_fields.specs.IdentifierOwners.{meanings_by_token, owner}
 
 -- returns the meanings of names according to the walk's table of declarations; each name is given
 -- by the index of its token
@@ -23,16 +24,6 @@ field_walk_meanings w = meanings_by_token (declared_object_in w.table.now) w.res
 abbrev pub record_shape_in_walk : FieldWalk → RecordShape → Shape
 record_shape_in_walk w r = entry_shape (shapes_of w.table.now) (made.Record r)
 
--- Returns the field identifiers in one selector: the selected field, or the fields in an index's
--- expression. `s` is the type of the designator before the selector.
-abbrev pub fields_in_selector : {P : Type 0}
-    → Meanings ℕ Shape P
-    → Option Shape
-    → Tree ℕ (item selector)
-    → List FieldIdentifier
-fields_in_selector m s (field x) = field_if_owned x (owner s (m.written x))
-fields_in_selector m s (index e) = fields_in_tree m e
-
 -- Returns the state of a visitor after it has visited the field identifiers of a list one after
 -- another, starting in the state `known`. `step` returns the state after one identifier, given the
 -- identifier and the state before.
@@ -40,9 +31,20 @@ abbrev pub state_after_fields : {S : Type 0} → (FieldIdentifier → S → S) �
 state_after_fields step [] known = known
 state_after_fields step (x ∷ xs) known = state_after_fields step xs (step x known)
 
+-- returns the state of a visitor after an identifier with the owner `o`, which is visited only if it has one
+abbrev pub state_after_owner : {S : Type 0} → (FieldIdentifier → S → S) → ℕ → Option ℕ → S → S
+state_after_owner step x None known = known
+state_after_owner step x (Some k) known = step (record { token = x; owner = k }) known
+
+-- returns the state of a visitor after it has visited those identifiers of a list that have owners, one after another
+abbrev pub state_after_identifiers : {S : Type 0} → (FieldIdentifier → S → S) → List (Role × (ℕ × Option ℕ)) → S → S
+state_after_identifiers step [] known = known
+state_after_identifiers step (x ∷ xs) known = state_after_identifiers step xs (state_after_owner step x.1.0 x.1.1 known)
+
 -- States what a walk over a part of a module's declarations does. The part has `count` words ARRAY
 -- and RECORD, and `before` such words precede it. If 64 bits can count these words, the count after
--- the walk is right, and the visitor has visited the part's fields, which are `fields`.
-pub record VisitsDeclarations {S : Type 0} (step : FieldIdentifier → S → S) (fields : List FieldIdentifier) (count before after : ℕ) (old new : S) : Type 0 where
+-- the walk is right, and the visitor has visited the part's fields: the identifiers among `xs` that
+-- have owners.
+pub record VisitsDeclarations {S : Type 0} (step : FieldIdentifier → S → S) (xs : List (Role × (ℕ × Option ℕ))) (count before after : ℕ) (old new : S) : Type 0 where
   pub counted : before + count < 2 ^ 64 → after ≡ before + count
-  pub visited : before + count < 2 ^ 64 → new ≡ state_after_fields step fields old
+  pub visited : before + count < 2 ^ 64 → new ≡ state_after_identifiers step xs old

@@ -20,7 +20,7 @@ use Rattle.ob0_language_types.specs.WellTyped.{Signature, WellTyped}
 use Rattle.ob0_language_values.specs.Values.{Shape, integer_shape}
 use Rattle.ob0_types_fields.specs.declared.field_identifier.FieldIdentifier.{FieldIdentifier}
 use Rattle.ob0_types_fields.specs.OwnerTables.{IsOwnerTable}
-use Rattle.ob0_language_fields.specs.MarkedFields.{NameUse, UsedName, declares_field, mark_module, marking_by_meanings, no_field, selects_field}
+use Rattle.ob0_language_fields.specs.MarkedFields.{NameUse, UsedName, declares_field, mark_block, mark_declared_fields, mark_module, mark_procedure, mark_procedures, mark_selected_fields, marking_by_meanings, no_field, selects_field}
 
 -- Returns the ordinal of the record in which the name `x` selects a field. The first argument is
 -- the type before the selector. The result is None if that type is unknown (None) or has no field
@@ -43,6 +43,43 @@ owned_tree text t = mapped_tree (λ x. (x.0, owner_of_use x.1 (text x.0))) (λ n
 -- returns the identifiers of a marked tree in text order, each with its role and its owner
 abbrev pub owned_identifiers : {s : Sort} → (ℕ → Name) → Tree (UsedName ℕ) s → List (Role × (ℕ × Option ℕ))
 owned_identifiers text t = identifiers role.DeclaringName (owned_tree text t)
+
+-- returns the owner of an identifier with the use `u` if it declares a field; None for any other use
+abbrev pub owner_if_declared : NameUse → Option ℕ
+owner_if_declared no_field = None
+owner_if_declared (declares_field k) = Some k
+owner_if_declared (selects_field s) = None
+
+-- returns the identifiers of a marked tree in text order, each with its role, and with its owner if it declares a field
+abbrev pub declared_identifiers : {s : Sort} → Tree (UsedName ℕ) s → List (Role × (ℕ × Option ℕ))
+declared_identifiers t = identifiers role.DeclaringName (mapped_tree (λ x. (x.0, owner_if_declared x.1)) (λ n. n) t)
+
+-- Returns the identifiers of a statement or a part of a statement, with their owners. If the part is a selector or a
+-- list of selectors, `o` is the type of the designator before this part.
+abbrev pub selected_identifiers : {P : Type 0} {s : Sort} → Meanings ℕ Shape P → Option Shape → Tree ℕ s → List (Role × (ℕ × Option ℕ))
+selected_identifiers m o t = owned_identifiers m.written (mark_selected_fields m o t)
+
+-- Returns the identifiers of a written type or of declarations, with the owners of the declared fields. `k` is the
+-- number of words ARRAY and RECORD before this part.
+abbrev pub section_identifiers : {s : Sort} → ℕ → Tree ℕ s → List (Role × (ℕ × Option ℕ))
+section_identifiers k t = declared_identifiers (mark_declared_fields no_field k t)
+
+-- returns the identifiers of groups of fields of the record with ordinal `r`, with the owners of the declared fields
+abbrev pub group_identifiers : {s : Sort} → ℕ → ℕ → Tree ℕ s → List (Role × (ℕ × Option ℕ))
+group_identifiers r k t = declared_identifiers (mark_declared_fields (declares_field r) k t)
+
+-- returns the identifiers of a block, of procedures, of a procedure and of a module, with their owners
+abbrev pub block_identifiers : {P : Type 0} → Meanings ℕ Shape P → ℕ → Tree ℕ block → List (Role × (ℕ × Option ℕ))
+block_identifiers m k b = owned_identifiers m.written (mark_block (marking_by_meanings m) tt k b)
+
+abbrev pub procedures_identifiers : {P : Type 0} → Meanings ℕ Shape P → ℕ → Tree ℕ (items procedure) → List (Role × (ℕ × Option ℕ))
+procedures_identifiers m k ps = owned_identifiers m.written (mark_procedures (marking_by_meanings m) tt k ps)
+
+abbrev pub procedure_identifiers : {P : Type 0} → Meanings ℕ Shape P → ℕ → Tree ℕ (item procedure) → List (Role × (ℕ × Option ℕ))
+procedure_identifiers m k p = owned_identifiers m.written (mark_procedure (marking_by_meanings m) tt k p)
+
+abbrev pub module_identifiers : {P : Type 0} → Meanings ℕ Shape P → Tree ℕ module_text → List (Role × (ℕ × Option ℕ))
+module_identifiers m t = owned_identifiers m.written (mark_module (marking_by_meanings m) tt t)
 
 -- Returns the meanings of the names in a resolved module. Each name is given by the index of its token. `objects` gives
 -- the object of a declaration, by the declaration's ordinal. A token that isn't bound to a declaration has no object.
@@ -105,161 +142,6 @@ TableWithEnteredOwnersIsOwnerTable =
     → IsOwnerTable r.module_read (table_with_owners (replicate (length r.module_read.source.tokens) None)
     (fields_with_owners (identifier_owners_in_resolution r)))
 
--- ---- the field identifiers only, in the order in which the code's walk collects them
-
--- returns a list with the field identifier at token `x` if it has an owner (the ordinal of its record), otherwise an
--- empty list
-abbrev pub field_if_owned : ℕ → Option ℕ → List FieldIdentifier
-field_if_owned x None = []
-field_if_owned x (Some k) = record { token = x; owner = k } ∷ []
-
--- Returns the field identifiers in a statement, in a part of a statement or in a list of selectors.
-abbrev mutual
-  -- Returns the field identifiers in a statement or a part of a statement, in text order. For a
-  -- selector `.x` the list is empty, because `fields_in_path` finds its field together with the
-  -- designator.
-  pub fields_in_tree : {P : Type 0} {s : Sort} → Meanings ℕ Shape P → Tree ℕ s → List FieldIdentifier
-  fields_in_tree m none = []
-  fields_in_tree m (one a) = fields_in_tree m a
-  fields_in_tree m end = []
-  fields_in_tree m (more a b) = fields_in_tree m a ++ (fields_in_tree m b)
-  fields_in_tree m (compares a b) = fields_in_tree m a ++ (fields_in_tree m b)
-  fields_in_tree m (relates a b) = fields_in_tree m b
-  fields_in_tree m (sum a b c) = fields_in_tree m b ++ (fields_in_tree m c)
-  fields_in_tree m (adds a b) = fields_in_tree m b
-  fields_in_tree m (product a b) = fields_in_tree m a ++ (fields_in_tree m b)
-  fields_in_tree m (multiplies a b) = fields_in_tree m b
-  fields_in_tree m (designator a b) = fields_in_path m (type_of_variable_or_constant (m.object_for a)) b
-  fields_in_tree m (integer a) = []
-  fields_in_tree m (parenthesised a) = fields_in_tree m a
-  fields_in_tree m (negation a) = fields_in_tree m a
-  fields_in_tree m (field a) = []
-  fields_in_tree m (index a) = fields_in_tree m a
-  fields_in_tree m empty = []
-  fields_in_tree m (assigns a b c) = fields_in_path m (type_of_variable_or_constant (m.object_for a)) b ++ fields_in_tree m c
-  fields_in_tree m (calls a b) = fields_in_tree m b
-  fields_in_tree m (branches a b c d) =
-      fields_in_tree m a ++ (fields_in_tree m b ++ (fields_in_tree m c ++ fields_in_tree m d))
-  fields_in_tree m (while_loop a b) = fields_in_tree m a ++ (fields_in_tree m b)
-  fields_in_tree m (repeat_loop a b) = fields_in_tree m a ++ (fields_in_tree m b)
-  fields_in_tree m no_arguments = []
-  fields_in_tree m (some_arguments a b) = fields_in_tree m a ++ (fields_in_tree m b)
-  fields_in_tree m (comma_then_argument a) = fields_in_tree m a
-  fields_in_tree m (runs a b) = fields_in_tree m a ++ (fields_in_tree m b)
-  fields_in_tree m (semicolon_then_statement a) = fields_in_tree m a
-  fields_in_tree m (elsif_branch a b) = fields_in_tree m a ++ (fields_in_tree m b)
-  fields_in_tree m (else_branch a) = fields_in_tree m a
-  fields_in_tree m (begins a) = fields_in_tree m a
-  fields_in_tree m t = []
-
-  -- returns the field identifiers in a designator's selectors, in text order; `s` is the type before the first selector
-  pub fields_in_path : {P : Type 0}
-      → Meanings ℕ Shape P
-      → Option Shape
-      → Tree ℕ (items selector)
-      → List FieldIdentifier
-  fields_in_path m s end = []
-  fields_in_path m s (more (field x) rest) =
-      field_if_owned x (owner s (m.written x))
-      ++ fields_in_path m (option_and_then (λ t. field_type t (m.written x)) s) rest
-  fields_in_path m s (more (index e) rest) =
-      fields_in_tree m e ++ fields_in_path m (option_and_then (λ t. element_type t integer_shape) s) rest
-
 -- returns the names at these tokens as field identifiers of the record with ordinal `r`
 abbrev pub fields_at_tokens : ℕ → List ℕ → List FieldIdentifier
 fields_at_tokens r xs = map (λ x. record { token = x; owner = r }) xs
-
--- Returns the fields that a written type or a part of it declares. `k` is the ordinal of the next
--- word ARRAY or RECORD: the number of such words before this part. `r` is the ordinal of the record
--- that a group of fields belongs to.
-abbrev mutual
-  -- Returns the fields that a written type declares, in text order. `k` is the ordinal of the next
-  -- word ARRAY or RECORD: the number of such words before the type. An array's length declares no
-  -- fields.
-  pub fields_in_type : ℕ → Tree ℕ written_type → List FieldIdentifier
-  fields_in_type k (named_type x) = []
-  fields_in_type k (array_type e t) = fields_in_type (suc k) t
-  fields_in_type k (record_type g rest) =
-      fields_in_group k (suc k) g ++ fields_in_groups k (suc k + group_constructor_count g) rest
-
-  -- Returns the fields of a group, which belong to the record with ordinal `r`, then the fields
-  -- that the group's type declares. `k` is the ordinal of the next word ARRAY or RECORD: the number
-  -- of such words before that type.
-  pub fields_in_group : ℕ → ℕ → Tree ℕ fields → List FieldIdentifier
-  fields_in_group r k no_fields = []
-  fields_in_group r k (some_fields ns t) = fields_at_tokens r (names_in_list ns) ++ fields_in_type k t
-
-  -- Returns the fields that a record's groups of fields after the first group declare, in text
-  -- order. The record has ordinal `r`. `k` is the ordinal of the next word ARRAY or RECORD: the
-  -- number of such words before these groups.
-  pub fields_in_groups : ℕ → ℕ → Tree ℕ (items fields_after_semicolon) → List FieldIdentifier
-  fields_in_groups r k end = []
-  fields_in_groups r k (more (semicolon_then_fields g) rest) =
-      fields_in_group r k g ++ fields_in_groups r (k + group_constructor_count g) rest
-
--- Returns the fields that type declarations declare. `k` is the ordinal of the next word ARRAY or
--- RECORD: the number of such words before the declarations.
-abbrev pub fields_in_types : ℕ → Tree ℕ (items type_definition) → List FieldIdentifier
-fields_in_types k end = []
-fields_in_types k (more (declares_type x u) ds) =
-    fields_in_type k u ++ fields_in_types (k + constructor_count u) ds
-
--- Returns the fields that variable declarations declare. `k` is the ordinal of the next word ARRAY
--- or RECORD: the number of such words before the declarations.
-abbrev pub fields_in_variables : ℕ → Tree ℕ (items variable) → List FieldIdentifier
-fields_in_variables k end = []
-fields_in_variables k (more (declares_variable ns u) gs) =
-    fields_in_type k u ++ fields_in_variables (k + constructor_count u) gs
-
--- Returns the fields that sections of parameters declare. `k` is the ordinal of the next word ARRAY
--- or RECORD: the number of such words before the sections.
-abbrev pub fields_in_parameter_sections : ℕ → Tree ℕ (items section_after_semicolon) → List FieldIdentifier
-fields_in_parameter_sections k end = []
-fields_in_parameter_sections k (more (semicolon_then_section f) fs) =
-    fields_in_type k (parameter_section_type f) ++ fields_in_parameter_sections (k + constructor_count (parameter_section_type f)) fs
-
-abbrev mutual
-  -- Returns the fields that a block declares and selects. `k` is the ordinal of the next word ARRAY
-  -- or RECORD: the number of such words before the block.
-  pub fields_in_block : {P : Type 0} → Meanings ℕ Shape P → ℕ → Tree ℕ block → List FieldIdentifier
-  fields_in_block m k (forms_block (declares cs ts vs ps) statements) =
-      (fields_in_types k (section_types ts)
-      ++ (fields_in_variables (constructor_count_before_variables k (forms_block (declares cs ts vs ps) statements))
-      (section_variables vs)
-      ++ fields_in_procedures m (constructor_count_before_procedures k (forms_block (declares cs ts vs ps) statements)) ps))
-      ++ fields_in_tree m statements
-
-  -- Returns the fields that procedures declare and select, in text order. `k` is the ordinal of the
-  -- next word ARRAY or RECORD: the number of such words before the procedures.
-  pub fields_in_procedures : {P : Type 0}
-      → Meanings ℕ Shape P
-      → ℕ
-      → Tree ℕ (items procedure)
-      → List FieldIdentifier
-  fields_in_procedures m k end = []
-  fields_in_procedures m k (more p rest) =
-      fields_in_procedure m k p ++ fields_in_procedures m (k + procedure_constructor_count p) rest
-
-  -- Returns the fields of a procedure: its parameters' fields, then its block's fields. `k` is the
-  -- ordinal of the next word ARRAY or RECORD: the number of such words before the procedure.
-  pub fields_in_procedure : {P : Type 0}
-      → Meanings ℕ Shape P
-      → ℕ
-      → Tree ℕ (item procedure)
-      → List FieldIdentifier
-  fields_in_procedure m k (declares_procedure x fs b closing) =
-      fields_in_parameter_sections k (formal_parameter_sections fs)
-      ++ fields_in_block m (constructor_count_before_procedure_block k (declares_procedure x fs b closing)) b
-
--- returns the field identifiers of a module that a walk over its tree finds, in text order
-abbrev pub fields_in_module : {P : Type 0} → Meanings ℕ Shape P → Tree ℕ module_text → List FieldIdentifier
-fields_in_module m (forms_module x b closing) = fields_in_block m 0 b
-
--- States that the code's walk over a module (`fields_in_module`) finds exactly the identifiers of the list
--- `identifier_owners_in_resolution` that have an owner, in the same order.
-abbrev pub WalkFindsAllFields : Type 0
-WalkFindsAllFields =
-    (r : Resolution)
-    → fields_with_owners (identifier_owners_in_resolution r)
-    ≡ fields_in_module (meanings_by_token (declared_object (named_tree_of r.module_read)) r)
-    (tree_of r.module_read)

@@ -3,7 +3,7 @@
 ghost use Rattle.std.specs.Prelude.{OnOk};
 ghost use Rattle.ob0_tree.specs.View.{block_of, procedure_of};
 ghost use Rattle.ob0_language_types.specs.Declarations.{block_constructor_count, procedure_constructor_count};
-ghost use Rattle.ob0_types_fields.specs.FieldIdentifiers.{fields_declared_in_block, fields_declared_in_procedure};
+ghost use Rattle.ob0_types_fields.specs.FieldIdentifiers.{identifiers_declared_in_block, identifiers_declared_in_procedure};
 ghost use Rattle.ob0_types_fields.specs.FieldWalks.{VisitsDeclarations};
 
 use crate::field_visitors::FieldVisitor;
@@ -22,7 +22,7 @@ pub(crate) fn visit_fields_declared_in_block<V: FieldVisitor>(
     b: &Block,
 ) -> Result<(), V::Error>
     ensures { OnOk result (VisitsDeclarations V.state_after_one_field
-        (fields_declared_in_block word_count.old (block_of b.now))
+        (identifiers_declared_in_block word_count.old (block_of b.now))
         (block_constructor_count (block_of b.now))
         word_count.old word_count.new visitor.old visitor.new) }
 {
@@ -44,7 +44,7 @@ fn visit_fields_declared_in_procedure<V: FieldVisitor>(
     p: &Procedure,
 ) -> Result<(), V::Error>
     ensures { OnOk result (VisitsDeclarations V.state_after_one_field
-        (fields_declared_in_procedure word_count.old (procedure_of p.now))
+        (identifiers_declared_in_procedure word_count.old (procedure_of p.now))
         (procedure_constructor_count (procedure_of p.now))
         word_count.old word_count.new visitor.old visitor.new) }
 {

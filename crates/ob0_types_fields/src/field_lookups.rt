@@ -8,7 +8,7 @@ ghost use Rattle.ob0_types_table.specs.DeclarationTables.{declared_object_in};
 ghost use Rattle.ob0_types_fields.specs.FieldIdentifiers.{declared_fields, field_at_token, field_declaring_token, field_index_in_record, tokens_of_field};
 ghost use Rattle.ob0_types_fields.specs.FieldVisitors.{declared_index, declared_token};
 ghost use Rattle.ob0_types_fields.specs.FieldWalks.{state_after_fields};
-ghost use Rattle.ob0_types_fields.specs.IdentifierOwners.{fields_in_module, fields_in_tree, meanings_by_token};
+ghost use Rattle.ob0_types_fields.specs.IdentifierOwners.{fields_with_owners, meanings_by_token, module_identifiers, selected_identifiers};
 
 use crate::declared_block_fields::visit_fields_declared_in_block;
 use crate::field_identifier::FieldIdentifier;
@@ -30,8 +30,8 @@ pub fn selected_field_at_token<'a, 't>(
     token: usize,
 ) -> Option<FieldIdentifier>
     ensures { result ≡ field_at_token token
-        (fields_in_tree (meanings_by_token (declared_object_in table.now) resolved.now)
-        (body_of statements.now)) }
+        (fields_with_owners (selected_identifiers (meanings_by_token (declared_object_in table.now) resolved.now) None
+        (body_of statements.now))) }
 {
     let walk = FieldWalk { table, resolved };
     let mut search = FieldSearch { token, found: None };
@@ -89,8 +89,8 @@ pub fn tokens_of_field<'a, 't>(
 ) -> Result<Vec<usize>, AllocError>
     ensures { IfOk result (λ found. found.items
         ≡ tokens_of_field resolved.now.module_read.source owner name.now
-        (fields_in_module (meanings_by_token (declared_object_in table.now) resolved.now)
-        (tree_of resolved.now.module_read))) }
+        (fields_with_owners (module_identifiers (meanings_by_token (declared_object_in table.now) resolved.now)
+        (tree_of resolved.now.module_read)))) }
 {
     let walk = FieldWalk { table, resolved };
     let mut collector = FieldTokenCollector {

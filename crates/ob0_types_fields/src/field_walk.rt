@@ -21,8 +21,8 @@ ghost use Rattle.ob0_types_table.specs.DeclarationTableView.{type_shape};
 ghost use Rattle.ob0_language_types.specs.Typing.{element_type, field_type, type_of_variable_or_constant};
 ghost use Rattle.ob0_language_values.specs.Values.{integer_shape};
 ghost use Rattle.ob0_language_fields.specs.MarkedFields.{type_after_selector};
-ghost use Rattle.ob0_types_fields.specs.IdentifierOwners.{field_if_owned, fields_in_tree, fields_in_block, fields_in_module, fields_in_procedure, owner};
-ghost use Rattle.ob0_types_fields.specs.FieldWalks.{VisitsDeclarations, fields_in_selector, field_walk_meanings, record_shape_in_walk, state_after_fields};
+ghost use Rattle.ob0_types_fields.specs.IdentifierOwners.{block_identifiers, module_identifiers, owner, procedure_identifiers, selected_identifiers};
+ghost use Rattle.ob0_types_fields.specs.FieldWalks.{VisitsDeclarations, field_walk_meanings, record_shape_in_walk, state_after_identifiers, state_after_owner};
 
 use crate::field_identifier::FieldIdentifier;
 use crate::field_visitors::FieldVisitor;
@@ -78,9 +78,9 @@ impl<'a, 't> FieldWalk<'a, 't> {
         base: Option<TypeId>,
         name: usize,
     ) -> Result<Option<TypeId>, V::Error>
-        ensures visited { OnOk result (visitor.new ≡ state_after_fields V.state_after_one_field
-            (field_if_owned name (owner (option_map (type_shape (shapes_of self.now.table.now)) base)
-            ((field_walk_meanings self.now).written name))) visitor.old) }
+        ensures visited { OnOk result (visitor.new ≡ state_after_owner V.state_after_one_field name
+            (owner (option_map (type_shape (shapes_of self.now.table.now)) base)
+            ((field_walk_meanings self.now).written name)) visitor.old) }
         ensures following { IfOk result (λ t.
             option_map (type_shape (shapes_of self.now.table.now)) t
             ≡ option_and_then (λ z. field_type z ((field_walk_meanings self.now).written name))
@@ -108,9 +108,9 @@ impl<'a, 't> FieldWalk<'a, 't> {
         shape: &RecordShape,
         name: usize,
     ) -> Result<Option<TypeId>, V::Error>
-        ensures visited { OnOk result (visitor.new ≡ state_after_fields V.state_after_one_field
-            (field_if_owned name (owner (Some (record_shape_in_walk self.now shape.now))
-            ((field_walk_meanings self.now).written name))) visitor.old) }
+        ensures visited { OnOk result (visitor.new ≡ state_after_owner V.state_after_one_field name
+            (owner (Some (record_shape_in_walk self.now shape.now))
+            ((field_walk_meanings self.now).written name)) visitor.old) }
         ensures following { IfOk result (λ t.
             option_map (type_shape (shapes_of self.now.table.now)) t
             ≡ field_type (record_shape_in_walk self.now shape.now)
@@ -149,8 +149,8 @@ impl<'a, 't> FieldWalk<'a, 't> {
         visitor: &mut V,
         e: &Expression,
     ) -> Result<(), V::Error>
-        ensures { OnOk result (visitor.new ≡ state_after_fields V.state_after_one_field
-            (fields_in_tree (field_walk_meanings self.now) (expression_of e.now)) visitor.old) }
+        ensures { OnOk result (visitor.new ≡ state_after_identifiers V.state_after_one_field
+            (selected_identifiers (field_walk_meanings self.now) None (expression_of e.now)) visitor.old) }
     {
         match e {
             Expression::Factor(f) => self.visit_factor_fields(visitor, f),
@@ -164,8 +164,8 @@ impl<'a, 't> FieldWalk<'a, 't> {
         visitor: &mut V,
         c: &CompoundExpression,
     ) -> Result<(), V::Error>
-        ensures { OnOk result (visitor.new ≡ state_after_fields V.state_after_one_field
-            (fields_in_tree (field_walk_meanings self.now) (compound_expression_of c.now)) visitor.old) }
+        ensures { OnOk result (visitor.new ≡ state_after_identifiers V.state_after_one_field
+            (selected_identifiers (field_walk_meanings self.now) None (compound_expression_of c.now)) visitor.old) }
     {
         self.visit_simple_expression_fields(visitor, &c.left)?;
         match &c.compared {
@@ -180,8 +180,8 @@ impl<'a, 't> FieldWalk<'a, 't> {
         visitor: &mut V,
         s: &SimpleExpression,
     ) -> Result<(), V::Error>
-        ensures { OnOk result (visitor.new ≡ state_after_fields V.state_after_one_field
-            (fields_in_tree (field_walk_meanings self.now) (simple_expression_of s.now)) visitor.old) }
+        ensures { OnOk result (visitor.new ≡ state_after_identifiers V.state_after_one_field
+            (selected_identifiers (field_walk_meanings self.now) None (simple_expression_of s.now)) visitor.old) }
     {
         self.visit_term_fields(visitor, &s.first)?;
         for addend in &s.more {
@@ -192,8 +192,8 @@ impl<'a, 't> FieldWalk<'a, 't> {
 
     #[cycle(expressions)]
     fn visit_term_fields<V: FieldVisitor>(&self, visitor: &mut V, t: &Term) -> Result<(), V::Error>
-        ensures { OnOk result (visitor.new ≡ state_after_fields V.state_after_one_field
-            (fields_in_tree (field_walk_meanings self.now) (term_of t.now)) visitor.old) }
+        ensures { OnOk result (visitor.new ≡ state_after_identifiers V.state_after_one_field
+            (selected_identifiers (field_walk_meanings self.now) None (term_of t.now)) visitor.old) }
     {
         self.visit_factor_fields(visitor, &t.first)?;
         for multiplier in &t.more {
@@ -208,8 +208,8 @@ impl<'a, 't> FieldWalk<'a, 't> {
         visitor: &mut V,
         f: &Factor,
     ) -> Result<(), V::Error>
-        ensures { OnOk result (visitor.new ≡ state_after_fields V.state_after_one_field
-            (fields_in_tree (field_walk_meanings self.now) (factor_of f.now)) visitor.old) }
+        ensures { OnOk result (visitor.new ≡ state_after_identifiers V.state_after_one_field
+            (selected_identifiers (field_walk_meanings self.now) None (factor_of f.now)) visitor.old) }
     {
         match f {
             Factor::Designator(d) => self.visit_designator_fields(visitor, d),
@@ -225,8 +225,8 @@ impl<'a, 't> FieldWalk<'a, 't> {
         visitor: &mut V,
         d: &Designator,
     ) -> Result<(), V::Error>
-        ensures { OnOk result (visitor.new ≡ state_after_fields V.state_after_one_field
-            (fields_in_tree (field_walk_meanings self.now) (designator_of d.now)) visitor.old) }
+        ensures { OnOk result (visitor.new ≡ state_after_identifiers V.state_after_one_field
+            (selected_identifiers (field_walk_meanings self.now) None (designator_of d.now)) visitor.old) }
     {
         if d.selectors.is_empty() {
             return Ok(());
@@ -248,8 +248,8 @@ impl<'a, 't> FieldWalk<'a, 't> {
         base: Option<TypeId>,
         s: &Selector,
     ) -> Result<Option<TypeId>, V::Error>
-        ensures visited { OnOk result (visitor.new ≡ state_after_fields V.state_after_one_field
-            (fields_in_selector (field_walk_meanings self.now)
+        ensures visited { OnOk result (visitor.new ≡ state_after_identifiers V.state_after_one_field
+            (selected_identifiers (field_walk_meanings self.now)
             (option_map (type_shape (shapes_of self.now.table.now)) base) (selector_of s.now))
             visitor.old) }
         ensures following { IfOk result (λ t.
@@ -271,16 +271,16 @@ impl<'a, 't> FieldWalk<'a, 't> {
         visitor: &mut V,
         a: &Assignment,
     ) -> Result<(), V::Error>
-        ensures { OnOk result (visitor.new ≡ state_after_fields V.state_after_one_field
-            (fields_in_tree (field_walk_meanings self.now) (assignment_of a.now)) visitor.old) }
+        ensures { OnOk result (visitor.new ≡ state_after_identifiers V.state_after_one_field
+            (selected_identifiers (field_walk_meanings self.now) None (assignment_of a.now)) visitor.old) }
     {
         self.visit_designator_fields(visitor, &a.target)?;
         self.visit_expression_fields(visitor, &a.value)
     }
 
     fn visit_call_fields<V: FieldVisitor>(&self, visitor: &mut V, c: &Call) -> Result<(), V::Error>
-        ensures { OnOk result (visitor.new ≡ state_after_fields V.state_after_one_field
-            (fields_in_tree (field_walk_meanings self.now) (call_of c.now)) visitor.old) }
+        ensures { OnOk result (visitor.new ≡ state_after_identifiers V.state_after_one_field
+            (selected_identifiers (field_walk_meanings self.now) None (call_of c.now)) visitor.old) }
     {
         if let Some(given) = &c.arguments {
             self.visit_argument_fields(visitor, given)?;
@@ -293,8 +293,8 @@ impl<'a, 't> FieldWalk<'a, 't> {
         visitor: &mut V,
         given: &Vec<Expression>,
     ) -> Result<(), V::Error>
-        ensures { OnOk result (visitor.new ≡ state_after_fields V.state_after_one_field
-            (fields_in_tree (field_walk_meanings self.now) (arguments_of_vec given.now)) visitor.old) }
+        ensures { OnOk result (visitor.new ≡ state_after_identifiers V.state_after_one_field
+            (selected_identifiers (field_walk_meanings self.now) None (arguments_of_vec given.now)) visitor.old) }
     {
         for e in given {
             self.visit_expression_fields(visitor, e)?;
@@ -308,8 +308,8 @@ impl<'a, 't> FieldWalk<'a, 't> {
         visitor: &mut V,
         statements: &Vec<Statement>,
     ) -> Result<(), V::Error>
-        ensures { OnOk result (visitor.new ≡ state_after_fields V.state_after_one_field
-            (fields_in_tree (field_walk_meanings self.now) (sequence_of_vec statements.now)) visitor.old) }
+        ensures { OnOk result (visitor.new ≡ state_after_identifiers V.state_after_one_field
+            (selected_identifiers (field_walk_meanings self.now) None (sequence_of_vec statements.now)) visitor.old) }
     {
         for s in statements {
             self.visit_statement_fields(visitor, s)?;
@@ -323,8 +323,8 @@ impl<'a, 't> FieldWalk<'a, 't> {
         visitor: &mut V,
         s: &Statement,
     ) -> Result<(), V::Error>
-        ensures { OnOk result (visitor.new ≡ state_after_fields V.state_after_one_field
-            (fields_in_tree (field_walk_meanings self.now) (statement_of s.now)) visitor.old) }
+        ensures { OnOk result (visitor.new ≡ state_after_identifiers V.state_after_one_field
+            (selected_identifiers (field_walk_meanings self.now) None (statement_of s.now)) visitor.old) }
     {
         match s {
             Statement::Empty => Ok(()),
@@ -346,8 +346,8 @@ impl<'a, 't> FieldWalk<'a, 't> {
 
     #[cycle(statements)]
     fn visit_if_fields<V: FieldVisitor>(&self, visitor: &mut V, i: &If) -> Result<(), V::Error>
-        ensures { OnOk result (visitor.new ≡ state_after_fields V.state_after_one_field
-            (fields_in_tree (field_walk_meanings self.now) (if_of i.now)) visitor.old) }
+        ensures { OnOk result (visitor.new ≡ state_after_identifiers V.state_after_one_field
+            (selected_identifiers (field_walk_meanings self.now) None (if_of i.now)) visitor.old) }
     {
         self.visit_expression_fields(visitor, &i.condition)?;
         self.visit_sequence_fields(visitor, &i.then)?;
@@ -364,8 +364,8 @@ impl<'a, 't> FieldWalk<'a, 't> {
         visitor: &mut V,
         parts: &Vec<Elsif>,
     ) -> Result<(), V::Error>
-        ensures { OnOk result (visitor.new ≡ state_after_fields V.state_after_one_field
-            (fields_in_tree (field_walk_meanings self.now) (elsifs_of_vec parts.now)) visitor.old) }
+        ensures { OnOk result (visitor.new ≡ state_after_identifiers V.state_after_one_field
+            (selected_identifiers (field_walk_meanings self.now) None (elsifs_of_vec parts.now)) visitor.old) }
     {
         for e in parts {
             self.visit_expression_fields(visitor, &e.condition)?;
@@ -381,8 +381,8 @@ impl<'a, 't> FieldWalk<'a, 't> {
         visitor: &mut V,
         statements: &Option<Vec<Statement>>,
     ) -> Result<(), V::Error>
-        ensures { OnOk result (visitor.new ≡ state_after_fields V.state_after_one_field
-            (fields_in_tree (field_walk_meanings self.now) (body_of statements.now)) visitor.old) }
+        ensures { OnOk result (visitor.new ≡ state_after_identifiers V.state_after_one_field
+            (selected_identifiers (field_walk_meanings self.now) None (body_of statements.now)) visitor.old) }
     {
         match statements {
             Some(statements) => self.visit_sequence_fields(visitor, statements),
@@ -402,7 +402,7 @@ impl<'a, 't> FieldWalk<'a, 't> {
         b: &Block,
     ) -> Result<(), V::Error>
         ensures { OnOk result (VisitsDeclarations V.state_after_one_field
-            (fields_in_block (field_walk_meanings self.now) word_count.old (block_of b.now))
+            (block_identifiers (field_walk_meanings self.now) word_count.old (block_of b.now))
             (block_constructor_count (block_of b.now))
             word_count.old word_count.new visitor.old visitor.new) }
     {
@@ -425,7 +425,7 @@ impl<'a, 't> FieldWalk<'a, 't> {
         p: &Procedure,
     ) -> Result<(), V::Error>
         ensures { OnOk result (VisitsDeclarations V.state_after_one_field
-            (fields_in_procedure (field_walk_meanings self.now) word_count.old (procedure_of p.now))
+            (procedure_identifiers (field_walk_meanings self.now) word_count.old (procedure_of p.now))
             (procedure_constructor_count (procedure_of p.now))
             word_count.old word_count.new visitor.old visitor.new) }
     {
@@ -438,8 +438,8 @@ impl<'a, 't> FieldWalk<'a, 't> {
         &self,
         visitor: &mut V,
     ) -> Result<(), V::Error>
-        ensures { OnOk result (visitor.new ≡ state_after_fields V.state_after_one_field
-            (fields_in_module (field_walk_meanings self.now)
+        ensures { OnOk result (visitor.new ≡ state_after_identifiers V.state_after_one_field
+            (module_identifiers (field_walk_meanings self.now)
             (tree_of self.now.resolved.now.module_read)) visitor.old) }
     {
         // The proof needs this call: there are no more words ARRAY and RECORD than tokens.

@@ -5,7 +5,7 @@
 
 ghost use Rattle.ob0_types_fields.specs.FieldTypes.{FieldsHaveTypes};
 ghost use Rattle.ob0_types_fields.specs.FieldIdentifiers.{DuplicateFieldNameHasDeclaringToken, FieldsAreDeclared, FieldsMatchGrammar, RenamingChangesFieldTokens};
-ghost use Rattle.ob0_types_fields.specs.IdentifierOwners.{WalkFindsAllFields, AgreeingTableIsOwnerTable, TableWithEnteredOwnersIsOwnerTable};
+ghost use Rattle.ob0_types_fields.specs.IdentifierOwners.{AgreeingTableIsOwnerTable, TableWithEnteredOwnersIsOwnerTable};
 ghost use Rattle.ob0_types_fields.specs.OwnerTables.{RenamingFollowsOwners};
 
 /// Proves that a table is an owner table (`IsOwnerTable`) of a well-typed module if it agrees with
@@ -21,12 +21,6 @@ pub fn agreeing_table_is_owner_table()
 /// each field identifier's record at the identifier's token.
 pub fn table_with_entered_owners_is_owner_table()
     ensures { TableWithEnteredOwnersIsOwnerTable }
-{}
-
-/// Proves that the code's walk over a module finds exactly the identifiers that declare or select a
-/// field of a known record, in text order. The walk is defined by `fields_in_module`.
-pub fn walk_finds_all_fields()
-    ensures { WalkFindsAllFields }
 {}
 
 /// Proves that renaming a field of a well-typed module gives the new name to the identifiers at the

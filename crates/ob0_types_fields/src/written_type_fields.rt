@@ -10,7 +10,7 @@ ghost use Rattle.ob0_tree.specs.View.{optional_field_group_of, formals_of, names
 ghost use Rattle.ob0_language_types.specs.Declarations.{formals_constructor_count, types_constructor_count, variables_constructor_count};
 ghost use Rattle.ob0_language_types.specs.Typing.{constructor_count, group_constructor_count};
 ghost use Rattle.ob0_types_fields.specs.FieldWalks.{VisitsDeclarations, state_after_fields};
-ghost use Rattle.ob0_types_fields.specs.IdentifierOwners.{fields_in_group, fields_at_tokens, fields_in_parameter_sections, fields_in_type, fields_in_types, fields_in_variables};
+ghost use Rattle.ob0_types_fields.specs.IdentifierOwners.{fields_at_tokens, group_identifiers, section_identifiers};
 
 use crate::field_identifier::FieldIdentifier;
 use crate::field_visitors::FieldVisitor;
@@ -59,7 +59,7 @@ pub(crate) fn visit_type_fields<V: FieldVisitor>(
     t: &WrittenType,
 ) -> Result<(), V::Error>
     ensures { OnOk result (VisitsDeclarations V.state_after_one_field
-        (fields_in_type word_count.old (type_of t.now)) (constructor_count (type_of t.now))
+        (section_identifiers word_count.old (type_of t.now)) (constructor_count (type_of t.now))
         word_count.old word_count.new visitor.old visitor.new) }
 {
     match t {
@@ -82,7 +82,7 @@ fn visit_record_fields<V: FieldVisitor>(
     r: &RecordType,
 ) -> Result<(), V::Error>
     ensures { OnOk result (VisitsDeclarations V.state_after_one_field
-        (fields_in_type word_count.old (record_type_of r.now))
+        (section_identifiers word_count.old (record_type_of r.now))
         (constructor_count (record_type_of r.now))
         word_count.old word_count.new visitor.old visitor.new) }
 {
@@ -106,7 +106,7 @@ fn visit_group_fields<V: FieldVisitor>(
     f: &OptionalFieldGroup,
 ) -> Result<(), V::Error>
     ensures { OnOk result (VisitsDeclarations V.state_after_one_field
-        (fields_in_group owner word_count.old (optional_field_group_of f.now))
+        (group_identifiers owner word_count.old (optional_field_group_of f.now))
         (group_constructor_count (optional_field_group_of f.now))
         word_count.old word_count.new visitor.old visitor.new) }
 {
@@ -130,7 +130,7 @@ pub(crate) fn visit_type_section_fields<V: FieldVisitor>(
     listed: &Option<Vec<TypeDeclaration>>,
 ) -> Result<(), V::Error>
     ensures { OnOk result (VisitsDeclarations V.state_after_one_field
-        (fields_in_types word_count.old (section_types (type_section_of listed.now)))
+        (section_identifiers word_count.old (type_section_of listed.now))
         (types_constructor_count (section_types (type_section_of listed.now)))
         word_count.old word_count.new visitor.old visitor.new) }
 {
@@ -153,7 +153,7 @@ pub(crate) fn visit_variable_section_fields<V: FieldVisitor>(
     listed: &Option<Vec<VariableDeclaration>>,
 ) -> Result<(), V::Error>
     ensures { OnOk result (VisitsDeclarations V.state_after_one_field
-        (fields_in_variables word_count.old (section_variables (variable_section_of listed.now)))
+        (section_identifiers word_count.old (variable_section_of listed.now))
         (variables_constructor_count (section_variables (variable_section_of listed.now)))
         word_count.old word_count.new visitor.old visitor.new) }
 {
@@ -176,8 +176,7 @@ pub(crate) fn visit_parameter_type_fields<V: FieldVisitor>(
     listed: &Option<Vec<ParameterSection>>,
 ) -> Result<(), V::Error>
     ensures { OnOk result (VisitsDeclarations V.state_after_one_field
-        (fields_in_parameter_sections word_count.old
-        (formal_parameter_sections (formals_of listed.now)))
+        (section_identifiers word_count.old (formals_of listed.now))
         (formals_constructor_count (formal_parameter_sections (formals_of listed.now)))
         word_count.old word_count.new visitor.old visitor.new) }
 {

@@ -4,10 +4,12 @@ use Rattle.ob0_scan.specs.TextWithTokens.{TextWithTokens}
 use Rattle.ob0_tree.specs.TokenIndexLeaves.{token_text_at}
 use Rattle.ob0_language_names.specs.Names.{same_name}
 use Rattle.ob0_types_fields.specs.declared.field_visitors.DeclaredFieldSearch.{DeclaredFieldSearch}
-use Rattle.ob0_types_fields.specs.FieldIdentifiers.{declared_fields, field_tokens_of_record, first_token, tokens_of_field}
-use Rattle.ob0_types_fields.specs.FieldVisitors.{declared_index, declared_token}
 use Rattle.ob0_types_fields.proofs.FieldsVisited.{finds}
 use Rattle.ob0_types_fields.proofs.field_lookups.declared_field.Goals as goal
+use Rattle.ob0_types_fields.specs.IdentifierOwners.{owner}
+use Rattle.ob0_types_fields.specs.FieldIdentifiers.{declared_fields, field_tokens_of_record, first_token, tokens_of_field}
+use Rattle.ob0_types_fields.proofs.OwnersByToken.{tokens}
+use Rattle.ob0_types_fields.specs.FieldVisitors.{declared_index, declared_token}
 
 pub returns-clause-token : goal.returns-clause-token
 returns-clause-token c =

@@ -1,21 +1,25 @@
-use Rattle.std.proofs.Common.{◌≡◌, ℕ, ◌<◌, ◌^◌, ap, ◌∙◌, arith}
+use Rattle.ob0_tree.specs.declared.tree.Role.TheVariants as role
+use Rattle.std.proofs.Common.{◌≡◌, ℕ, ◌<◌, ◌^◌, ap, ◌∙◌, arith, None, sym, ◌∷◌, ◌++◌, []}
 use Rattle.ob0_tree.specs.ParsedModule.{ParsedModule, tree_of}
 use Rattle.ob0_tree.specs.View.{block_of}
 use Rattle.ob0_language_types.specs.Declarations.{block_constructor_count}
 use Rattle.ob0_language_names.specs.BlockParts.{module_block}
 use Rattle.ob0_tree.specs.declared.tree.Block.{Block}
 use Rattle.ob0_types_fields.specs.declared.field_identifier.FieldIdentifier.{FieldIdentifier}
-use Rattle.ob0_types_fields.specs.FieldWalks.{VisitsDeclarations, state_after_fields}
-use Rattle.ob0_types_fields.specs.FieldIdentifiers.{declared_fields, fields_declared_in_block}
-use Rattle.ob0_types_fields.proofs.FieldVisits.{on_ok, visits_as}
 use Rattle.ob0_types_fields.proofs.FieldIdentifierList.{declared_are_few}
 use Rattle.ob0_types_fields.proofs.WordsAreTokens.{words_are_tokens}
 use Rattle.ob0_types_fields.proofs.field_lookups.visit_declared_fields.Goals as goal
+use Rattle.ob0_types_fields.specs.FieldWalks.{VisitsDeclarations, state_after_fields}
+use Rattle.ob0_types_fields.specs.FieldIdentifiers.{declared_fields, identifiers_declared_in_block}
+use Rattle.ob0_types_fields.proofs.FieldVisits.{fields_visited, on_ok, visited_append, visits_as}
 
 -- The words of a module can be counted, so its declarations are visited as a whole.
 declared_visited : {S : Type 0} {step : FieldIdentifier → S → S} {s t : S} {after : ℕ} (p : ParsedModule) {b : Block} → b ≡ p.block → block_constructor_count (module_block (tree_of p)) < 2 ^ 64
-    → VisitsDeclarations step (fields_declared_in_block 0 (block_of b)) (block_constructor_count (block_of b)) 0 after s t → t ≡ state_after_fields step (declared_fields p) s
-declared_visited p same few v = (visits_as (ap (λ b. fields_declared_in_block 0 (block_of b)) same) (ap (λ b. block_constructor_count (block_of b)) same) v).visited (omega (arith, few))
+    → VisitsDeclarations step (identifiers_declared_in_block 0 (block_of b)) (block_constructor_count (block_of b)) 0 after s t → t ≡ state_after_fields step (declared_fields p) s
+declared_visited {step = step} {s = s} p same few v =
+    let B = identifiers_declared_in_block 0 (module_block (tree_of p)) in
+    (visits_as (ap (λ b. identifiers_declared_in_block 0 (block_of b)) same) (ap (λ b. block_constructor_count (block_of b)) same) v).visited (omega (arith, few))
+    ∙ (sym (visited_append step B ((role.ModuleName, (p.closing, None)) ∷ []) s) ∙ fields_visited step ((role.ModuleName, (p.name, None)) ∷ (B ++ ((role.ModuleName, (p.closing, None)) ∷ []))) s)
 
 pub returns-clause-few : goal.returns-clause-few
 returns-clause-few g c =

@@ -3,10 +3,10 @@ use Rattle.ob0_tree.specs.ParsedModule.{ParsedModule}
 use Rattle.ob0_tree.specs.View.{block_of}
 use Rattle.ob0_types_table.specs.DeclarationTables.{declared_object_in, shapes_of}
 use Rattle.ob0_types_fields.specs.FieldTypes.{constructed_types}
-use Rattle.ob0_types_fields.specs.IdentifierOwners.{meanings_by_token}
 use Rattle.ob0_types_fields.specs.TypeConstructorSearch.{found_type, search_view}
 use Rattle.ob0_types_fields.proofs.ConstructorWalks.{found_at}
 use Rattle.ob0_types_fields.proofs.field_types.constructed_type.Goals as goal
+use Rattle.ob0_types_fields.specs.IdentifierOwners.{meanings_by_token}
 
 pub returns-in-Found : goal.returns-in-Found
 returns-in-Found c =

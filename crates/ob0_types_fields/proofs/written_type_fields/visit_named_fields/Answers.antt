@@ -1,9 +1,9 @@
 use Rattle.std.proofs.Common.{get_or, sym, ◌∙◌}
 use Rattle.std.proofs.lemmas.List.{get_or_default}
-use Rattle.ob0_types_fields.specs.IdentifierOwners.{fields_at_tokens}
+use Rattle.ob0_types_fields.proofs.written_type_fields.visit_named_fields.Goals as goal
+use Rattle.ob0_types_fields.specs.IdentifierOwners.{fields_at_tokens, owner}
 use Rattle.ob0_types_fields.specs.FieldWalks.{state_after_fields}
 use Rattle.ob0_types_fields.proofs.FieldVisits.{further_listed, name_visited, names_visited}
-use Rattle.ob0_types_fields.proofs.written_type_fields.visit_named_fields.Goals as goal
 
 pub loop-name-preserved : goal.loop-name-preserved
 loop-name-preserved g c =

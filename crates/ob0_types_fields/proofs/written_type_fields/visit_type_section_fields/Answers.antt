@@ -1,25 +1,28 @@
-use Rattle.std.proofs.Common.{refl, sym, ap, ◌∙◌}
+use Rattle.ob0_tree.specs.declared.tree.Role.TheVariants as role
+use Rattle.std.proofs.Common.{refl, sym, ap, ◌∙◌, None, ◌∷◌, []}
 use Rattle.ob0_tree.specs.View.{type_section_of, type_declaration_of, items_of, type_of}
 use Rattle.ob0_language_names.specs.BlockParts.{section_types}
 use Rattle.ob0_language_types.specs.Declarations.{types_constructor_count}
 use Rattle.ob0_language_types.specs.Typing.{constructor_count}
-use Rattle.ob0_types_fields.specs.IdentifierOwners.{fields_in_types, fields_in_type}
-use Rattle.ob0_types_fields.proofs.FieldVisits.{declaration_visited, declarations_visited, visits_as, visits_nothing}
 use Rattle.ob0_types_fields.proofs.written_type_fields.visit_type_section_fields.Goals as goal
+use Rattle.ob0_types_fields.specs.IdentifierOwners.{section_identifiers}
+use Rattle.ob0_types_fields.proofs.FieldVisits.{declaration_visited, declarations_visited, visits_as, visits_before, visits_nothing}
 
 pub loop-d-preserved : goal.loop-d-preserved
 loop-d-preserved g c =
     let d = c.d-item.result in
-    declaration_visited type_declaration_of fields_in_types types_constructor_count d (λ n. fields_in_type n (type_of d.written)) (constructor_count (type_of d.written))
-    (λ n rest. refl) (λ rest. refl) c.loop-d.invariant c.loop-d-test.true c.d-item.is c.in_ok-visit_type_fields.ensures
+    declaration_visited type_declaration_of section_identifiers types_constructor_count d (λ n. section_identifiers n (type_declaration_of d)) (constructor_count (type_of d.written))
+    (λ n rest. refl) (λ rest. refl) c.loop-d.invariant c.loop-d-test.true c.d-item.is (visits_before ((role.DeclaringName, (d.name, None)) ∷ []) refl c.in_ok-visit_type_fields.ensures)
 
 pub returns-in_default : goal.returns-in_default
 returns-in_default g c =
-    let none = sym (ap (λ o. section_types (type_section_of o)) c.in_default.is) in
-    visits_as (ap (fields_in_types c.args.word_count.now) none) (ap types_constructor_count none) (visits_nothing g.V.FieldVisitor.state_after_one_field c.args.word_count.now c.args.visitor.now)
+    let none = sym c.in_default.is in
+    visits_as (ap (λ o. section_identifiers c.args.word_count.now (type_section_of o)) none) (ap (λ o. types_constructor_count (section_types (type_section_of o))) none) (visits_nothing g.V.FieldVisitor.state_after_one_field c.args.word_count.now c.args.visitor.now)
 
 pub returns : goal.returns
 returns g c =
-    let listed = ap (items_of type_declaration_of) c.deref-d-items.ensures.value ∙ sym (ap (λ o. section_types (type_section_of o)) c.in-Some.is) in
-    visits_as (ap (fields_in_types c.args.word_count.now) listed) (ap types_constructor_count listed)
-    (declarations_visited type_declaration_of fields_in_types types_constructor_count (λ n. refl) refl c.loop-d.invariant c.loop-d-test.false)
+    let k = c.args.word_count.now in
+    let listed = c.deref-d-items.ensures.value in
+    let some = sym c.in-Some.is in
+    visits_as (ap (λ xs. section_identifiers k (items_of type_declaration_of xs)) listed ∙ ap (λ o. section_identifiers k (type_section_of o)) some) (ap (λ xs. types_constructor_count (items_of type_declaration_of xs)) listed ∙ ap (λ o. types_constructor_count (section_types (type_section_of o))) some)
+    (declarations_visited type_declaration_of section_identifiers types_constructor_count (λ n. refl) refl c.loop-d.invariant c.loop-d-test.false)

@@ -1,8 +1,8 @@
 use Rattle.ob0_tree.specs.View.{type_declaration_of}
 use Rattle.ob0_language_types.specs.Declarations.{types_constructor_count}
-use Rattle.ob0_types_fields.specs.IdentifierOwners.{fields_in_types}
-use Rattle.ob0_types_fields.proofs.FieldVisits.{OverDeclarations}
 use Rattle.ob0_types_fields.proofs.written_type_fields.visit_type_section_fields.Given as goal
+use Rattle.ob0_types_fields.specs.IdentifierOwners.{section_identifiers}
+use Rattle.ob0_types_fields.proofs.FieldVisits.{OverDeclarations}
 
 abbrev pub invariant-loop-d : goal.invariant-loop-d
-invariant-loop-d g l = OverDeclarations g.V.FieldVisitor.state_after_one_field type_declaration_of fields_in_types types_constructor_count l.initial.word_count l.initial.visitor l.d-items l.d-index l.word_count l.visitor
+invariant-loop-d g l = OverDeclarations g.V.FieldVisitor.state_after_one_field type_declaration_of section_identifiers types_constructor_count l.initial.word_count l.initial.visitor l.d-items l.d-index l.word_count l.visitor

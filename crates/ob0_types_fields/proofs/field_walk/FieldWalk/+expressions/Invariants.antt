@@ -2,9 +2,9 @@ use Rattle.std.proofs.Common.{option_map}
 use Rattle.ob0_tree.specs.View.{addend_of, multiplier_of}
 use Rattle.ob0_types_table.specs.DeclarationTables.{shapes_of}
 use Rattle.ob0_types_table.specs.DeclarationTableView.{type_shape}
+use Rattle.ob0_types_fields.proofs.field_walk.FieldWalk.+expressions.Given as goal
 use Rattle.ob0_types_fields.specs.FieldWalks.{field_walk_meanings}
 use Rattle.ob0_types_fields.proofs.FieldVisits.{OnPath, Visiting}
-use Rattle.ob0_types_fields.proofs.field_walk.FieldWalk.+expressions.Given as goal
 
 abbrev pub invariant-visit_designator_fields-loop-s : goal.invariant-visit_designator_fields-loop-s
 invariant-visit_designator_fields-loop-s g l =

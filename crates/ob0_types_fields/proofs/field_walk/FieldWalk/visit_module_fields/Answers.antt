@@ -1,4 +1,5 @@
-use Rattle.std.proofs.Common.{◌≡◌, ℕ, ◌<◌, ◌^◌, ap, ◌∙◌, arith}
+use Rattle.ob0_tree.specs.declared.tree.Role.TheVariants as role
+use Rattle.std.proofs.Common.{◌≡◌, ℕ, ◌<◌, ◌^◌, ap, ◌∙◌, arith, None, sym, ◌∷◌, []}
 use Rattle.ob0_tree.specs.ParsedModule.{ParsedModule, tree_of}
 use Rattle.ob0_tree.specs.View.{block_of}
 use Rattle.ob0_language_types.specs.Declarations.{block_constructor_count}
@@ -8,16 +9,18 @@ use Rattle.ob0_language_types.specs.WellTyped.{Signature}
 use Rattle.ob0_language_values.specs.Values.{Shape}
 use Rattle.ob0_tree.specs.declared.tree.Block.{Block}
 use Rattle.ob0_types_fields.specs.declared.field_identifier.FieldIdentifier.{FieldIdentifier}
-use Rattle.ob0_types_fields.specs.IdentifierOwners.{fields_in_block, fields_in_module}
-use Rattle.ob0_types_fields.specs.FieldWalks.{VisitsDeclarations, field_walk_meanings, state_after_fields}
-use Rattle.ob0_types_fields.proofs.FieldVisits.{on_ok, visits_as}
 use Rattle.ob0_types_fields.proofs.WordsAreTokens.{words_are_tokens}
 use Rattle.ob0_types_fields.proofs.field_walk.FieldWalk.visit_module_fields.Goals as goal
+use Rattle.ob0_types_fields.specs.IdentifierOwners.{block_identifiers, module_identifiers}
+use Rattle.ob0_types_fields.specs.FieldWalks.{VisitsDeclarations, field_walk_meanings, state_after_identifiers}
+use Rattle.ob0_types_fields.proofs.FieldVisits.{on_ok, visited_append, visits_as}
 
 -- The words of a module can be counted, so its block is visited as a whole.
 module_visited : {S : Type 0} {step : FieldIdentifier → S → S} {s t : S} {after : ℕ} (m : Meanings ℕ Shape Signature) (p : ParsedModule) {b : Block} → b ≡ p.block → block_constructor_count (module_block (tree_of p)) < 2 ^ 64
-    → VisitsDeclarations step (fields_in_block m 0 (block_of b)) (block_constructor_count (block_of b)) 0 after s t → t ≡ state_after_fields step (fields_in_module m (tree_of p)) s
-module_visited m p same few v = (visits_as (ap (λ b. fields_in_block m 0 (block_of b)) same) (ap (λ b. block_constructor_count (block_of b)) same) v).visited (omega (arith, few))
+    → VisitsDeclarations step (block_identifiers m 0 (block_of b)) (block_constructor_count (block_of b)) 0 after s t → t ≡ state_after_identifiers step (module_identifiers m (tree_of p)) s
+module_visited {step = step} {s = s} m p same few v =
+    (visits_as (ap (λ b. block_identifiers m 0 (block_of b)) same) (ap (λ b. block_constructor_count (block_of b)) same) v).visited (omega (arith, few))
+    ∙ sym (visited_append step (block_identifiers m 0 (module_block (tree_of p))) ((role.ModuleName, (p.closing, None)) ∷ []) s)
 
 pub returns : goal.returns
 returns g c =
