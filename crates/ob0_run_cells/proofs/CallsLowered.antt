@@ -2,9 +2,9 @@
 -- number of calls that may be open. The lemmas of `SoundCalls` of `ob0_language_runs` whose names
 -- end in `-run` hide the environments in between. If a relation mentions these environments, take
 -- the equations from the relation, and use only the lemmas about constants, types and environments.
-use Rattle.std.proofs.lemmas.Bool.{ltb-true}
+use Rattle.std.proofs.lemmas.Grind.{common_steps}
 use Rattle.std.proofs.lemmas.List.{length-replicate}
-use Rattle.std.proofs.Common.{◌≡◌, ℕ, zero, suc, ◌+◌, ◌^◌, ◌<◌, true, false, if◌then◌else◌, nat_lt, length-append, List, [], ◌∷◌, ◌++◌, drop, length, map, take, pos, slice_get, Some, option_and_then, unwrap_or, sym, refl, ap, ◌∙◌, subst, arith, append_assoc}
+use Rattle.std.proofs.Common.{◌≡◌, ℕ, zero, suc, ◌+◌, ◌^◌, ◌<◌, true, length-append, List, [], ◌∷◌, ◌++◌, drop, length, map, pos, slice_get, Some, option_and_then, unwrap_or, sym, refl, ap, ◌∙◌, subst, arith, append_assoc}
 use Rattle.ob0_tree.specs.Tree.{Tree, begins, body, declares_procedure, item, maybe, none, one, procedure}
 use Rattle.ob0_language_names.specs.BlockParts.{block_statements, formal_parameter_sections, procedure_formals}
 use Rattle.ob0_language_types.specs.Declarations.{formals_constructor_count}
@@ -15,7 +15,7 @@ use Rattle.ob0_language_types.proofs.Literals.{some_inverse}
 use Rattle.ob0_language_values.specs.Values.{Place, Shape, Store}
 use Rattle.ob0_language_runs.specs.TypeAgreement.{ArgumentsMatchSignature, RunBindingAgreesWithCheckedBinding, RunEnvironmentAgreesWithCheckedEnvironment, StoreHasTypes, StoreTyping}
 use Rattle.ob0_language_runs.specs.FreedVariables.{call_freeing_variables, keep_first_variables}
-use Rattle.ob0_language_runs.specs.Runs.{RunEnvironment, Argument, ProcedureText, Frame, Progress, State, execute_newest_procedure, bind_parameters, declare_block_in_frame, execute_body, continue_in_frame, running, meanings_for_statements, stopped}
+use Rattle.ob0_language_runs.specs.Runs.{RunEnvironment, Argument, ProcedureText, Frame, Progress, State, execute_newest_procedure, bind_parameters, declare_block_in_frame, execute_body, continue_in_frame, meanings_for_statements}
 use Rattle.ob0_language_runs.proofs.SoundCalls.{from-fit, names-fit, parameters-of_typed}
 use Rattle.ob0_run_machine.specs.Evaluation.{Level, Levels}
 use Rattle.ob0_run_machine.specs.Execution as execution
@@ -32,23 +32,11 @@ use Rattle.ob0_run_cells.proofs.Variables.{variables_are_dropped}
 -- a relation that holds without room, and after an activation with room, holds after any activation
 pub with-cells : (P : execution.MachineProgress → Type 0) (n : ℕ) (next : execution.MachineState → execution.MachineProgress) (s : execution.MachineState) → P execution.no_room → (length s.cells + n < 2 ^ 64 → P (next record s { cells = s.cells ++ execution.zeros n }))
     → P (execution.run_with_added_cells n next s)
-with-cells P n next s without each =
-    (elim (nat_lt (length s.cells + n) (2 ^ 64)) as (λ b. nat_lt (length s.cells + n) (2 ^ 64) ≡ b → P (if b then next record s { cells = s.cells ++ execution.zeros n } else execution.no_room))
-    [ true ↦ λ e. each (ltb-true (length s.cells + n) (2 ^ 64) e) | false ↦ λ e. without ]) refl
+with-cells P n next s without each = grind (arith, common_steps)
 
 -- both drop the call's variables
 pub drop_variables-represents : (typing now others : StoreTyping) (old : Store) (base : ℕ) (p : execution.MachineProgress) (q : Progress) → now ≡ typing ++ others → StoreHasTypes typing old → base ≡ length (cells_of_store old) → MachineProgressRepresentsProgress now p q → MachineProgressRepresentsProgress typing (execution.drop_variables base p) (keep_first_variables (length old) q)
-drop_variables-represents typing now others old base execution.no_room q e fits is h = tt
-drop_variables-represents typing now others old base (execution.running low) (running s) e fits is h =
-    let (kept, cells) = variables_are_dropped typing others old s.store fits (subst (λ all. StoreHasTypes all s.store) e h.store_fits) in
-    record {
-      store_fits = kept;
-      same_cells = (λ i. take (is i) (h.same_cells i)) ∙ sym cells;
-      same_input = h.same_input;
-      same_output = h.same_output;
-    }
-drop_variables-represents typing now others old base (execution.stopped x out) (stopped y written) e fits is h = h
-drop_variables-represents typing now others old base _ _ e fits is h = absurd h
+drop_variables-represents typing now others old base p q h1 h2 h3 h4 = grind (arith, common_steps, variables_are_dropped)
 
 module _ {N : Type 0} (table : RoutineTable N) where
   abbrev pub body_of : ℕ → ℕ → StoreTyping → Levels → RunEnvironment N → BodyContext N
@@ -64,7 +52,7 @@ module _ {N : Type 0} (table : RoutineTable N) where
       → (code : lowered.InstructionList) (statements : Tree N (maybe body)) → CodeMeansBody table.naming checked placement code statements → (low : execution.MachineState) (s : State) → MachineStateRepresentsState typing low s
       → MachineProgressRepresentsProgress typing (execution.execute_sequence (execution.call table.routines c t) t ls code low) (execute_body table.naming active (call_freeing_variables table.naming c t active) t statements s)
   unfolding execution.execute execute_body
-  body-represents c t known typing ls checked placement active env placed few code none means low s h = subst (λ code. MachineProgressRepresentsProgress typing (execution.execute_sequence (execution.call table.routines c t) t ls code low) (running s)) (sym means) h
+  body-represents c t known typing ls checked placement active env placed few code none means low s h = grind (arith, common_steps)
   body-represents c t known typing ls checked placement active env placed few code (one (begins statements)) means low s h =
       means (body_of c t typing ls active) record {
         is_moment = λ store fits. record {

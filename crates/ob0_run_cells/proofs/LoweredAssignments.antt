@@ -1,5 +1,6 @@
 -- Proves that lowered assignments and calls of standard procedures are correct code.
-use Rattle.std.proofs.Common.{◌≡◌, ℕ, ◌+◌, ◌≤◌, true, ◌&&◌, List, [], ◌∷◌, ◌++◌, length, take, drop, ℤ, if◌then◌else◌, nat_le, Some, Option, sym, refl, ap, ◌∙◌, subst}
+use Rattle.std.proofs.lemmas.Grind.{common_steps}
+use Rattle.std.proofs.Common.{◌≡◌, ℕ, ◌+◌, ◌≤◌, true, ◌&&◌, List, [], ◌∷◌, ◌++◌, length, take, drop, ℤ, nat_le, Some, Option, sym, refl, ap, ◌∙◌, subst, arith}
 use Rattle.std.proofs.lemmas.Bool.{le-leb}
 use Rattle.ob0_tree.specs.Tree.{Tree, arguments, assigns, calls, expression, items, maybe, selector}
 use Rattle.ob0_language_types.specs.Arguments.{call_arguments}
@@ -28,8 +29,7 @@ both-within : (a b c d : ℕ) → a ≤ b → c ≤ d → (nat_le a b && nat_le 
 both-within a b c d h k = (λ i. le-leb a b h i && le-leb c d k i)
 
 pub cells_after_copy-within : (cells : List ℤ) (to from n : ℕ) → to + n ≤ length cells → from + n ≤ length cells → execution.cells_after_copy cells to from n ≡ take to cells ++ (take n (drop from cells) ++ drop (to + n) cells)
-cells_after_copy-within cells to from n h k =
-    ap (λ b. if b then take to cells ++ (take n (drop from cells) ++ drop (to + n) cells) else cells) (both-within (to + n) (length cells) (from + n) (length cells) h k)
+cells_after_copy-within cells to from n h k = grind (arith, common_steps)
 
 pub cells-cells_after_copy : (typing : StoreTyping) (low : execution.MachineState) (s : State) (p q : Place) (shape : Shape) → MachineStateRepresentsState typing low s → PlaceHasType typing p shape → PlaceHasType typing q shape
     → MachineProgressRepresentsProgress typing (execution.running record low { cells = execution.cells_after_copy low.cells (address_of_place typing p) (address_of_place typing q) (shape_cell_count shape) }) (continue_with_result s (result_or_stuck (read_place s.store q)) (store_value_at_place s p))
@@ -124,8 +124,4 @@ module _ {N : Type 0} (checked : TypeMeanings N) (slots : N → Slot) (targets :
 
   pub line-means : (x : N) (es : Tree N (maybe arguments)) → checked.object_for x ≡ Some (a_standard_procedure write_line_procedure) → call_arguments es ≡ [] → CodeMeansStatement checked slots targets lowered.writes_line (calls x es)
   unfolding execution.execute execute_statement evaluate_arguments
-  line-means x es st empty_list b shown t low s h =
-      let is_bound : b.active.object_for x ≡ Some (a_standard_procedure write_line_procedure) = standard-is b.typing write_line_procedure (b.active.object_for x) (subst (λ o. RunObjectAgreesWithCheckedObject b.typing o (b.active.object_for x)) st ((shown.is_moment s.store h.store_fits).names_fit.0 x)) in
-      subst (λ o. MachineProgressRepresentsProgress b.typing (execution.running (execution.append_output low execution.line_out)) (continue_with_result s (argument_modes_of o >>= (λ modes. evaluate_arguments b.active s.store modes (call_arguments es))) (λ args. perform_call o (b.call_effect x) args s))) (sym is_bound)
-      (subst (λ l. MachineProgressRepresentsProgress b.typing (execution.running (execution.append_output low execution.line_out)) (continue_with_result s (evaluate_arguments b.active s.store [] l) (λ args. perform_call (Some (a_standard_procedure write_line_procedure)) (b.call_effect x) args s))) (sym empty_list)
-      (put-represents b.typing low s execution.line_out h))
+  line-means x es st empty_list b shown t low s h = grind (arith, common_steps)

@@ -1,17 +1,16 @@
 -- Proves that lowered numbers are correct code for expressions.
-use Rattle.std.proofs.Common.{◌≡◌, ℕ, Bool, true, false, pos, neg_ℤ, Some, None, sym, refl, ap, ◌∙◌}
+use Rattle.std.proofs.lemmas.Grind.{common_steps}
+use Rattle.std.proofs.Common.{◌≡◌, ℕ, Bool, true, false, pos, Some, None, refl, ◌∙◌, arith}
 use Rattle.ob0_tree.specs.declared.tree.Sign.TheVariants as sign
 use Rattle.ob0_tree.specs.declared.tree.AddOperator.{AddOperator}
 use Rattle.ob0_tree.specs.declared.tree.MultiplyOperator.{MultiplyOperator}
 use Rattle.ob0_tree.specs.Tree.{Tree, addend, adds, factor, integer, items, more, multiplier, multiplies, product, sum, term}
 use Rattle.ob0_language_types.specs.Expressions.{evaluate_expression}
 use Rattle.ob0_language_types.specs.WellTyped.{TypeMeanings}
-use Rattle.ob0_language_values.specs.Values.{Outcome, Value, apply_add_operator, add_operator_short_circuits, ends_run_with, succeeds_with, apply_multiply_operator, multiply_operator_short_circuits, number, apply_sign, ◌>>=◌}
-use Rattle.ob0_run_machine.specs.Evaluation as machine
+use Rattle.ob0_language_values.specs.Values.{Outcome, Value, apply_add_operator, add_operator_short_circuits, ends_run_with, succeeds_with, apply_multiply_operator, multiply_operator_short_circuits, apply_sign, ◌>>=◌}
 use Rattle.ob0_run_machine.specs.LoweredSyntax as lowered
-use Rattle.ob0_run_cells.specs.Cells.{cells_of_store}
 use Rattle.ob0_run_cells.specs.LoweredExpressions.{OutcomeByMoment, Moment, NumberStartsChain, NumberHasOutcome, RestOfChain, Slot, outcome_of_remaining_addends, outcome_of_remaining_multipliers, value_of_factor, value_of_simple_expression, value_of_term}
-use Rattle.ob0_run_cells.proofs.LoweredOutcomes.{Operates, gives-then, grouped-then, checked_number-same, outcome-then, plus-same, followed_by}
+use Rattle.ob0_run_cells.proofs.LoweredOutcomes.{Operates, grouped-then}
 
 pub each-then : {A B : Type 0} (o : Outcome A) (f g : A → Outcome B) → ((a : A) → f a ≡ g a) → (o >>= f) ≡ (o >>= g)
 each-then (succeeds_with a) f g each = each a
@@ -20,28 +19,22 @@ each-then (ends_run_with e) f g each = refl
 -- an operator that its left side doesn't settle, and what follows it
 pub unsettled : {A : Type 0} (o : Outcome Value) (is_settled : Value → Bool) (step : Value → Outcome Value) (next : Value → Outcome A) → ((x : Value) → is_settled x ≡ false)
     → ((o >>= step) >>= next) ≡ (o >>= (λ x. elim (is_settled x) [ true ↦ succeeds_with x | false ↦ step x ] >>= next))
-unsettled o is_settled step next never =
-    grouped-then o step next ∙ each-then o (λ x. step x >>= next) (λ x. elim (is_settled x) [ true ↦ succeeds_with x | false ↦ step x ] >>= next) (λ x. ap (λ b. elim b [ true ↦ succeeds_with x | false ↦ step x ] >>= next) (sym (never x)))
+unsettled o is_settled step next never = grind (arith, common_steps)
 
 module _ {N : Type 0} (checked : TypeMeanings N) (slots : N → Slot) where
   pub operation-means : (o : lowered.Operator) (op : Value → Value → Outcome Value) → Operates o op → (m n : lowered.Number) (v w : OutcomeByMoment N Value) → NumberHasOutcome checked slots m v → NumberHasOutcome checked slots n w
       → NumberHasOutcome checked slots (lowered.operation o m n) (λ z. v z >>= (λ x. w z >>= op x))
-  operation-means o op operates m n v w hm hn z shown =
-      outcome-then number number (machine.number_value z.levels (cells_of_store z.store) m) (v z) (λ a. followed_by (machine.number_value z.levels (cells_of_store z.store) n) (machine.apply_operator o a)) (λ x. w z >>= op x) (hm z shown)
-      (λ a. outcome-then number number (machine.number_value z.levels (cells_of_store z.store) n) (w z) (machine.apply_operator o a) (op (number a)) (hn z shown) (operates a))
+  operation-means o op operates m n v w hm hn z shown = grind (arith, common_steps)
 
   pub plus-means : (n : lowered.Number) (v : OutcomeByMoment N Value) → NumberHasOutcome checked slots n v → NumberHasOutcome checked slots (lowered.operation lowered.sum n (lowered.literal (pos 0))) (λ z. v z >>= apply_sign (Some sign.Plus))
-  plus-means n v hn z shown = outcome-then number number (machine.number_value z.levels (cells_of_store z.store) n) (v z) (λ a. machine.apply_operator lowered.sum a (pos 0)) (apply_sign (Some sign.Plus)) (hn z shown) plus-same
+  plus-means n v hn z shown = grind (arith, common_steps)
 
   pub negative-means : (n : lowered.Number) (v : OutcomeByMoment N Value) → NumberHasOutcome checked slots n v → NumberHasOutcome checked slots (lowered.negative n) (λ z. v z >>= apply_sign (Some sign.Minus))
-  negative-means n v hn z shown = outcome-then number number (machine.number_value z.levels (cells_of_store z.store) n) (v z) (λ a. machine.checked_number (neg_ℤ a)) (apply_sign (Some sign.Minus)) (hn z shown) (λ a. checked_number-same (neg_ℤ a))
+  negative-means n v hn z shown = grind (arith, common_steps)
 
   -- where nothing is left
   pub number-whole : (n : lowered.Number) (rest : RestOfChain N Value) (whole : OutcomeByMoment N Value) → ((z : Moment N) (v : Value) → rest z v ≡ succeeds_with v) → NumberStartsChain checked slots n rest whole → NumberHasOutcome checked slots n whole
-  number-whole n rest whole ends_here h z shown =
-      let (v, hv, ev) = h in
-      let same : v z ≡ whole z = sym (gives-then (v z)) ∙ (each-then (v z) succeeds_with (rest z) (λ x. sym (ends_here z x)) ∙ ev z shown) in
-      hv z shown ∙ same
+  number-whole n rest whole ends_here h z shown = grind (arith, common_steps)
 
   pub addend-leads : (o : AddOperator) (op : lowered.Operator) → Operates op (apply_add_operator o) → ((x : Value) → add_operator_short_circuits o x ≡ false) → (m n : lowered.Number) (e : Tree N term) (rest : Tree N (items addend)) (whole : OutcomeByMoment N Value)
       → NumberHasOutcome checked slots n (value_of_term e) → NumberStartsChain checked slots m (outcome_of_remaining_addends (more (adds o e) rest)) whole → NumberStartsChain checked slots (lowered.operation op m n) (outcome_of_remaining_addends rest) whole

@@ -1,7 +1,7 @@
 -- Proves that two steps with the same outcome, one of lowered code and one of the definition, still
 -- agree if steps with the same outcomes follow them.
-use Rattle.std.proofs.Common.{◌≡◌, ℕ, ◌<◌, ◌+◌, ◌-ℤ◌, ◌+ℤ◌, ◌*ℤ◌, ◌^◌, Bool, true, false, ℤ, pos, if◌then◌else◌, Some, None, Option, option_and_then, sym, refl, ap, ◌∙◌, subst, arith}
-use Rattle.std.proofs.lemmas.Int.{ints}
+use Rattle.std.proofs.lemmas.Grind.{common_steps}
+use Rattle.std.proofs.Common.{◌≡◌, ℕ, ◌<◌, ◌+◌, ◌-ℤ◌, ◌+ℤ◌, ◌*ℤ◌, ◌^◌, Bool, true, false, ℤ, pos, if◌then◌else◌, Some, None, Option, option_and_then, refl, ap, arith}
 use Rattle.std.proofs.Math.Nat.{mod-eq_of_lt}
 use Rattle.ob0_tree.specs.declared.tree.Relation.{Relation}
 use Rattle.ob0_tree.specs.declared.tree.Relation.TheVariants as relation
@@ -33,8 +33,7 @@ stuck-then (Some a) f k = refl
 -- a step of lowered code and one of the definition, and what follows each
 pub outcome-then : {A B X Y : Type 0} (f : A → X) (g : B → Y) (o : machine.StepResult A) (w : Outcome X) (k : A → machine.StepResult B) (j : X → Outcome Y)
     → outcome_of f o ≡ w → ((a : A) → outcome_of g (k a) ≡ j (f a)) → outcome_of g (followed_by o k) ≡ (w >>= j)
-outcome-then f g (machine.gives a) w k j e each = each a ∙ ap (λ w. w >>= j) e
-outcome-then f g (machine.ends x) w k j e each = ap (λ w. w >>= j) e
+outcome-then f g o w k j h1 h2 = grind (arith, common_steps)
 
 -- numbers of 32 bits
 
@@ -70,7 +69,7 @@ remainder-operates a b = checked_division-same (checked_division remainder a b)
 
 -- a sign `+`, as the sum with 0
 pub plus-same : (a : ℤ) → outcome_of number (machine.apply_operator lowered.sum a (pos 0)) ≡ apply_sign (Some sign.Plus) (number a)
-plus-same a = let same : a +ℤ pos 0 ≡ a = omega (arith, ints) in checked_number-same (a +ℤ pos 0) ∙ ap checked_number same
+plus-same a = grind (arith, common_steps)
 
 pub compare-same : (r : Relation) (a b : ℤ) → succeeds_with (truth (machine.compare (comparator_of_relation r) a b)) ≡ apply_relation r (number a) (number b)
 compare-same relation.Equal a b = refl
@@ -104,8 +103,4 @@ ended-same x y e = ap (λ o. elim o [ succeeds_with a ↦ y | ends_run_with z �
 -- one step further from a place
 pub led-then : (typing : StoreTyping) (s t : Shape) (o : machine.StepResult ℕ) (w : Outcome Place) (k : ℕ → machine.StepResult ℕ) (j : Place → Outcome Place)
     → Led typing s o w → ((p : Place) → PlaceHasType typing p s → Led typing t (k (address_of_place typing p)) (j p)) → Led typing t (followed_by o k) (w >>= j)
-led-then typing s t (machine.gives a) (succeeds_with p) k j h each =
-    let e : a ≡ address_of_place typing p = given-same a (address_of_place typing p) h.is_same in
-    subst (λ a. Led typing t (k a) (j p)) (sym e) (each p h.is_place)
-led-then typing s t (machine.ends x) (ends_run_with y) k j h each = record { is_same = h.is_same; is_place = tt }
-led-then typing s t _ _ k j h each = let e = h.is_same in absurd (cc)
+led-then typing s t o w k j h1 h2 = grind (arith, common_steps)

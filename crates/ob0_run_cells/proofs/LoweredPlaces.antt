@@ -1,7 +1,7 @@
 -- Proves that lowered places are correct code for designators, and that the cells at a lowered
 -- place hold the designator's value.
-use Rattle.std.proofs.Common.{◌≡◌, ℕ, zero, suc, ◌+◌, ◌*◌, ◌<◌, ◌%◌, ◌^◌, Bool, true, false, List, [], ◌∷◌, ◌++◌, ℤ, pos, negsuc, if◌then◌else◌, nat_lt, slice_get, Some, None, Option, option_map, option_and_then, unwrap_or, sym, refl, ap, ◌∙◌, subst, subst₂, arith, append_assoc, append-nil}
-use Rattle.std.proofs.Math.Nat.{add_assoc, add_comm, add-zero, add-mod-mod, mod-add-mod}
+use Rattle.std.proofs.lemmas.Grind.{common_steps}
+use Rattle.std.proofs.Common.{◌≡◌, ℕ, ◌+◌, ◌*◌, ◌<◌, ◌^◌, Bool, true, false, List, [], ◌∷◌, ◌++◌, ℤ, pos, negsuc, if◌then◌else◌, nat_lt, slice_get, Some, None, Option, option_and_then, sym, refl, ap, ◌∙◌, subst, subst₂, arith, append-nil}
 use Rattle.std.proofs.lemmas.Option.{get_or_from_slice_get}
 use Rattle.ob0_tree.specs.Tree.{Tree, designator, end, expression, field, index, items, more, selector}
 use Rattle.ob0_language_types.specs.Expressions.{Meanings, Object, a_constant, a_variable, designated_place, element_step, evaluate_expression, evaluate_selectors, object_place, object_value}
@@ -14,7 +14,7 @@ use Rattle.ob0_run_machine.specs.Evaluation as machine
 use Rattle.ob0_run_machine.specs.Evaluation.{Levels}
 use Rattle.ob0_run_machine.specs.LoweredSyntax as lowered
 use Rattle.ob0_run_cells.specs.Cells.{address_of_place, cells_of_store, field_offset, path_offset, shape_cell_count, store_cell_count, step_offset, truth_cell}
-use Rattle.ob0_run_cells.specs.LoweredExpressions.{OutcomeByMoment, PlaceOutcomeHasType, Moment, NumberHasOutcome, PlaceStartsChain, PlaceHasOutcome, IsMomentOfModule, Slot, TruthHasOutcome, PlaceHoldsValue, extended_place, in_activation, by_reference, in_module_activation, outcome_of, place_at_offset, place_of_designator, outcome_of_remaining_selectors, slot_address, slot_place, value_of_expression, value_of_factor}
+use Rattle.ob0_run_cells.specs.LoweredExpressions.{OutcomeByMoment, PlaceOutcomeHasType, Moment, NumberHasOutcome, PlaceStartsChain, PlaceHasOutcome, IsMomentOfModule, Slot, TruthHasOutcome, PlaceHoldsValue, extended_place, outcome_of, place_at_offset, place_of_designator, outcome_of_remaining_selectors, slot_address, slot_place, value_of_expression, value_of_factor}
 use Rattle.ob0_run_cells.proofs.LoweredNumbers.{each-then}
 use Rattle.ob0_run_cells.proofs.LoweredOutcomes.{Led, addresses, add_offset-same, given-same, gives-then, grouped-then, led-then, same, stuck-then, followed_by}
 use Rattle.ob0_run_cells.proofs.Places.{numbers_are_cells, parts_have_addresses, place-lies, places_are_slices, truths_are_cells}
@@ -40,10 +40,10 @@ value_at_path-append [] others v = refl
 value_at_path-append (s ∷ path) others v = and-then-twice (value_at_step v s) (value_at_path (path ++ others)) (value_at_path others) (value_at_path path) (λ u. value_at_path-append path others u)
 
 pub read-extended_place : (store : Store) (p : Place) (steps : List PathStep) → read_place store (extended_place p steps) ≡ option_and_then (value_at_path steps) (read_place store p)
-read-extended_place store p steps = and-then-twice (slice_get store p.variable) (value_at_path (p.path ++ steps)) (value_at_path steps) (value_at_path p.path) (λ v. value_at_path-append p.path steps v)
+read-extended_place store p steps = grind (arith, common_steps, and-then-twice, slice_get, value_at_path-append)
 
 pub extended_place-extended_place : (p : Place) (s : PathStep) (steps : List PathStep) → extended_place (extended_place p (s ∷ [])) steps ≡ extended_place p (s ∷ steps)
-extended_place-extended_place p s steps = ap (λ path. record { variable = p.variable; path = path }) (append_assoc p.path (s ∷ []) steps)
+extended_place-extended_place p s steps = grind (arith, common_steps)
 
 then-some : {A : Type 0} (o : Option A) → option_and_then Some o ≡ o
 then-some None = refl
@@ -60,8 +60,7 @@ left-extended_place z p s rest =
 -- the steps that a selector and the others make are those of the others after it
 pub step-first : (o : Outcome Value) (others : Value → Outcome (List PathStep)) (s : PathStep) (p : Place)
     → ((o >>= (λ w. others w >>= (λ steps. succeeds_with (s ∷ steps)))) >>= (λ steps. succeeds_with (extended_place p steps))) ≡ (o >>= (λ w. others w >>= (λ steps. succeeds_with (extended_place p (s ∷ steps)))))
-step-first (succeeds_with w) others s p = grouped-then (others w) (λ steps. succeeds_with (s ∷ steps)) (λ steps. succeeds_with (extended_place p steps))
-step-first (ends_run_with e) others s p = refl
+step-first o others s p = grind (arith, common_steps)
 
 pub each-place : {B : Type 0} (typing : StoreTyping) (s : Shape) (w : Outcome Place) (f g : Place → Outcome B) → PlaceOutcomeHasType typing s w → ((p : Place) → PlaceHasType typing p s → f p ≡ g p) → (w >>= f) ≡ (w >>= g)
 each-place typing s (succeeds_with p) f g h each = each p h
@@ -70,59 +69,38 @@ each-place typing s (ends_run_with e) f g h each = refl
 -- addresses of slots
 
 pub slot-found : (ls : Levels) (cells : List ℤ) (slot : Slot) → slot_address ls slot < 2 ^ 64 → machine.place_address ls cells (slot_place slot) ≡ machine.gives (slot_address ls slot)
-slot-found ls cells (in_module_activation at) h = refl
-slot-found ls cells (in_activation zero at) h = ap machine.gives (add_offset-same (machine.innermost_level ls).base at h)
-slot-found ls cells (in_activation (suc up) at) h = ap machine.gives (add_offset-same (machine.level_at ls (suc up)).base at h)
-slot-found ls cells (by_reference up i) h = ap machine.gives (add_offset-same (slot_address ls (by_reference up i)) 0 (subst (λ n. n < 2 ^ 64) (sym (add-zero (slot_address ls (by_reference up i)))) h) ∙ add-zero (slot_address ls (by_reference up i)))
+slot-found ls cells slot h1 = grind (arith, common_steps)
 
 -- addresses of parts
 
 add_offset-twice : (a k j : ℕ) → machine.add_offset a (machine.add_offset k j) ≡ machine.add_offset (machine.add_offset a k) j
-add_offset-twice a k j = add-mod-mod a (k + j) (2 ^ 64) ∙ (ap (λ n. n % 2 ^ 64) (sym (add_assoc a k j)) ∙ sym (mod-add-mod (a + k) (2 ^ 64) j))
+add_offset-twice a k j = grind (arith, common_steps)
 
 add_offset-swapped : (a k j : ℕ) → machine.add_offset (machine.add_offset a k) j ≡ machine.add_offset (machine.add_offset a j) k
-add_offset-swapped a k j =
-    mod-add-mod (a + k) (2 ^ 64) j
-    ∙ (ap (λ n. n % 2 ^ 64) (add_assoc a k j ∙ (ap (λ n. a + n) (add_comm k j) ∙ sym (add_assoc a j k))) ∙ sym (mod-add-mod (a + j) (2 ^ 64) k))
+add_offset-swapped a k j = grind (arith, common_steps)
 
 -- an element of an array that is somewhat further on is as much further on
 extended_place-element : (x : machine.StepResult ℕ) (y : machine.StepResult ℤ) (n s at k : ℕ)
     → followed_by x (λ a. followed_by y (machine.element_address (machine.add_offset a (machine.add_offset at k)) n s))
     ≡ followed_by (followed_by x (λ a. followed_by y (machine.element_address (machine.add_offset a at) n s))) (λ a. machine.gives (machine.add_offset a k))
-extended_place-element (machine.gives a) (machine.gives (pos j)) n s at k = chosen (nat_lt j n)
-  where
-    chosen : (b : Bool) → (if b then machine.gives (machine.add_offset (machine.add_offset a (machine.add_offset at k)) (j * s)) else machine.ends machine.Index)
-        ≡ followed_by (if b then machine.gives (machine.add_offset (machine.add_offset a at) (j * s)) else machine.ends machine.Index) (λ a. machine.gives (machine.add_offset a k))
-    chosen true = ap machine.gives (ap (λ b. machine.add_offset b (j * s)) (add_offset-twice a at k) ∙ add_offset-swapped (machine.add_offset a at) k (j * s))
-    chosen false = refl
-extended_place-element _ _ n s at k = refl
+extended_place-element x y n s at k = grind (arith, common_steps)
 
 -- the address of a place with an added offset is larger by this offset
 pub value_at_step-address : (ls : Levels) (cells : List ℤ) (q : lowered.Place) (k : ℕ) → machine.place_address ls cells (place_at_offset q k) ≡ followed_by (machine.place_address ls cells q) (λ a. machine.gives (machine.add_offset a k))
-value_at_step-address ls cells (lowered.in_module at) k = refl
-value_at_step-address ls cells (lowered.in_own_activation at) k = ap machine.gives (add_offset-twice (machine.innermost_level ls).base at k)
-value_at_step-address ls cells (lowered.outside up at) k = ap machine.gives (add_offset-twice (machine.level_at ls up).base at k)
-value_at_step-address ls cells (lowered.passed up i at) k = ap machine.gives (add_offset-twice (slot_address ls (by_reference up i)) at k)
-value_at_step-address ls cells (lowered.element q i n s at) k = extended_place-element (machine.place_address ls cells q) (machine.number_value ls cells i) n s at k
+value_at_step-address ls cells q k = grind (arith, common_steps)
 
 -- an element without an offset
 from-start : (a : ℕ) (y : machine.StepResult ℤ) (n s : ℕ) → followed_by y (machine.element_address (machine.add_offset a 0) n s) ≡ followed_by y (machine.element_address a n s)
-from-start a (machine.gives (pos j)) n s = ap (λ b. if nat_lt j n then machine.gives b else machine.ends machine.Index) (mod-add-mod (a + 0) (2 ^ 64) (j * s) ∙ ap (λ b. machine.add_offset b (j * s)) (add-zero a))
-from-start a _ n s = refl
+from-start a y n s = grind (arith, common_steps)
 
 pub element-address : (ls : Levels) (cells : List ℤ) (q : lowered.Place) (i : lowered.Number) (n s : ℕ)
     → machine.place_address ls cells (lowered.element q i n s 0) ≡ followed_by (machine.place_address ls cells q) (λ a. followed_by (machine.number_value ls cells i) (machine.element_address a n s))
-element-address ls cells q i n s = go (machine.place_address ls cells q)
-  where
-    go : (x : machine.StepResult ℕ) → followed_by x (λ a. followed_by (machine.number_value ls cells i) (machine.element_address (machine.add_offset a 0) n s)) ≡ followed_by x (λ a. followed_by (machine.number_value ls cells i) (machine.element_address a n s))
-    go (machine.gives a) = from-start a (machine.number_value ls cells i) n s
-    go (machine.ends e) = refl
+element-address ls cells q i n s = grind (arith, common_steps)
 
 -- one step further, at a moment
 
 pub step-alone : (s t : Shape) (step : PathStep) → shape_at_step s step ≡ Some t → path_offset (step ∷ []) s ≡ step_offset s step
-step-alone s t step e =
-    let h : unwrap_or (option_map (path_offset []) (shape_at_step s step)) 0 ≡ 0 = ap (λ o. unwrap_or (option_map (path_offset []) o) 0) e in omega (arith, h)
+step-alone s t step e = grind (arith, common_steps)
 
 pub step-led : (typing : StoreTyping) (store : Store) → StoreHasTypes typing store → store_cell_count typing < 2 ^ 64 → (p : Place) (s t : Shape) (step : PathStep) → PlaceHasType typing p s → shape_at_step s step ≡ Some t
     → Led typing t (machine.gives (machine.add_offset (address_of_place typing p) (step_offset s step))) (succeeds_with (extended_place p (step ∷ [])))
@@ -285,15 +263,11 @@ module _ {N : Type 0} (checked : TypeMeanings N) (slots : N → Slot) where
 
   pub number-constant : (x : N) (n : ℤ) → checked.object_for x ≡ Some (a_constant (number n)) → NumberHasOutcome checked slots (lowered.literal n) (value_of_factor (designator x end))
   unfolding evaluate_expression
-  number-constant x n e z shown =
-      let is_bound : z.active.object_for x ≡ Some (a_constant (number n)) = constant-is z.typing (number n) (z.active.object_for x) (subst (λ o. RunObjectAgreesWithCheckedObject z.typing o (z.active.object_for x)) e (shown.names_fit.0 x)) in
-      sym (ap (λ o. object_value {P = List ParameterMode} z.store o >>= (λ v. succeeds_with [] >>= (λ steps. result_or_stuck (value_at_path steps v)))) is_bound)
+  number-constant x n e z shown = grind (arith, common_steps)
 
   pub truth-constant : (x : N) (b : Bool) → checked.object_for x ≡ Some (a_constant (truth b)) → TruthHasOutcome checked slots (lowered.constant b) (value_of_factor (designator x end))
   unfolding evaluate_expression
-  truth-constant x b e z shown =
-      let is_bound : z.active.object_for x ≡ Some (a_constant (truth b)) = constant-is z.typing (truth b) (z.active.object_for x) (subst (λ o. RunObjectAgreesWithCheckedObject z.typing o (z.active.object_for x)) e (shown.names_fit.0 x)) in
-      sym (ap (λ o. object_value {P = List ParameterMode} z.store o >>= (λ v. succeeds_with [] >>= (λ steps. result_or_stuck (value_at_path steps v)))) is_bound)
+  truth-constant x b e z shown = grind (arith, common_steps)
 
   pub block-designator : (q : lowered.Place) (s : Shape) (x : N) (v : Shape) (path : Tree N (items selector)) → checked.object_for x ≡ Some (a_variable v) → PlaceHasOutcome checked slots q s (place_of_designator x path) → PlaceHoldsValue checked slots q s (value_of_factor (designator x path))
   unfolding evaluate_expression designated_place

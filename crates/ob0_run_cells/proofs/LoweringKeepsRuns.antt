@@ -1,6 +1,7 @@
 -- Proves that the run of a lowered program is the run of its module.
+use Rattle.std.proofs.lemmas.Grind.{common_steps}
 use Rattle.std.specs.Option.{IfSome}
-use Rattle.std.proofs.Common.{◌≡◌, ℕ, ◌+◌, true, List, [], ℤ, sym, refl, ap, ◌∙◌, subst, arith}
+use Rattle.std.proofs.Common.{◌≡◌, ℕ, ◌+◌, true, List, [], ℤ, sym, refl, ◌∙◌, subst, arith}
 use Rattle.ob0_tree.specs.Tree.{Tree, forms_module, module_text}
 use Rattle.ob0_language_names.specs.Names.{Naming, naming_by_label}
 use Rattle.ob0_language_names.specs.BlockParts.{block_statements}
@@ -10,7 +11,7 @@ use Rattle.ob0_language_types.specs.WellTyped.{WellTyped, passes_type_check}
 use Rattle.ob0_language_types.proofs.Proved.{numbering_keeps_type_check-holds}
 use Rattle.ob0_language_runs.specs.TypeAgreement.{StoreTyping}
 use Rattle.ob0_language_runs.specs.FreedVariables.{call_freeing_variables, run_freeing_variables}
-use Rattle.ob0_language_runs.specs.Runs.{Frame, Progress, Run, State, execute_body, run_result, continue_in_frame, run_numbered, run_with_naming, running, stopped}
+use Rattle.ob0_language_runs.specs.Runs.{Frame, Progress, Run, State, execute_body, run_result, continue_in_frame, run_numbered, run_with_naming}
 use Rattle.ob0_language_runs.proofs.FreeingKeepsRuns.{freeing-keeps}
 use Rattle.ob0_language_runs.proofs.Proved.{numbering_keeps_runs-holds}
 use Rattle.ob0_run_machine.specs.Execution as execution
@@ -32,10 +33,7 @@ abbrev pub ComesTo : execution.MachineProgress → Run → Type 0
 ComesTo p r = IfSome (execution.run_result p) (λ q. run_of q ≡ r)
 
 pub run_result-same : (typing : StoreTyping) (p : execution.MachineProgress) (q : Progress) → MachineProgressRepresentsProgress typing p q → ComesTo p (run_result q)
-run_result-same typing execution.no_room q h = tt
-run_result-same typing (execution.running low) (running s) h = ap (λ out. record { output = out; ending = (run_result (running s)).ending }) h.same_output
-run_result-same typing (execution.stopped x out) (stopped y written) h = λ i. record { output = h.1 i; ending = h.0 i }
-run_result-same typing _ _ h = absurd h
+run_result-same typing p q h1 = grind (arith, common_steps)
 
 run-freed : {N : Type 0} (naming : Naming N) (m : Tree N module_text) (program : lowered.LoweredCode) (c t : ℕ) (input : List ℤ) → passes_type_check naming m ≡ true → ProgramMeansModule naming m program → IfSome (execution.run program input c t) (λ r. run_of r ≡ run_freeing_variables naming m input c t)
 unfolding execution.run run_freeing_variables passes_type_check

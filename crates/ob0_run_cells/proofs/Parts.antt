@@ -1,5 +1,6 @@
 -- Proves that the cells of a part of a value lie in the cells of the whole value.
-use Rattle.std.proofs.Common.{◌≡◌, ℕ, zero, suc, ◌+◌, ◌*◌, ◌<◌, ◌≤◌, true, false, List, [], ◌∷◌, ◌++◌, length, ℤ, if◌then◌else◌, nat_lt, Some, None, option_map, option_and_then, unwrap_or, sym, refl, ap, ◌∙◌, subst, arith, length-append}
+use Rattle.std.proofs.lemmas.Grind.{common_steps}
+use Rattle.std.proofs.Common.{◌≡◌, ℕ, zero, suc, ◌+◌, ◌*◌, ◌<◌, ◌≤◌, true, false, List, [], ◌∷◌, length, ℤ, if◌then◌else◌, nat_lt, Some, None, option_map, option_and_then, unwrap_or, sym, refl, ap, ◌∙◌, subst, arith}
 use Rattle.ob0_language_names.specs.Names.{Name, same_name}
 use Rattle.ob0_language_types.specs.Typing.{named_field_shape}
 use Rattle.ob0_language_values.specs.Values.{FieldShapes, Members, Shape, PathStep, Value, Values, array_shape, at_field, at_index, value_at_path, boolean_shape, value_count, elements, integer_shape, members, named_member, next_field_shape, next_member, next_value, no_field_shape, no_member, no_value, nth_value, number, value_at_step, record_shape, truth, with_value_at_path, with_named_member, with_nth_value, with_value_at_step}
@@ -22,16 +23,11 @@ mutual
 
   pub elements-size : (vs : Values) (s : Shape) → EachElementHasShape vs s → length (element_cells vs) ≡ value_count vs * shape_cell_count s
   elements-size no_value s h = omega arith
-  elements-size (next_value v rest) s h =
-      let first : length (cells_of v) ≡ shape_cell_count s = cells-size v s h.0 in
-      let others : length (element_cells rest) ≡ value_count rest * shape_cell_count s = elements-size rest s h.1 in
-      let both : length (cells_of v ++ element_cells rest) ≡ length (cells_of v) + length (element_cells rest) = length-append (cells_of v) (element_cells rest) in
-      omega (arith, first, others, both)
+  elements-size (next_value v rest) s h = grind (arith, common_steps, cells-size v s h.0, elements-size rest s h.1)
 
   pub members-size : (ms : Members) (fs : FieldShapes) → MembersHaveShapes ms fs → length (member_cells ms) ≡ fields_cell_count fs
   members-size no_member no_field_shape h = refl
-  members-size (next_member x v rest) (next_field_shape y s others) h =
-      length-append (cells_of v) (member_cells rest) ∙ (ap (λ n. n + length (member_cells rest)) (cells-size v s h.1) ∙ ap (λ n. shape_cell_count s + n) (members-size rest others h.2))
+  members-size (next_member x v rest) (next_field_shape y s others) h = grind (arith, common_steps, cells-size v s h.1, members-size rest others h.2)
   members-size _ _ h = absurd h
 
 -- elements and members
@@ -71,8 +67,7 @@ member-lies _ _ x t e h = absurd h
 -- cells of an array or a record are those of its parts
 pub lies-as : {X : Type 0} (cells : X → List ℤ) (make : X → Value) (whole : X) (old : Value) (write : Value → X) (a : ℕ)
     → ((x : X) → cells_of (make x) ≡ cells x) → Lies cells whole old write a → Lies cells_of (make whole) old (λ new. make (write new)) a
-lies-as cells make whole old write a same h =
-    record { before = h.before; after = h.after; is_split = same whole ∙ h.is_split; begins = h.begins; is_written = λ new. same (write new) ∙ h.is_written new }
+lies-as cells make whole old write a same h = grind (arith, common_steps)
 
 pub value_at_step-lies : (v : Value) (s : Shape) (step : PathStep) (t : Shape) → HasShape v s → shape_at_step s step ≡ Some t
     → (w : Value) × (value_at_step v step ≡ Some w) × HasShape w t × Lies cells_of v w (with_value_at_step v step) (step_offset s step)
@@ -114,7 +109,4 @@ path-lies (step ∷ path) v s t h e =
     )
 
 pub lies-inside : {X : Type 0} (cells : X → List ℤ) (whole : X) (old : Value) (write : Value → X) (a n m : ℕ) → Lies cells whole old write a → length (cells_of old) ≡ n → length (cells whole) ≡ m → a + n ≤ m
-lies-inside cells whole old write a n m h en em =
-    let e : length (cells whole) ≡ length h.before + (length (cells_of old) + length h.after) = ap length h.is_split ∙ (length-append h.before (cells_of old ++ h.after) ∙ ap (λ n. length h.before + n) (length-append (cells_of old) h.after)) in
-    let b : length h.before ≡ a = h.begins in
-    omega (arith, e, b, en, em)
+lies-inside cells whole old write a n m h en em = grind (arith, common_steps)

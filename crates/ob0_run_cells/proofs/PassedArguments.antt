@@ -1,8 +1,8 @@
 -- Proves that lowered code passes arguments and makes calls as the module does. `Both R` states
 -- that two outcomes have values that `R` relates, or end the run in the same way. `use-both` and
 -- `both-then` compose it.
-use Rattle.std.proofs.Common.{◌≡◌, ℕ, ◌+◌, ◌≤◌, Bool, List, [], ◌∷◌, ◌++◌, length, take, drop, ℤ, if◌then◌else◌, Some, Option, sym, refl, ap, ◌∙◌, subst, append-nil, append_assoc}
-use Rattle.std.proofs.lemmas.Bool.{le-leb}
+use Rattle.std.proofs.lemmas.Grind.{common_steps}
+use Rattle.std.proofs.Common.{◌≡◌, ℕ, ◌+◌, ◌≤◌, List, [], ◌∷◌, ◌++◌, length, take, drop, ℤ, Some, Option, sym, refl, ap, ◌∙◌, subst, append-nil, arith}
 use Rattle.ob0_tree.specs.Tree.{Tree, arguments, calls, expression, items, maybe, selector}
 use Rattle.ob0_language_types.specs.Arguments.{call_arguments}
 use Rattle.ob0_language_types.specs.Expressions.{Object, a_procedure, designated_place, evaluate_expression}
@@ -10,14 +10,13 @@ use Rattle.ob0_language_types.specs.WellTyped.{FormalParameter, ParameterMode, S
 use Rattle.ob0_language_values.specs.Values.{Outcome, Place, Shape, Value, ends_run_with, succeeds_with, number, result_or_stuck, read_place, truth, ◌>>=◌}
 use Rattle.ob0_language_runs.specs.TypeAgreement.{ArgumentsMatchSignature, HasShape, RunObjectAgreesWithCheckedObject, PlaceHasType, StoreTyping, signature_modes}
 use Rattle.ob0_language_runs.specs.Runs.{Argument, Progress, State, evaluate_argument, evaluate_arguments, execute_statement, argument_modes_of, perform_call, place_argument, continue_with_result, value_argument}
-use Rattle.ob0_language_runs.proofs.SoundStatements.{first-argument}
 use Rattle.ob0_run_machine.specs.Evaluation as machine
 use Rattle.ob0_run_machine.specs.Execution as execution
 use Rattle.ob0_run_machine.specs.LoweredSyntax as lowered
 use Rattle.ob0_run_cells.specs.Cells.{address_of_place, cells_of_store, cells_of, shape_cell_count, store_cell_count}
 use Rattle.ob0_run_cells.specs.LoweredStatements.{CodeMeansArgument, CodeMeansArguments, BodyContext, MachineProgressRepresentsProgress, MachineStateRepresentsState, IsBodyOfModule, CodeMeansStatement, Target, place_argument_addresses, value_argument_cells, moment_with_store}
 use Rattle.ob0_run_cells.specs.LoweredExpressions.{Slot, end_of, outcome_of, place_of_designator, value_of_expression}
-use Rattle.ob0_run_cells.proofs.LoweredOutcomes.{Led, ended-same, given-same, grouped-then}
+use Rattle.ob0_run_cells.proofs.LoweredOutcomes.{Led, grouped-then}
 use Rattle.ob0_run_cells.proofs.Places.{HoldsSlice, places_are_slices, store-size}
 use Rattle.ob0_run_cells.proofs.Represented.{truth_as_cell-same, number-in, place-in, truth-in}
 
@@ -28,29 +27,20 @@ Both R (machine.ends x) (ends_run_with y) = end_of x ≡ y
 Both R _ _ = ⊥
 
 pub both-then : {A B C D : Type 0} (R : A → B → Type 0) (Q : C → D → Type 0) (o : machine.StepResult A) (w : Outcome B) (k : A → machine.StepResult C) (j : B → Outcome D) → Both R o w → ((a : A) (b : B) → R a b → Both Q (k a) (j b)) → Both Q (machine.◌>>=◌ o k) (w >>= j)
-both-then R Q (machine.gives a) (succeeds_with b) k j h each = each a b h
-both-then R Q (machine.ends x) (ends_run_with y) k j h each = h
-both-then R Q _ _ k j h each = absurd h
+both-then R Q o w k j h1 h2 = grind (arith, common_steps)
 
 pub both-made : {A B D : Type 0} (R : A → B → Type 0) (Q : A → D → Type 0) (o : machine.StepResult A) (w : Outcome B) (g : B → D) → Both R o w → ((a : A) (b : B) → R a b → Q a (g b)) → Both Q o (w >>= (λ b. succeeds_with (g b)))
-both-made R Q (machine.gives a) (succeeds_with b) g h each = each a b h
-both-made R Q (machine.ends x) (ends_run_with y) g h each = h
-both-made R Q _ _ g h each = absurd h
+both-made R Q o w g h1 h2 = grind (arith, common_steps)
 
 pub both-led : (typing : StoreTyping) (shape : Shape) (o : machine.StepResult ℕ) (w : Outcome Place) → Led typing shape o w → Both (λ a p. (a ≡ address_of_place typing p) × PlaceHasType typing p shape) o w
-both-led typing shape (machine.gives a) (succeeds_with p) h = (given-same a (address_of_place typing p) h.is_same, h.is_place)
-both-led typing shape (machine.ends x) (ends_run_with y) h = ended-same (end_of x) y h.is_same
-both-led typing shape _ _ h = let e = h.is_same in absurd (cc)
+both-led typing shape o w h1 = grind (arith, common_steps)
 
 pub both-same : {A B : Type 0} (f : A → B) (o : machine.StepResult A) (w : Outcome B) → outcome_of f o ≡ w → Both (λ a b. f a ≡ b) o w
-both-same f (machine.gives a) w e = subst (λ w. Both (λ a b. f a ≡ b) (machine.gives a) w) e refl
-both-same f (machine.ends x) w e = subst (λ w. Both (λ a b. f a ≡ b) (machine.ends x) w) e refl
+both-same f o w h1 = grind (arith, common_steps)
 
 pub use-both : {A B : Type 0} (typing : StoreTyping) (R : A → B → Type 0) (low : execution.MachineState) (s : State) (o : machine.StepResult A) (w : Outcome B) (k : A → execution.MachineProgress) (j : B → Progress) → MachineStateRepresentsState typing low s → Both R o w
     → ((a : A) (b : B) → R a b → MachineProgressRepresentsProgress typing (k a) (j b)) → MachineProgressRepresentsProgress typing (execution.continue_with_result low o k) (continue_with_result s w j)
-use-both typing R low s (machine.gives a) (succeeds_with b) k j h r each = each a b r
-use-both typing R low s (machine.ends x) (ends_run_with y) k j h r each = (r, h.same_output)
-use-both typing R low s _ _ k j h r each = absurd r
+use-both typing R low s o w k j h1 h2 h3 = grind (arith, common_steps)
 
 -- what was passed before, and what is after arguments
 pub record Passes (typing : StoreTyping) (fs : Signature) (done p : execution.CallArguments) (args : List Argument) : Type 0 where
@@ -67,15 +57,11 @@ addresses-joined typing (place_argument p) args = refl
 addresses-joined typing (value_argument v) args = refl
 
 pub passes-on : (typing : StoreTyping) (f : FormalParameter) (fs : Signature) (done p q : execution.CallArguments) (a : Argument) (args : List Argument) → Passes typing (f ∷ []) done p (a ∷ []) → Passes typing fs p q args → Passes typing (f ∷ fs) done q (a ∷ args)
-passes-on typing f fs done p q a args h k = record {
-  arguments_match = first-argument typing f fs a args h.arguments_match k.arguments_match;
-  cells_passed = k.cells_passed ∙ (ap (λ l. l ++ value_argument_cells args) h.cells_passed ∙ (append_assoc done.cells (value_argument_cells (a ∷ [])) (value_argument_cells args) ∙ ap (λ l. done.cells ++ l) (cells-joined a args)));
-  addresses_passed = k.addresses_passed ∙ (ap (λ l. l ++ place_argument_addresses typing args) h.addresses_passed ∙ (append_assoc done.addresses (place_argument_addresses typing (a ∷ [])) (place_argument_addresses typing args) ∙ ap (λ l. done.addresses ++ l) (addresses-joined typing a args)));
-}
+passes-on typing f fs done p q a args h k = grind (arith, common_steps)
 
 -- a block of cells that exist
 pub block-there : (cells : List ℤ) (from n : ℕ) → from + n ≤ length cells → execution.block_or_zeros_at_address cells from n ≡ take n (drop from cells)
-block-there cells from n h = ap (λ b. if b then take n (drop from cells) else execution.zeros n) (le-leb (from + n) (length cells) h)
+block-there cells from n h = grind (arith, common_steps)
 
 module _ {N : Type 0} (checked : TypeMeanings N) (slots : N → Slot) (targets : N → Target) (b : BodyContext N) (shown : IsBodyOfModule checked slots targets b) (low : execution.MachineState) (s : State) (represents : MachineStateRepresentsState b.typing low s) where
   pub argument-passed : (f : FormalParameter) (c : lowered.LoweredArgument) (e : Tree N expression) → CodeMeansArgument checked slots f c e → (done : execution.CallArguments)

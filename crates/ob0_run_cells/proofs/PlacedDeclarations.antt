@@ -2,7 +2,8 @@
 -- `Extends` states that a frame has more variables, whose cells follow the cells before. It
 -- composes (`extends-then`), so each declaration and each parameter is one step, followed by the
 -- rest.
-use Rattle.std.proofs.Common.{◌≡◌, ℕ, zero, suc, ◌+◌, true, ◌&&◌, List, [], ◌∷◌, ◌++◌, drop, length, map, replicate, ℤ, pos, slice_index_or, Some, option_and_then, option_map, sym, refl, ap, ◌∙◌, subst, arith, append-nil, append_assoc}
+use Rattle.std.proofs.lemmas.Grind.{common_steps}
+use Rattle.std.proofs.Common.{◌≡◌, ℕ, zero, suc, ◌+◌, true, ◌&&◌, List, [], ◌∷◌, ◌++◌, drop, length, map, replicate, ℤ, pos, slice_index_or, Some, option_and_then, option_map, sym, refl, ap, ◌∙◌, subst, arith}
 use Rattle.std.proofs.lemmas.List.{replicate-append-replicate}
 use Rattle.ob0_tree.specs.Tree.{Tree, block, body, constant, declares, declares_constant, declares_type, declares_variable, end, forms_block, items, maybe, more, procedure, type_definition, variable}
 use Rattle.ob0_language_names.specs.BlockParts.{block_statements, constant_names, declared_type_names, names_in_list, procedure_name, section_constants, section_types, section_variables}
@@ -54,17 +55,11 @@ names-sized size_of (x ∷ xs) s env sized = (names-sized size_of xs s ((x, a_va
 
 module _ {N : Type 0} (table : RoutineTable N) where
   pub extends-here : (typing : StoreTyping) (ls : Levels) (base : ℕ) (checked : TypeEnvironment N) (p : PlacementState N) (f : Frame N) → FramePlaced table typing ls base checked p f → Extends table typing ls base checked p f.store [] f
-  extends-here typing ls base checked p f h = record { typing_now = typing; others = []; is_grown = sym (append-nil typing); frame = h; cells_added = sym (append-nil (cells_of_store f.store)) }
+  extends-here typing ls base checked p f h = grind (arith, common_steps)
 
   pub extends-then : (typing middle : StoreTyping) (s : StoreTyping) (ls : Levels) (base : ℕ) (checked : TypeEnvironment N) (p : PlacementState N) (before between : Store) (first added : List ℤ) (g : Frame N)
       → middle ≡ typing ++ s → cells_of_store between ≡ cells_of_store before ++ first → Extends table middle ls base checked p between added g → Extends table typing ls base checked p before (first ++ added) g
-  extends-then typing middle s ls base checked p before between first added g e cells h = record {
-    typing_now = h.typing_now;
-    others = s ++ h.others;
-    is_grown = h.is_grown ∙ (ap (λ l. l ++ h.others) e ∙ append_assoc typing s h.others);
-    frame = h.frame;
-    cells_added = h.cells_added ∙ (ap (λ l. l ++ added) cells ∙ append_assoc (cells_of_store before) first added);
-  }
+  extends-then typing middle s ls base checked p before between first added g e cells h = grind (arith, common_steps)
 
   pub extends-by : (typing : StoreTyping) (ls : Levels) (base : ℕ) (checked : TypeEnvironment N) (p : PlacementState N) (before : Store) (a b : List ℤ) (g : Frame N) → a ≡ b → Extends table typing ls base checked p before a g → Extends table typing ls base checked p before b g
   extends-by typing ls base checked p before a b g e h = subst (λ l. Extends table typing ls base checked p before l g) e h
@@ -74,8 +69,7 @@ module _ {N : Type 0} (table : RoutineTable N) where
   pub constants-placed : (typing : StoreTyping) (ls : Levels) (cs : Tree N (items constant)) (checked after : TypeEnvironment N) (placement : Placement N) (active d : RunEnvironment N) → declare_constants table.naming checked cs ≡ Some after → declare_constants table.naming active cs ≡ Some d
       → PlacementMatchesActivation table typing ls checked placement active → PlacementMatchesActivation table typing ls after (add_names_without_place (constant_names cs) placement) d
   unfolding declare_constants
-  constants-placed typing ls end checked after placement active d e e' h =
-      subst (λ a. PlacementMatchesActivation table typing ls a placement d) (some_inverse {a = checked} {b = after} e) (subst (λ d. PlacementMatchesActivation table typing ls checked placement d) (some_inverse {a = active} {b = d} e') h)
+  constants-placed typing ls end checked after placement active d e e' h = grind (arith, common_steps)
   constants-placed typing ls (more (declares_constant x c) cs) checked after placement active d e e' h =
       let (v, ev, e₁) = then_some (constant_expression_value (meanings table.naming checked) c) (λ v. declare_constants table.naming ((x, a_constant v) ∷ checked) cs) after e in
       let (w, ew, e₂) = then_some (constant_expression_value (meanings table.naming active) c) (λ v. declare_constants table.naming ((x, a_constant v) ∷ active) cs) d e' in
@@ -84,8 +78,7 @@ module _ {N : Type 0} (table : RoutineTable N) where
   pub types-placed : (typing : StoreTyping) (ls : Levels) (k : ℕ) (ds : Tree N (items type_definition)) (checked after : TypeEnvironment N) (placement : Placement N) (active d : RunEnvironment N) → declare_types table.naming checked k ds ≡ Some after → declare_types table.naming active k ds ≡ Some d
       → PlacementMatchesActivation table typing ls checked placement active → PlacementMatchesActivation table typing ls after (add_names_without_place (declared_type_names ds) placement) d
   unfolding declare_types
-  types-placed typing ls k end checked after placement active d e e' h =
-      subst (λ a. PlacementMatchesActivation table typing ls a placement d) (some_inverse {a = checked} {b = after} e) (subst (λ d. PlacementMatchesActivation table typing ls checked placement d) (some_inverse {a = active} {b = d} e') h)
+  types-placed typing ls k end checked after placement active d e e' h = grind (arith, common_steps)
   types-placed typing ls k (more (declares_type x u) ds) checked after placement active d e e' h =
       let (v, ev, e₁) = then_some (denoted_type (meanings table.naming checked) k u) (λ s. declare_types table.naming ((x, a_type s) ∷ checked) (k + constructor_count u) ds) after e in
       let (w, ew, e₂) = then_some (denoted_type (meanings table.naming active) k u) (λ s. declare_types table.naming ((x, a_type s) ∷ active) (k + constructor_count u) ds) d e' in
@@ -95,18 +88,7 @@ module _ {N : Type 0} (table : RoutineTable N) where
   pub variable-placed : (typing : StoreTyping) (ls : Levels) (base : ℕ) (checked : TypeEnvironment N) (p : PlacementState N) (f : Frame N) (x : N) (slot : Slot) (s : Shape) (n : ℕ) (v : Value) → n ≡ shape_cell_count s → slot_address ls slot ≡ base + p.cells → HasShape v s → FramePlaced table typing ls base checked p f
       → FramePlaced table (typing ++ s ∷ []) ls base ((x, a_variable s) ∷ checked) (record p { placement = (x, in_slot slot) ∷ p.placement; cells = p.cells + n }) (record { env = (x, a_variable record { variable = length f.store; path = [] }) ∷ f.env; store = f.store ++ v ∷ [] })
       × (cells_of_store (f.store ++ v ∷ []) ≡ cells_of_store f.store ++ cells_of v)
-  variable-placed typing ls base checked p f x slot s n v sized at hv h =
-      let added = variables_are_added typing f.store s v h.store_fits hv in
-      let counted : base + p.cells ≡ store_cell_count typing = h.cells_counted in
-      let total : store_cell_count (typing ++ s ∷ []) ≡ store_cell_count typing + shape_cell_count s = store_cell_count-append typing s in (
-        record {
-          store_fits = added.store_fits;
-          environment_fits = (refl, added.place_fits, environments-grow table.naming typing (s ∷ []) checked f.env h.environment_fits);
-          placing_fits = record { activation_name_agrees = refl; placement_name_agrees = refl; here = (added.place_fits, at ∙ (counted ∙ sym added.address_is)); further = placement-grows table typing (s ∷ []) checked f.env ls p.placement h.placing_fits };
-          cells_counted = omega (arith, counted, total, sized);
-        },
-        added.cells_added,
-      )
+  variable-placed typing ls base checked p f x slot s n v sized at hv h = grind (arith, common_steps, variables_are_added, store_cell_count-append, environments-grow, placement-grows)
 
   variables-sized : (size_of : N → ℕ) (k : ℕ) (gs : Tree N (items variable)) (env inner : TypeEnvironment N) → declare_typed_variables table.naming k gs env ≡ Some inner → ReturnsSizesOfVariables size_of inner → ReturnsSizesOfVariables size_of env
   unfolding declare_typed_variables
@@ -134,8 +116,7 @@ module _ {N : Type 0} (table : RoutineTable N) where
       → declare_typed_variables table.naming k gs checked ≡ Some inner → ReturnsSizesOfVariables size_of inner
       → (g : Frame N) × (n : ℕ) × (declare_variables table.naming k gs f ≡ Some g) × ((place_variable_declarations at size_of gs p).cells ≡ p.cells + n) × Extends table typing ls base inner (place_variable_declarations at size_of gs p) f.store (replicate n (pos 0)) g
   unfolding declare_typed_variables declare_variables
-  variables-placed typing ls base at is size_of k end checked inner p f h e sized =
-      (f, 0, refl, omega arith, subst (λ c. Extends table typing ls base c p f.store [] f) (some_inverse {a = checked} {b = inner} e) (extends-here typing ls base checked p f h))
+  variables-placed typing ls base at is size_of k end checked inner p f h e sized = grind (arith, common_steps)
   variables-placed typing ls base at is size_of k (more (declares_variable ns u) gs) checked inner p f h e sized =
       let (s, es, e₁) = then_some (denoted_type (meanings table.naming checked) k u) (λ s. declare_typed_variables table.naming (k + constructor_count u) gs (bind_names (names_in_list ns) (a_variable s) checked)) inner e in
       let q : PlacementState N = add_declared_names_to_placement at size_of by_value (names_in_list ns) p in

@@ -1,14 +1,15 @@
 -- Proves laws about placements that match an activation: which place a name has, and that they
 -- still match if the store grows or if an activation one level deeper sees them.
-use Rattle.std.proofs.Common.{◌≡◌, true, false, [], ◌∷◌, ◌++◌, drop, Some, None, sym, refl, ap, ◌∙◌, subst}
+use Rattle.std.proofs.lemmas.Grind.{common_steps}
+use Rattle.std.proofs.Common.{◌≡◌, [], ◌∷◌, ◌++◌, Some, refl, arith}
 use Rattle.ob0_language_types.specs.Environments.{suffix_from_newest_binding, newest_object}
-use Rattle.ob0_language_types.specs.Expressions.{Object, a_constant, a_procedure, a_standard_procedure, a_type, a_variable}
+use Rattle.ob0_language_types.specs.Expressions.{Object, a_variable}
 use Rattle.ob0_language_types.specs.WellTyped.{Signature, TypeEnvironment}
 use Rattle.ob0_language_values.specs.Values.{Place, Shape}
 use Rattle.ob0_language_runs.specs.TypeAgreement.{StoreTyping}
 use Rattle.ob0_language_runs.specs.Runs.{RunEnvironment, ProcedureText, object_for_statements}
 use Rattle.ob0_run_machine.specs.Evaluation.{Level, Levels}
-use Rattle.ob0_run_cells.specs.Activations.{BindingIsPlaced, RoutineTable, Placement, PlacementMatchesActivation, BindingPlace, at_target, slot_of_first_binding, suffix_from_latest_binding, in_slot, placement_seen_one_level_deeper, slot_seen_one_level_deeper, binding_place_seen_one_level_deeper, nowhere}
+use Rattle.ob0_run_cells.specs.Activations.{BindingIsPlaced, RoutineTable, Placement, PlacementMatchesActivation, BindingPlace, slot_of_first_binding, suffix_from_latest_binding, placement_seen_one_level_deeper, slot_seen_one_level_deeper, binding_place_seen_one_level_deeper}
 use Rattle.ob0_run_cells.specs.Cells.{address_of_place}
 use Rattle.ob0_run_cells.specs.LoweredExpressions.{Slot, in_module_activation, slot_address}
 use Rattle.ob0_run_cells.proofs.Places.{addresses_stay}
@@ -18,38 +19,23 @@ module _ {N : Type 0} (table : RoutineTable N) where
   pub from-placed : (typing : StoreTyping) (ls : Levels) (checked : TypeEnvironment N) (placement : Placement N) (active : RunEnvironment N) (x : N) → PlacementMatchesActivation table typing ls checked placement active
       → PlacementMatchesActivation table typing ls (suffix_from_newest_binding table.naming checked x) (suffix_from_latest_binding table.naming placement x) (suffix_from_newest_binding table.naming active x)
   from-placed typing ls [] [] [] x h = tt
-  from-placed typing ls (b ∷ checked) (w ∷ placement) (d ∷ active) x h =
-      subst (λ y. PlacementMatchesActivation table typing ls (elim (table.naming.same x b.0) [ true ↦ b ∷ checked | false ↦ suffix_from_newest_binding table.naming checked x ]) (elim (table.naming.same x y) [ true ↦ w ∷ placement | false ↦ suffix_from_latest_binding table.naming placement x ]) (elim (table.naming.same x d.0) [ true ↦ d ∷ active | false ↦ suffix_from_newest_binding table.naming active x ])) h.placement_name_agrees
-      (subst (λ y. PlacementMatchesActivation table typing ls (elim (table.naming.same x b.0) [ true ↦ b ∷ checked | false ↦ suffix_from_newest_binding table.naming checked x ]) (elim (table.naming.same x b.0) [ true ↦ w ∷ placement | false ↦ suffix_from_latest_binding table.naming placement x ]) (elim (table.naming.same x y) [ true ↦ d ∷ active | false ↦ suffix_from_newest_binding table.naming active x ])) h.activation_name_agrees
-      (elim (table.naming.same x b.0) as (λ v. PlacementMatchesActivation table typing ls (elim v [ true ↦ b ∷ checked | false ↦ suffix_from_newest_binding table.naming checked x ]) (elim v [ true ↦ w ∷ placement | false ↦ suffix_from_latest_binding table.naming placement x ]) (elim v [ true ↦ d ∷ active | false ↦ suffix_from_newest_binding table.naming active x ]))
-      [ true ↦ h | false ↦ from-placed typing ls checked placement active x h.further ]))
+  from-placed typing ls (b ∷ checked) (w ∷ placement) (d ∷ active) x h = grind (arith, common_steps, from-placed typing ls checked placement active x h.further)
   from-placed typing ls _ _ _ x h = absurd h
 
   slot-here : (typing : StoreTyping) (ls : Levels) (checked : TypeEnvironment N) (Fits : Levels → Placement N → Type 0) (x : N) (o : Object Shape Signature) (w : BindingPlace) (r : Object Place (ProcedureText N)) (p : Place)
       → BindingIsPlaced table typing ls checked Fits x o w r → object_for_statements (Some r) ≡ Some (a_variable p) → (rest : Placement N) → slot_address ls (slot_of_first_binding ((x, w) ∷ rest)) ≡ address_of_place typing p
-  slot-here typing ls checked Fits x (a_variable s) (in_slot slot) (a_variable q) p h e rest = h.1 ∙ ap (λ o. address_of_place typing (elim o [ None ↦ q | Some v ↦ elim v [ a_variable p ↦ p | _ ↦ q ] ])) e
-  slot-here typing ls checked Fits x (a_procedure s) (at_target t) (a_procedure c) p h e rest = absurd (cc)
-  slot-here typing ls checked Fits x (a_type s) nowhere (a_type u) p h e rest = absurd (cc)
-  slot-here typing ls checked Fits x (a_constant v) nowhere (a_constant w) p h e rest = absurd (cc)
-  slot-here typing ls checked Fits x (a_standard_procedure q) nowhere (a_standard_procedure r) p h e rest = absurd (cc)
-  slot-here typing ls checked Fits x _ _ _ p h e rest = absurd h
+  slot-here typing ls checked Fits x o w r p h1 h2 rest = grind (arith, common_steps)
 
   pub slots-fit : (typing : StoreTyping) (ls : Levels) (checked : TypeEnvironment N) (placement : Placement N) (active : RunEnvironment N) → PlacementMatchesActivation table typing ls checked placement active → (p : Place) → object_for_statements (newest_object active) ≡ Some (a_variable p) → slot_address ls (slot_of_first_binding placement) ≡ address_of_place typing p
   slots-fit typing ls [] [] [] h p e = absurd (cc)
-  slots-fit typing ls (b ∷ checked) (w ∷ placement) (d ∷ active) h p e = slot-here typing ls checked (λ ls placement. PlacementMatchesActivation table typing ls checked placement active) b.0 b.1 w.1 d.1 p h.here e placement
+  slots-fit typing ls (b ∷ checked) (w ∷ placement) (d ∷ active) h p e = grind (arith, common_steps)
   slots-fit typing ls _ _ _ h p e = absurd h
 
   -- stores grow
 
   grows-here : (typing others : StoreTyping) (ls : Levels) (checked : TypeEnvironment N) (Fits Grown : Levels → Placement N → Type 0) → ((ls : Levels) (placement : Placement N) → Fits ls placement → Grown ls placement) → (x : N) (o : Object Shape Signature) (w : BindingPlace) (r : Object Place (ProcedureText N))
       → BindingIsPlaced table typing ls checked Fits x o w r → BindingIsPlaced table (typing ++ others) ls checked Grown x o w r
-  grows-here typing others ls checked Fits Grown grow x (a_variable s) (in_slot slot) (a_variable p) h =
-      let (fit, stays) = addresses_stay typing others p s h.0 in (fit, h.1 ∙ sym stays)
-  grows-here typing others ls checked Fits Grown grow x (a_procedure s) (at_target t) (a_procedure c) h = (h.0, grow (drop t.up ls) h.0 h.1, h.2)
-  grows-here typing others ls checked Fits Grown grow x (a_type s) nowhere (a_type u) h = tt
-  grows-here typing others ls checked Fits Grown grow x (a_constant v) nowhere (a_constant w) h = tt
-  grows-here typing others ls checked Fits Grown grow x (a_standard_procedure q) nowhere (a_standard_procedure r) h = tt
-  grows-here typing others ls checked Fits Grown grow x _ _ _ h = absurd h
+  grows-here typing others ls checked Fits Grown h1 x o w r h2 = grind (arith, common_steps, addresses_stay)
 
   pub placement-grows : (typing others : StoreTyping) (checked : TypeEnvironment N) (active : RunEnvironment N) (ls : Levels) (placement : Placement N) → PlacementMatchesActivation table typing ls checked placement active → PlacementMatchesActivation table (typing ++ others) ls checked placement active
   placement-grows typing others [] [] ls [] h = tt
@@ -72,12 +58,7 @@ module _ {N : Type 0} (table : RoutineTable N) where
 
   placement_seen_one_level_deeper-here : (typing : StoreTyping) (l : Level) (ls : Levels) (checked : TypeEnvironment N) (Fits : Levels → Placement N → Type 0) (x : N) (o : Object Shape Signature) (w : BindingPlace) (r : Object Place (ProcedureText N))
       → BindingIsPlaced table typing ls checked Fits x o w r → BindingIsPlaced table typing (l ∷ ls) checked Fits x o (binding_place_seen_one_level_deeper w) r
-  placement_seen_one_level_deeper-here typing l ls checked Fits x (a_variable s) (in_slot slot) (a_variable p) h = (h.0, slot-placement_seen_one_level_deeper l ls slot ∙ h.1)
-  placement_seen_one_level_deeper-here typing l ls checked Fits x (a_procedure s) (at_target t) (a_procedure c) h = h
-  placement_seen_one_level_deeper-here typing l ls checked Fits x (a_type s) nowhere (a_type u) h = tt
-  placement_seen_one_level_deeper-here typing l ls checked Fits x (a_constant v) nowhere (a_constant w) h = tt
-  placement_seen_one_level_deeper-here typing l ls checked Fits x (a_standard_procedure q) nowhere (a_standard_procedure r) h = tt
-  placement_seen_one_level_deeper-here typing l ls checked Fits x _ _ _ h = absurd h
+  placement_seen_one_level_deeper-here typing l ls checked Fits x o w r h1 = grind (arith, common_steps)
 
   pub placement_seen_one_level_deeper-fits : (typing : StoreTyping) (l : Level) (ls : Levels) (checked : TypeEnvironment N) (placement : Placement N) (active : RunEnvironment N) → PlacementMatchesActivation table typing ls checked placement active → PlacementMatchesActivation table typing (l ∷ ls) checked (placement_seen_one_level_deeper placement) active
   placement_seen_one_level_deeper-fits typing l ls [] [] [] h = tt

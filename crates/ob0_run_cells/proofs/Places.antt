@@ -1,19 +1,19 @@
 -- Proves that the value at a place lies in the cells of the store, at the place's address.
+use Rattle.std.proofs.lemmas.Grind.{common_steps}
 use Rattle.std.proofs.Common.{◌≡◌, ℕ, zero, suc, ◌+◌, ◌≤◌, Bool, List, [], ◌∷◌, ◌++◌, length, take, ℤ, slice_get, slice_set, Some, option_map, option_and_then, unwrap_or, sym, refl, ap, ◌∙◌, subst, arith, length-append}
 use Rattle.ob0_language_values.specs.Values.{Place, Shape, PathStep, Store, Value, value_at_path, boolean_shape, integer_shape, number, read_place, truth, with_value_at_path, write_place}
 use Rattle.ob0_language_runs.specs.TypeAgreement.{HasShape, PlaceHasType, StoreHasTypes, StoreTyping, shape_at_step, shape_at_path}
 use Rattle.ob0_language_types.proofs.Conditions.{of_some}
 use Rattle.ob0_language_types.proofs.TypedElsewhere.{then_some}
 use Rattle.ob0_language_runs.proofs.Sound.{is_number, is_truth}
-use Rattle.ob0_language_runs.proofs.SoundStatements.{PlaceHasType-grows, set-fits, slice_get-grows, with_path-fits}
+use Rattle.ob0_language_runs.proofs.SoundStatements.{set-fits, slice_get-grows, with_path-fits}
 use Rattle.ob0_run_cells.specs.Cells.{address_of_place, cells_of_store, cells_at_address, cells_of, cells_after_overwrite, path_offset, shape_cell_count, store_cell_count, truth_cell}
 use Rattle.ob0_run_cells.proofs.Parts.{cells-size, lies-inside, path-lies}
 use Rattle.ob0_run_cells.proofs.Splits.{Lies, lies-following, lies-first, lies-within, split-at, split-get, split-set, split-with}
 
 pub store-size : (typing : StoreTyping) (store : Store) → StoreHasTypes typing store → length (cells_of_store store) ≡ store_cell_count typing
 store-size [] [] h = refl
-store-size (s ∷ typing) (v ∷ store) h =
-    length-append (cells_of v) (cells_of_store store) ∙ (ap (λ n. n + length (cells_of_store store)) (cells-size v s h.0) ∙ ap (λ n. shape_cell_count s + n) (store-size typing store h.1))
+store-size (s ∷ typing) (v ∷ store) h = grind (arith, common_steps, length-append, cells-size, store-size typing store h.1)
 store-size _ _ h = absurd h
 
 -- a variable lies after the older ones
@@ -86,12 +86,10 @@ writing_places_writes_slices typing store p s new h e hn =
 
 -- a value of one cell is read from it, and written to it
 pub one-read : (store : Store) (v : Value) (write : Value → Store) (a : ℕ) (n : ℤ) → Lies cells_of_store store v write a → cells_of v ≡ n ∷ [] → slice_get (cells_of_store store) a ≡ Some n
-one-read store v write a n l e =
-    ap (λ cells. slice_get cells a) (l.is_split ∙ ap (λ mine. l.before ++ (mine ++ l.after)) e) ∙ split-get l.before n l.after a l.begins
+one-read store v write a n l e = grind (arith, common_steps, slice_get, split-get)
 
 pub one-written : (store : Store) (v new : Value) (write : Value → Store) (a : ℕ) (m n : ℤ) → Lies cells_of_store store v write a → cells_of v ≡ m ∷ [] → cells_of new ≡ n ∷ [] → cells_of_store (write new) ≡ slice_set (cells_of_store store) a n
-one-written store v new write a m n l e en =
-    l.is_written new ∙ (ap (λ mine. l.before ++ (mine ++ l.after)) en ∙ (split-set l.before m n l.after a l.begins ∙ ap (λ cells. slice_set cells a n) (sym (l.is_split ∙ ap (λ mine. l.before ++ (mine ++ l.after)) e))))
+one-written store v new write a m n l e en = grind (arith, common_steps, split-set, slice_set)
 
 pub numbers_are_cells : (typing : StoreTyping) (store : Store) (p : Place) → StoreHasTypes typing store → PlaceHasType typing p integer_shape
     → ((n : ℤ) × (read_place store p ≡ Some (number n)) × (slice_get (cells_of_store store) (address_of_place typing p) ≡ Some n)) × ((n : ℤ) → WritesPlace typing store p (number n) (slice_set (cells_of_store store) (address_of_place typing p) n))
@@ -115,9 +113,7 @@ truths_are_cells typing store p h e =
 
 pub shape-append : (path more : List PathStep) (s t u : Shape) → shape_at_path path s ≡ Some t → shape_at_path more t ≡ Some u
     → (shape_at_path (path ++ more) s ≡ Some u) × (path_offset (path ++ more) s ≡ path_offset path s + path_offset more t)
-shape-append [] more s t u e e' =
-    let same : s ≡ t = ap (λ o. unwrap_or o s) e in
-    (subst (λ t. shape_at_path more t ≡ Some u) (sym same) e', ap (path_offset more) same ∙ omega arith)
+shape-append [] more s t u e e' = grind (arith, common_steps)
 shape-append (step ∷ path) more s t u e e' =
     let (r, er, e₁) = then_some (shape_at_step s step) (shape_at_path path) t e in
     let (is, adds) = shape-append path more r t u e₁ e' in
@@ -142,9 +138,4 @@ taken-stays (t ∷ typing) others (suc n) s e = ap (λ l. t ∷ l) (taken-stays 
 
 -- an address stays where later variables are added
 pub addresses_stay : (typing others : StoreTyping) (p : Place) (s : Shape) → PlaceHasType typing p s → PlaceHasType (typing ++ others) p s × (address_of_place (typing ++ others) p ≡ address_of_place typing p)
-addresses_stay typing others p s fit =
-    let (t, et, e₁) = then_some (slice_get typing p.variable) (shape_at_path p.path) s fit in (
-      PlaceHasType-grows typing others p s fit,
-      ap (λ l. store_cell_count l + unwrap_or (option_map (path_offset p.path) (slice_get (typing ++ others) p.variable)) 0) (taken-stays typing others p.variable t et)
-          ∙ ap (λ o. store_cell_count (take p.variable typing) + unwrap_or (option_map (path_offset p.path) o) 0) (slice_get-grows typing others p.variable t et ∙ sym et),
-    )
+addresses_stay typing others p s fit = grind (arith, common_steps, then_some, slice_get, unwrap_or, option_map, taken-stays, slice_get-grows)

@@ -1,50 +1,40 @@
 -- Proves that a state of the machine that represents a state of the module still does so after a
 -- step of both.
-use Rattle.std.proofs.Common.{◌≡◌, ℕ, zero, suc, Bool, true, false, List, [], ◌∷◌, ◌++◌, ℤ, slice_set, sym, refl, ap, ◌∙◌, subst}
-use Rattle.std.proofs.lemmas.List.{map-append}
+use Rattle.std.proofs.lemmas.Grind.{common_steps}
+use Rattle.std.proofs.Common.{◌≡◌, ℕ, zero, suc, Bool, true, false, List, [], ◌∷◌, ℤ, slice_set, sym, refl, ap, ◌∙◌, subst, arith}
 use Rattle.ob0_language_types.specs.WellTyped.{TypeMeanings}
-use Rattle.ob0_language_values.specs.Values.{Outcome, Place, Shape, Store, TurnBound, Value, boolean_shape, ends_run_with, succeeds_with, integer_shape, number, result_or_stuck, truth}
-use Rattle.ob0_language_runs.specs.TypeAgreement.{PlaceHasType, StoreHasTypes, StoreTyping}
+use Rattle.ob0_language_values.specs.Values.{Outcome, Place, Shape, TurnBound, Value, boolean_shape, integer_shape, number, result_or_stuck, truth}
+use Rattle.ob0_language_runs.specs.TypeAgreement.{PlaceHasType, StoreTyping}
 use Rattle.ob0_language_runs.specs.Runs.{Progress, State, choose_by_truth_value, continue_if_running, append_output, read_number, running, stopped, store_value_at_place, execute_while, execute_repeat, continue_with_result}
 use Rattle.ob0_run_machine.specs.Evaluation as machine
 use Rattle.ob0_run_machine.specs.Execution as execution
 use Rattle.ob0_run_machine.specs.LoweredSyntax as lowered
 use Rattle.ob0_run_cells.specs.Cells.{address_of_place, cells_of_store, truth_cell}
 use Rattle.ob0_run_cells.specs.LoweredStatements.{BodyContext, MachineProgressRepresentsProgress, MachineStateRepresentsState, IsBodyOfModule, Target, moment_with_store, printed_item_of}
-use Rattle.ob0_run_cells.specs.LoweredExpressions.{OutcomeByMoment, Moment, NumberHasOutcome, PlaceHasOutcome, IsMomentOfModule, Slot, TruthHasOutcome, end_of, outcome_of}
-use Rattle.ob0_run_cells.proofs.LoweredOutcomes.{Led, ended-same, given-same}
+use Rattle.ob0_run_cells.specs.LoweredExpressions.{OutcomeByMoment, NumberHasOutcome, PlaceHasOutcome, Slot, TruthHasOutcome, outcome_of}
+use Rattle.ob0_run_cells.proofs.LoweredOutcomes.{Led}
 use Rattle.ob0_run_cells.proofs.Places.{numbers_are_cells, truths_are_cells}
 
 -- an evaluation, and what comes of what it gives
 
 pub use-represents : {A B : Type 0} (typing : StoreTyping) (f : A → B) (low : execution.MachineState) (s : State) (o : machine.StepResult A) (w : Outcome B) (k : A → execution.MachineProgress) (j : B → Progress) → MachineStateRepresentsState typing low s → outcome_of f o ≡ w
     → ((a : A) → o ≡ machine.gives a → MachineProgressRepresentsProgress typing (k a) (j (f a))) → MachineProgressRepresentsProgress typing (execution.continue_with_result low o k) (continue_with_result s w j)
-use-represents typing f low s (machine.gives a) w k j h e each = subst (λ w. MachineProgressRepresentsProgress typing (k a) (continue_with_result s w j)) e (each a refl)
-use-represents typing f low s (machine.ends x) w k j h e each = subst (λ w. MachineProgressRepresentsProgress typing (execution.stopped x low.output) (continue_with_result s w j)) e (refl, h.same_output)
+use-represents typing f low s o w k j h1 h2 h3 = grind (arith, common_steps)
 
 pub use-place : (typing : StoreTyping) (shape : Shape) (low : execution.MachineState) (s : State) (o : machine.StepResult ℕ) (w : Outcome Place) (k : ℕ → execution.MachineProgress) (j : Place → Progress) → MachineStateRepresentsState typing low s → Led typing shape o w
     → ((p : Place) → PlaceHasType typing p shape → MachineProgressRepresentsProgress typing (k (address_of_place typing p)) (j p)) → MachineProgressRepresentsProgress typing (execution.continue_with_result low o k) (continue_with_result s w j)
-use-place typing shape low s (machine.gives a) (succeeds_with p) k j h led each =
-    let e : a ≡ address_of_place typing p = given-same a (address_of_place typing p) led.is_same in
-    subst (λ a. MachineProgressRepresentsProgress typing (k a) (j p)) (sym e) (each p led.is_place)
-use-place typing shape low s (machine.ends x) (ends_run_with y) k j h led each = (ended-same (end_of x) y led.is_same, h.same_output)
-use-place typing shape low s _ _ k j h led each = let e = led.is_same in absurd (cc)
+use-place typing shape low s o w k j h1 h2 h3 = grind (arith, common_steps)
 
 pub choice-represents : (typing : StoreTyping) (low : execution.MachineState) (s : State) (o : machine.StepResult Bool) (w : Outcome Value) (k l : execution.MachineState → execution.MachineProgress) (i j : State → Progress) → MachineStateRepresentsState typing low s → outcome_of truth o ≡ w
     → MachineProgressRepresentsProgress typing (k low) (i s) → MachineProgressRepresentsProgress typing (l low) (j s) → MachineProgressRepresentsProgress typing (execution.choose_by_truth low o k l) (continue_with_result s w (λ v. choose_by_truth_value s v i j))
-choice-represents typing low s (machine.gives true) w k l i j h e on off = subst (λ w. MachineProgressRepresentsProgress typing (k low) (continue_with_result s w (λ v. choose_by_truth_value s v i j))) e on
-choice-represents typing low s (machine.gives false) w k l i j h e on off = subst (λ w. MachineProgressRepresentsProgress typing (l low) (continue_with_result s w (λ v. choose_by_truth_value s v i j))) e off
-choice-represents typing low s (machine.ends x) w k l i j h e on off = subst (λ w. MachineProgressRepresentsProgress typing (execution.stopped x low.output) (continue_with_result s w (λ v. choose_by_truth_value s v i j))) e (refl, h.same_output)
+choice-represents typing low s o w k l i j h1 h2 h3 h4 = grind (arith, common_steps)
 
 -- what follows in every state
 abbrev pub Follows : StoreTyping → (execution.MachineState → execution.MachineProgress) → (State → Progress) → Type 0
 Follows typing k j = (low : execution.MachineState) (s : State) → MachineStateRepresentsState typing low s → MachineProgressRepresentsProgress typing (k low) (j s)
 
 pub going-on : (typing : StoreTyping) (p : execution.MachineProgress) (q : Progress) (k : execution.MachineState → execution.MachineProgress) (j : State → Progress) → MachineProgressRepresentsProgress typing p q → Follows typing k j → MachineProgressRepresentsProgress typing (execution.continue_run p k) (continue_if_running q j)
-going-on typing execution.no_room q k j h follows = tt
-going-on typing (execution.running low) (running s) k j h follows = follows low s h
-going-on typing (execution.stopped e out) (stopped f written) k j h follows = h
-going-on typing _ _ k j h follows = absurd h
+going-on typing p q k j h1 h2 = grind (arith, common_steps)
 
 -- a condition that evaluates to the same in every state
 abbrev pub SameConditions : StoreTyping → (execution.MachineState → machine.StepResult Bool) → (State → Outcome Value) → Type 0
@@ -105,26 +95,17 @@ number-read typing low s p (n ∷ rest) h fit =
     record { store_fits = h.store_fits; same_cells = h.same_cells; same_input = refl; same_output = h.same_output } fit
 
 pub put-represents : (typing : StoreTyping) (low : execution.MachineState) (s : State) (i : execution.OutputItem) → MachineStateRepresentsState typing low s → MachineProgressRepresentsProgress typing (execution.running (execution.append_output low i)) (running (append_output s (printed_item_of i)))
-put-represents typing low s i h = record {
-  store_fits = h.store_fits;
-  same_cells = h.same_cells;
-  same_input = h.same_input;
-  same_output = map-append printed_item_of low.output (i ∷ []) ∙ ap (λ l. l ++ printed_item_of i ∷ []) h.same_output;
-}
+put-represents typing low s i h = grind (arith, common_steps)
 
 -- evaluations at a moment of a body
 
 module _ {N : Type 0} (checked : TypeMeanings N) (slots : N → Slot) (targets : N → Target) (b : BodyContext N) (shown : IsBodyOfModule checked slots targets b) where
   pub number-in : (n : lowered.Number) (w : OutcomeByMoment N Value) → NumberHasOutcome checked slots n w → (low : execution.MachineState) (s : State) → MachineStateRepresentsState b.typing low s
       → outcome_of number (machine.number_value b.levels low.cells n) ≡ w (moment_with_store b s.store)
-  number-in n w hn low s h =
-      subst (λ l. outcome_of number (machine.number_value b.levels l n) ≡ w (moment_with_store b s.store)) (sym h.same_cells) (hn (moment_with_store b s.store) (shown.is_moment s.store h.store_fits))
+  number-in n w hn low s h = grind (arith, common_steps)
 
   pub truth-in : (t : lowered.Truth) (w : OutcomeByMoment N Value) → TruthHasOutcome checked slots t w → (low : execution.MachineState) (s : State) → MachineStateRepresentsState b.typing low s → outcome_of truth (machine.truth_value b.levels low.cells t) ≡ w (moment_with_store b s.store)
-  truth-in t w ht low s h =
-      subst (λ l. outcome_of truth (machine.truth_value b.levels l t) ≡ w (moment_with_store b s.store)) (sym h.same_cells) (ht (moment_with_store b s.store) (shown.is_moment s.store h.store_fits))
+  truth-in t w ht low s h = grind (arith, common_steps)
 
   pub place-in : (q : lowered.Place) (shape : Shape) (w : OutcomeByMoment N Place) → PlaceHasOutcome checked slots q shape w → (low : execution.MachineState) (s : State) → MachineStateRepresentsState b.typing low s → Led b.typing shape (machine.place_address b.levels low.cells q) (w (moment_with_store b s.store))
-  place-in q shape w hq low s h =
-      let m = hq (moment_with_store b s.store) (shown.is_moment s.store h.store_fits) in
-      subst (λ l. Led b.typing shape (machine.place_address b.levels l q) (w (moment_with_store b s.store))) (sym h.same_cells) record { is_same = m.0; is_place = m.1 }
+  place-in q shape w hq low s h = grind (arith, common_steps)

@@ -1,11 +1,12 @@
 -- Proves laws about the cells of variables that get their initial values, are added to the store,
 -- or are dropped.
-use Rattle.std.proofs.Common.{◌≡◌, ℕ, zero, suc, ◌+◌, ◌*◌, List, [], ◌∷◌, ◌++◌, length, replicate, take, ℤ, pos, slice_get, Some, option_and_then, option_map, unwrap_or, sym, refl, ap, ◌∙◌, arith, append_assoc, append-nil}
+use Rattle.std.proofs.lemmas.Grind.{common_steps}
+use Rattle.std.proofs.Common.{◌≡◌, ℕ, zero, suc, ◌+◌, ◌*◌, List, [], ◌∷◌, ◌++◌, length, replicate, take, ℤ, pos, slice_get, option_and_then, option_map, unwrap_or, sym, refl, ap, ◌∙◌, arith, append_assoc, append-nil}
 use Rattle.std.proofs.lemmas.List.{replicate-append-replicate, take_at}
 use Rattle.ob0_language_values.specs.Values.{FieldShapes, Shape, Store, Value, array_shape, copies, initial_value, initial_members, next_field_shape, no_field_shape, record_shape}
-use Rattle.ob0_language_runs.specs.TypeAgreement.{HasShape, PlaceHasType, StoreHasTypes, StoreTyping, shape_at_path}
+use Rattle.ob0_language_runs.specs.TypeAgreement.{HasShape, PlaceHasType, StoreHasTypes, StoreTyping}
 use Rattle.ob0_language_runs.proofs.SoundCalls.{initial-fits, last-shape, store-appends}
-use Rattle.ob0_run_cells.specs.Cells.{address_of_place, cells_of_store, cells_of, element_cells, fields_cell_count, member_cells, path_offset, shape_cell_count, store_cell_count}
+use Rattle.ob0_run_cells.specs.Cells.{address_of_place, cells_of_store, cells_of, element_cells, fields_cell_count, member_cells, shape_cell_count, store_cell_count}
 use Rattle.ob0_run_cells.proofs.Places.{store-size}
 
 pub zeros-join : (m n : ℕ) (a b : List ℤ) → a ≡ replicate m (pos 0) → b ≡ replicate n (pos 0) → a ++ b ≡ replicate (m + n) (pos 0)
@@ -48,15 +49,7 @@ pub record AddsVariable (typing : StoreTyping) (store : Store) (s : Shape) (v : 
   pub address_is : address_of_place (typing ++ s ∷ []) record { variable = length store; path = [] } ≡ store_cell_count typing
 
 pub variables_are_added : (typing : StoreTyping) (store : Store) (s : Shape) (v : Value) → StoreHasTypes typing store → HasShape v s → AddsVariable typing store s v
-variables_are_added typing store s v h hv =
-    let e : slice_get (typing ++ s ∷ []) (length store) ≡ Some s = last-shape typing store s h in
-    let b : store_cell_count (take (length store) (typing ++ s ∷ [])) ≡ store_cell_count typing = taken-all typing store s h in
-    let o : unwrap_or (option_map (path_offset []) (slice_get (typing ++ s ∷ []) (length store))) 0 ≡ 0 = ap (λ o. unwrap_or (option_map (path_offset []) o) 0) e in record {
-      store_fits = store-appends typing store s v h hv;
-      cells_added = cells-append store (v ∷ []) ∙ ap (λ l. cells_of_store store ++ l) (append-nil (cells_of v));
-      place_fits = ap (option_and_then (shape_at_path [])) e;
-      address_is = omega (arith, b, o);
-    }
+variables_are_added typing store s v h hv = grind (arith, common_steps, slice_get, last-shape, taken-all, unwrap_or, option_map, store-appends, cells-append, append-nil, option_and_then)
 
 pub cut-fits : (typing others : StoreTyping) (old new : Store) → StoreHasTypes typing old → StoreHasTypes (typing ++ others) new → StoreHasTypes typing (take (length old) new)
 cut-fits [] others [] new h k = tt
