@@ -519,7 +519,7 @@ module _ (number_of : Data → Option ℕ) (requested : List SentAsk) where
       let answer = reacts_so before after content sent is.json (going_on before after content sent running h) is.reads in
       let so : react_to_message before (meaning_of_message is.json) ≡ react_to_allowed_request before id (codes "textDocument/codeAction") is.params =
       ap (react_to_message before) is.means ∙ ap (λ phase. requested_in phase before id (codes "textDocument/codeAction") is.params) running in
-      inline_served how id k uri position is.range is.only is.params before after sent running takes (record { numbered = numbered; is = of }) is.allowed (place_of_range is.range position is.from is.ordered) is.calls
+      inline_served how id k uri position is.range is.only is.params before after sent running takes (record { numbered = numbered; is = of }) is.allowed (place_of_range is.range position is.from) is.calls
       (answer.0 ∙ ap (λ (x : Reaction). x.after) so) (subst (λ (x : Reaction). AreContentsOfReply x.reply sent) so answer.1)
 
 -- ---- the model's editor

@@ -25,7 +25,7 @@ use Rattle.ob0_world_rules.specs.EveryEditor.{ExchangeTurn, editor_moves, server
 use Rattle.ob0_world_rules.specs.PublicationsAreInOrder.{AnnouncedDocument, documents_announced_by_sent_messages}
 use Rattle.ob0_world_rules.proofs.ModelEditor.{IsMove, act_may, knows_event}
 use Rattle.ob0_world.specs.Worlds.{Wire, Connection, SessionTakesFirstContent, EditorTakesFirstContent, EventChangesWire, AreMessagesToServer, ConnectionSteps, IsConnectionCourse}
-use Rattle.ob0_world.specs.Exchanges.{SentRequestId, number_id, ask_number_of_request_id, ask_number_of_json_id, AssignsAskIds, Exchange, IsInitialExchange, IsCodeActionRequest, IsRequestForAsk, ClientAcceptsLiteralActions, ClientAcceptsEditsForAsk, IsMessageToSession, AreMessagesToSession, message_to_editor_given_ids, editor_after_optional_message, EditorReadsFirstContent, wire_with_queued_contents, IsExchangeCourse, EveryConnectionCourseIsExchange}
+use Rattle.ob0_world.specs.Exchanges.{SentRequestId, number_id, ask_number_of_request_id, ask_number_of_json_id, AssignsAskIds, Exchange, IsInitialExchange, is_before, IsCodeActionRequest, IsRequestForAsk, ClientAcceptsLiteralActions, ClientAcceptsEditsForAsk, IsMessageToSession, AreMessagesToSession, message_to_editor_given_ids, editor_after_optional_message, EditorReadsFirstContent, wire_with_queued_contents, IsExchangeCourse, EveryConnectionCourseIsExchange}
 use Rattle.ob0_world.proofs.Conversing.{answered_once}
 use Rattle.std.proofs.lemmas.Bool.{eqb-true, eqb-false}
 use Rattle.std.proofs.lemmas.Option.{same_Some, none-some}
@@ -116,6 +116,10 @@ last_say requested now (m ∷ messages) more (c ∷ contents) others h k = last_
 last_say requested now [] more (c ∷ contents) others h k = absurd h
 last_say requested now (m ∷ messages) more [] others h k = absurd h
 
+own_first : (b : Bool) → {position : Position} → cond b position position ≡ position
+own_first true = refl
+own_first false = refl
+
 -- An ask to inline sends a request for the actions at an empty range, of all kinds.
 inline_said : (id : Data) (uri : List ℕ) (position : Position) (ask : Ask) (content : List ℕ) → method_of_ask ask ≡ codes "textDocument/codeAction" → client_request_for_ask uri ask ≡ asked.code_action uri (empty_range_at position) None → IsRequestWithId id uri ask content
     → IsCodeActionRequest id uri position content
@@ -128,8 +132,7 @@ inline_said id uri position ask content method call is =
       range = empty_range_at position;
       only = None;
       calls = sym (ap (λ m. request_by_method m is.params) method) ∙ is.calls ∙ ap Ok call;
-      from = refl;
-      ordered = inr (refl, omega arith);
+      from = own_first (is_before position position);
       allowed = refl;
     }
 

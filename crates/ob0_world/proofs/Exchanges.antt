@@ -43,7 +43,7 @@ use Rattle.ob0_world_rules.proofs.EveryEditor.{guarantees_hold_for_every_editor}
 use Rattle.ob0_world.specs.Worlds.{Wire, SessionTakesFirstContent}
 use Rattle.ob0_session_server.specs.declared.session.Phase.TheVariants.{Running}
 use Rattle.ob0_world.specs.Queues.{publication_in_first_message}
-use Rattle.ob0_world.specs.Exchanges.{RequestId, id_of_value, is_same_id, SentRequestId, ask_number_of_request_id, ask_number_of_json_id, AssignsAskIds, ids_with_non_ask_id, IsNonAskId, Exchange, IsInitialExchange, IsMessageToSession, IsRequestForAsk, IsReadOnlyRequest, IsUnmodeledMessage, IsUnmodeledContent, message_to_editor_given_ids, editor_after_optional_message, EditorReadsFirstContent, wire_with_queued_contents, ExchangeTakesTurn, IsExchangeCourse, AreMessagesToSession, AreMessagesToEditor, EveryExchangeFollowsModel, VersionedPublication, versioned_publications_in_message, versioned_publications_in_contents, AreCorrectForDocuments, last_versioned_publication, notifications_in_contents, GuaranteesHoldForEveryExchange}
+use Rattle.ob0_world.specs.Exchanges.{RequestId, id_of_value, is_same_id, SentRequestId, ask_number_of_request_id, ask_number_of_json_id, AssignsAskIds, ids_with_non_ask_id, IsNonAskId, Exchange, IsInitialExchange, IsMessageToSession, IsRequestForAsk, IsReadOnlyRequest, IsUnmodeledMessage, IsUnmodeledContent, message_to_editor_given_ids, editor_after_optional_message, EditorReadsFirstContent, wire_with_queued_contents, ExchangeTakesTurn, IsExchangeCourse, AreMessagesToSession, AreMessagesToEditor, EveryExchangeFollowsModel, VersionedPublication, versioned_publications_in_message, versioned_publications_in_contents, AreCorrectForDocuments, last_versioned_publication, notifications_in_contents, GuaranteesHoldForExchange}
 use Rattle.ob0_world.proofs.Answering.{Served, note_answered, ask_answered, actions_answered, going_on, reacts_so}
 use Rattle.ob0_world.proofs.Waiting.{read_still}
 use Rattle.ob0_world.proofs.Ending.{ends_well}
@@ -700,7 +700,7 @@ notes_change held [] = refl
 notes_change held (notifies note ∷ q) = notes_change (documents_after_message held (notifies note)) q
 notes_change held (requests k uri ask ∷ q) = notes_change held q
 
-pub guarantees_hold_for_every_exchange : GuaranteesHoldForEveryExchange
+pub guarantees_hold_for_every_exchange : (unit : Unit) (begin now : Exchange) (turns : List ExchangeTurn) → IsInitialExchange unit begin → IsExchangeCourse begin turns now → GuaranteesHoldForExchange begin now
 guarantees_hold_for_every_exchange unit begin now turns b leads =
     let led : Led begin.wire.got (initial_editor_and_server unit) turns now = begun_led unit begin now turns b leads in
     let w : EditorAndServer = model_of now led.q led.r led.made in

@@ -3,7 +3,8 @@
 use Rattle.std.proofs.Common.{◌≡◌, ◌∙◌, ℕ, zero, suc, ◌+◌, ◌-◌, ◌<◌, ◌≤◌, Bool, true, false, List, [], ◌∷◌, ◌++◌, length, take, refl, sym, ap, arith, inl, inr, cond, append_assoc}
 use Rattle.std.specs.Prelude.{◌⊎◌, min, nat_le, encode_utf8_all}
 use Rattle.std.proofs.lemmas.Str.{encodes-append}
-use Rattle.std.proofs.lemmas.Bool.{leb-true, leb-false}
+use Rattle.std.proofs.lemmas.Bool.{leb-true, leb-false, cases_lt}
+use Rattle.std.proofs.lemmas.Bool.Decides.{nat_tests}
 use Rattle.std.proofs.lemmas.List.{length-append}
 use Rattle.ob0_text.specs.declared.position_types.Position.{Position}
 use Rattle.ob0_text.specs.declared.position_types.Range.{Range}
@@ -12,7 +13,11 @@ use Rattle.ob0_text.specs.Texts.{Line, lines, text_of_lines, line_body, fitting_
 use Rattle.ob0_text.specs.Units.{width_of}
 use Rattle.ob0_session_answers.specs.Actions.{first_offset_in_range}
 use Rattle.ob0_world_rules.specs.Answers.{position_offset}
-use Rattle.ob0_world.specs.Exchanges.{IsAtOrBefore}
+use Rattle.ob0_world.specs.Exchanges.{is_before, first_position}
+
+-- holds if position `p` isn't after position `q` in a text
+abbrev IsAtOrBefore : Position → Position → Type 0
+IsAtOrBefore p q = (p.line < q.line) ⊎ ((p.line ≡ q.line) × (p.character ≤ q.character))
 
 len-append : (xs ys : List ℕ) → byte_len (xs ++ ys) ≡ byte_len xs + byte_len ys
 len-append xs ys = ap length (encodes-append xs ys) ∙ length-append (encode_utf8_all xs) (encode_utf8_all ys)
@@ -92,18 +97,29 @@ module _ (width : ℕ → ℕ) where
   unfolding text_before up_to
   before_up_to text p = refl
 
-  pub place_further : (text : List ℕ) (p q : Position) → IsAtOrBefore p q → offset_of width text p ≤ offset_of width text q
+  place_further : (text : List ℕ) (p q : Position) → IsAtOrBefore p q → offset_of width text p ≤ offset_of width text q
   place_further text p q h =
       let one : offset_of width text p ≡ byte_len (up_to (lines text) p.line p.character) = ap byte_len (before_up_to text p) in
       let other : offset_of width text q ≡ byte_len (up_to (lines text) q.line q.character) = ap byte_len (before_up_to text q) in
       let more : byte_len (up_to (lines text) p.line p.character) ≤ byte_len (up_to (lines text) q.line q.character) = further (lines text) p.line q.line p.character q.character h in
       omega (arith, one, other, more)
 
--- The offset for the code actions of a range is the offset of its start.
-pub place_of_range : (range : Range) (position : Position) → range.start ≡ position → IsAtOrBefore range.start range.end → (unit : Unit) (text : List ℕ) → first_offset_in_range unit text range ≡ position_offset unit text position
-place_of_range range position from ordered unit text =
-    let more : position_offset unit text range.start ≤ position_offset unit text range.end = place_further (width_of unit) text range.start range.end ordered in
-    least (position_offset unit text range.start) (position_offset unit text range.end) more ∙ ap (position_offset unit text) from
+before_so : (p q : Position) → is_before p q ≡ true → IsAtOrBefore p q
+before_so p q e = elim (cases_lt p.line q.line) [ inl less ↦ inl less | inr more ↦ inr (grind (arith, nat_tests), grind (arith, nat_tests)) ]
+
+not_before_so : (p q : Position) → is_before q p ≡ false → IsAtOrBefore p q
+not_before_so p q e = elim (cases_lt p.line q.line) [ inl less ↦ inl less | inr more ↦ inr (grind (arith, nat_tests), grind (arith, nat_tests)) ]
+
+least_first : (a b : ℕ) → a ≤ b → min a b ≡ a
+least_first a b h = omega arith
+
+least_last : (a b : ℕ) → b ≤ a → min a b ≡ b
+least_last a b h = omega arith
+
+-- The offset for the code actions of a range is the offset of its first position.
+pub place_of_range : (range : Range) (position : Position) → first_position range ≡ position → (unit : Unit) (text : List ℕ) → first_offset_in_range unit text range ≡ position_offset unit text position
+place_of_range range position from unit text = go (is_before range.end range.start) refl ∙ ap (position_offset unit text) from
   where
-    least : (a b : ℕ) → a ≤ b → min a b ≡ a
-    least a b h = omega arith
+    go : (b : Bool) → is_before range.end range.start ≡ b → min (position_offset unit text range.start) (position_offset unit text range.end) ≡ position_offset unit text (cond b range.end range.start)
+    go true e = least_last (position_offset unit text range.start) (position_offset unit text range.end) (place_further (width_of unit) text range.end range.start (before_so range.end range.start e))
+    go false e = least_first (position_offset unit text range.start) (position_offset unit text range.end) (place_further (width_of unit) text range.start range.end (not_before_so range.start range.end e))

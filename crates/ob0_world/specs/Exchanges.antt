@@ -3,7 +3,7 @@
 -- session instead of the model's server and contents instead of messages. A content is the bytes of
 -- one message. The session may be any session that the protocol (`Answers`) allows. An ask is a
 -- request for edits, which the editor may apply: a rename, an inlining or a formatting.
-use Rattle.std.specs.Prelude.{◌≡◌, ◌⊎◌, ◌<◌, ◌≤◌, ◌==◌, map, filter_map, ⊤, ℕ, ℤ, List, [], ◌∷◌, ◌++◌, All, fold, Bool, true, false, Option, Some, None, MatchOption, option_map, option_and_then, Result, Ok, Err, if◌then◌else◌, codes}
+use Rattle.std.specs.Prelude.{◌≡◌, ◌==◌, ◌&&◌, ◌||◌, nat_lt, map, filter_map, ⊤, ℕ, ℤ, List, [], ◌∷◌, ◌++◌, All, fold, Bool, true, false, Option, Some, None, MatchOption, option_map, option_and_then, Result, Ok, Err, if◌then◌else◌, codes}
 use Rattle.std.specs.Str.{bytes_eq}
 use Rattle.serde_json.specs.Data.{Data, null, boolean, number, string, array, object, unsigned, negative, float}
 use Rattle.ob0_text.specs.declared.position_types.Position.{Position}
@@ -178,13 +178,17 @@ IsUnmodeledContent ids content =
 
 -- ---- messages of the model: asks and notifications
 
--- states that position `p` isn't after position `q` in a text
-abbrev pub IsAtOrBefore : Position → Position → Type 0
-IsAtOrBefore p q = (p.line < q.line) ⊎ ((p.line ≡ q.line) × (p.character ≤ q.character))
+-- returns whether position `p` is before position `q` in a text
+abbrev pub is_before : Position → Position → Bool
+is_before p q = nat_lt p.line q.line || (p.line == q.line && nat_lt p.character q.character)
 
--- States that the content is a request for code actions, with this id. The requested range begins
--- at this position and doesn't end before it. The request is for all kinds of actions, or for kinds
--- that include inlining.
+-- returns the position at which a range begins: the earlier one of its two positions
+abbrev pub first_position : Range → Position
+first_position range = if is_before range.end range.start then range.end else range.start
+
+-- States that the content is a request for code actions, with this id, in a range that begins at
+-- this position. The request is for all kinds of actions, or for kinds that include inlining. (One
+-- for other kinds lists no action, so it counts as a message outside the model.)
 pub record IsCodeActionRequest (id : Data) (uri : List ℕ) (position : Position) (content : List ℕ)
     : Type 0 where
   pub json : Data
@@ -196,8 +200,7 @@ pub record IsCodeActionRequest (id : Data) (uri : List ℕ) (position : Position
   pub only : Option (List (List ℕ))
   pub calls : request_by_method (codes "textDocument/codeAction") params
       ≡ Ok (asked.code_action uri range only)
-  pub from : range.start ≡ position
-  pub ordered : IsAtOrBefore range.start range.end
+  pub from : first_position range ≡ position
   pub allowed : requested_kinds_include_inlining only ≡ true
 
 -- States that the content is the request, with this id, for these edits of the document with this
@@ -300,7 +303,8 @@ ExchangeTakesTurn old (editor_moves move) new =
     × (contents : List (List ℕ))
     × IsAllowedMove old.editor move done announced
     × AssignsAskIds old.ids done.sent ids
-    × AreMessagesToSession old.wire.session.client ids done.editor.requested (map Some done.sent) contents
+    × AreMessagesToSession old.wire.session.client ids done.editor.requested
+    (map Some done.sent) contents
     × (new
     ≡ record {
       editor = done.editor;
@@ -456,7 +460,7 @@ abbrev pub notifications_in_contents : List (List ℕ) → List MessageToServer
 notifications_in_contents contents = filter_map (message_to_server_in_content []) contents
 
 -- States the guarantees for an exchange of a session and an editor that keeps ob0's rules, from
--- `begin` to `now`.
+-- `begin` to `now`. They hold for each: the law `guarantees_hold_for_every_exchange`.
 pub record GuaranteesHoldForExchange (begin now : Exchange) : Type 0 where
   -- each edit that the editor applied keeps the module's run
   pub applied : All PreservesRun now.applied
@@ -471,34 +475,28 @@ pub record GuaranteesHoldForExchange (begin now : Exchange) : Type 0 where
   pub announced : now.announced ≡ published_documents ++ unpublished_documents
   pub right : AreCorrectForDocuments (versioned_publications_in_contents since) published_documents
   -- the `unpublished_documents` are announced by contents that still wait for the session
-  pub unpublished_are_queued : map uri_and_version_of unpublished_documents ≡ uris_and_versions_announced_in_queue (notifications_in_contents now.wire.to_server)
+  pub unpublished_are_queued : map uri_and_version_of unpublished_documents
+      ≡ uris_and_versions_announced_in_queue (notifications_in_contents now.wire.to_server)
   -- if no notification about a document waits for the session, the latest diagnostics of each open
   -- document are for its present version and text
-  pub latest : notifications_in_contents now.wire.to_server ≡ [] → (uri : List ℕ) (d : OpenDocument)
-      → editor_document_with_uri now.editor uri ≡ Some d
+  pub latest : notifications_in_contents now.wire.to_server ≡ []
+      → (uri : List ℕ) (d : OpenDocument) → editor_document_with_uri now.editor uri ≡ Some d
       → MatchOption (last_versioned_publication uri (versioned_publications_in_contents since)) ⊥
       (λ p. (p.version ≡ d.version) × NoDiagnosticsExactlyIfWellTyped d.text p.no_diagnostics)
   -- once the session has taken the waiting contents, it has the editor's documents
   pub mirrors : (uri : List ℕ)
-      → document_at (fold documents_after_message now.wire.session.held (notifications_in_contents now.wire.to_server)) uri
+      → document_at (fold documents_after_message now.wire.session.held
+      (notifications_in_contents now.wire.to_server)) uri
       ≡ option_map in_step_document (editor_document_with_uri now.editor uri)
   -- the session has taken and sent these contents in one conversation, from the session's start
   pub conversation : IsConversation server.initial_server_state now.wire.taken
       (now.wire.got ++ now.wire.to_editor) now.wire.session
   -- if the session next takes `shutdown` and `exit`, it ends with status 0
-  pub ends : (id : Data) (shutdown exit : List ℕ) → IsShutdownRequest id shutdown → IsExitNotification exit
+  pub ends : (id : Data) (shutdown exit : List ℕ)
+      → IsShutdownRequest id shutdown → IsExitNotification exit
       → (sent : List (List ℕ)) (end : ServerState)
       → IsConversation now.wire.session (shutdown ∷ exit ∷ []) sent end
       → EndsAfterShutdown id now.wire.session sent end
-
--- states that the guarantees (`GuaranteesHoldForExchange`) hold for every exchange between a
--- session and an editor that keeps ob0's rules
-abbrev pub GuaranteesHoldForEveryExchange : Type 0
-GuaranteesHoldForEveryExchange =
-    (unit : Unit) (begin now : Exchange) (turns : List ExchangeTurn)
-    → IsInitialExchange unit begin
-    → IsExchangeCourse begin turns now
-    → GuaranteesHoldForExchange begin now
 
 -- ---- the law that each list of events that `play` performs is an exchange
 

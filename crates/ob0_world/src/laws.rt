@@ -1,6 +1,9 @@
 //! Proves laws about an editor and a session: which versions answers mention, and what holds in
 //! every exchange of messages.
-ghost use Rattle.ob0_world.specs.Exchanges.{EveryConnectionCourseIsExchange, GuaranteesHoldForEveryExchange, EveryExchangeFollowsModel};
+ghost use Rattle.std.specs.Prelude.{List};
+ghost use Rattle.ob0_text.specs.declared.position_types.Unit.{Unit};
+ghost use Rattle.ob0_world_rules.specs.EveryEditor.{ExchangeTurn};
+ghost use Rattle.ob0_world.specs.Exchanges.{EveryConnectionCourseIsExchange, EveryExchangeFollowsModel, Exchange, IsInitialExchange, IsExchangeCourse, GuaranteesHoldForExchange};
 ghost use Rattle.ob0_world.specs.Versions.{AnswersMentionVersions, VersionsSufficeToApplyAnswers};
 
 /// Proves that an answer with edits mentions the document that was asked about, and the version
@@ -31,7 +34,10 @@ pub fn every_exchange_follows_model()
 /// editor announced by opening or changing it. Once the session has taken the waiting contents, it
 /// has the same documents as the editor.
 pub fn guarantees_hold_for_every_exchange()
-    ensures { GuaranteesHoldForEveryExchange }
+    ensures { (unit : Unit) (begin now : Exchange) (turns : List ExchangeTurn)
+        → IsInitialExchange unit begin
+        → IsExchangeCourse begin turns now
+        → GuaranteesHoldForExchange begin now }
 {}
 
 /// Proves that each list of events that `play` performs, with the model's editor and a session, is

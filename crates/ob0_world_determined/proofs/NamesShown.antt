@@ -9,7 +9,6 @@ use Rattle.ob0_text.specs.declared.position_types.Unit.{Unit}
 use Rattle.ob0_tree.specs.TokenIndexLeaves.{tree_with_names, token_text_at}
 use Rattle.ob0_tree.specs.Tree.{Tree, identifiers, module_text}
 use Rattle.ob0_tree.specs.declared.tree.Role.TheVariants as role
-use Rattle.ob0_language_names.specs.BlockParts.{module_block}
 use Rattle.ob0_scope_table.specs.Resolution.{Resolution, declaring_names, ordinal_in, token_span, declaration_token}
 use Rattle.ob0_scope.specs.NamesAtPlaces.{identifier_is_bound_to_declaration}
 use Rattle.ob0_scope.specs.declared.bound_names.BoundName.{BoundName}
@@ -21,7 +20,8 @@ use Rattle.ob0_types.specs.declared.identifier_meanings.IdentifierMeaning.{Ident
 use Rattle.ob0_types.specs.declared.identifier_meanings.IdentifierMeaning.TheVariants.{Name, Field}
 use Rattle.ob0_types_fields.specs.FieldTypes.{constructed_types, typed_field_with_name}
 use Rattle.ob0_types_fields.specs.declared.field_identifier.FieldIdentifier.{FieldIdentifier}
-use Rattle.ob0_types_fields.specs.FieldIdentifiers.{fields_declared_in_block, field_identifiers, field_at_offset, first_token, tokens_of_field}
+use Rattle.ob0_types_fields.specs.IdentifierOwners.{fields_with_owners}
+use Rattle.ob0_types_fields.specs.FieldIdentifiers.{identifiers_declared_in_module, field_identifiers, field_at_offset, first_token, tokens_of_field}
 use Rattle.ob0_refs.specs.DeclarationTexts.{hover_text_of_object}
 use Rattle.ob0_refs.specs.Hovers.{field_text, predeclared_name_text, type_text}
 use Rattle.ob0_refs.specs.Questions.{definition_of_identifier, definition_at_offset, field_reference_tokens, hover_at_offset, hover_of_identifier, references_of_optional_identifier, references_of_identifier, list_without_optional_token, references_at_offset, renamable_span_at_offset, renamable_span_of_identifier}
@@ -66,7 +66,7 @@ module _ (r q : Resolution) (e : Same r.module_read q.module_read) (fields : fie
 
   one_declaration : (token : ℕ) (x : IdentifierMeaning) → definition_of_identifier r.module_read token x ≡ definition_of_identifier q.module_read token x
   one_declaration token (Name ordinal) = λ i. option_map (token_span (e.source i)) (declaration_token (declaring_names (identifiers role.DeclaringName (e.tree i))) ordinal)
-  one_declaration token (Field k) = λ i. option_map (token_span (e.source i)) (first_token (tokens_of_field (e.source i) k (token_text_at (e.source i) token) (fields_declared_in_block 0 (module_block (e.tree i)))))
+  one_declaration token (Field k) = λ i. option_map (token_span (e.source i)) (first_token (tokens_of_field (e.source i) k (token_text_at (e.source i) token) (fields_with_owners (identifiers_declared_in_module (e.tree i)))))
 
   same_definition : definition_at_offset r offset ≡ definition_at_offset q offset
   same_definition = λ i. option_and_then (λ (x : IdentifierWithMeaning). one_declaration x.token x.means i) (same_meant i)
@@ -76,7 +76,7 @@ module _ (r q : Resolution) (e : Same r.module_read q.module_read) (fields : fie
   field_referred : (x : FieldIdentifier) (include : Bool) → field_reference_tokens r x include ≡ field_reference_tokens q x include
   field_referred x true = λ i. tokens_of_field (e.source i) x.owner (token_text_at (e.source i) x.token) (fields i)
   field_referred x false = λ i.
-      list_without_optional_token (first_token (tokens_of_field (e.source i) x.owner (token_text_at (e.source i) x.token) (fields_declared_in_block 0 (module_block (e.tree i))))) (tokens_of_field (e.source i) x.owner (token_text_at (e.source i) x.token) (fields i))
+      list_without_optional_token (first_token (tokens_of_field (e.source i) x.owner (token_text_at (e.source i) x.token) (fields_with_owners (identifiers_declared_in_module (e.tree i))))) (tokens_of_field (e.source i) x.owner (token_text_at (e.source i) x.token) (fields i))
 
   named_one : (include : Bool) (token : ℕ) (x : IdentifierMeaning) → references_of_identifier r include token x ≡ references_of_identifier q include token x
   named_one include token (Name ordinal) = λ i. map (token_span (e.source i)) (map (λ s. s.0.1) (filter (identifier_is_bound_to_declaration include ordinal) (identifiers_of (e.source i) (e.tree i))))

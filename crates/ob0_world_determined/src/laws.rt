@@ -1,7 +1,11 @@
 //! Proves that the server's input determines the server's output, and that `serve` writes the
 //! frames of the messages that a session sends. A frame is a message's head and content.
 ghost use Rattle.ob0_world_determined.specs.DeterminedOutput.{FramingExists, UnfinishedMessageIsBounded, ServeAnswersLikeSession, ServeAnswersPrefixLikeSession, ServeEndsLikeSession, ServeHasAnsweredAtReads, AnswerIsDetermined, ConversationIsDetermined, DiagnosesAreDetermined, OutputIsDetermined, ReplyContentsAreDetermined, ResultIsDetermined, ResolutionIsDetermined};
-ghost use Rattle.ob0_world_determined.specs.ServeGuarantees.{ServeGuaranteesHoldForEveryExchange};
+ghost use Rattle.ob0_world_determined.specs.ServeGuarantees.{ServeGuaranteesHoldForExchange};
+ghost use Rattle.std.specs.Prelude.{List};
+ghost use Rattle.ob0_text.specs.declared.position_types.Unit.{Unit};
+ghost use Rattle.ob0_world_rules.specs.EveryEditor.{ExchangeTurn};
+ghost use Rattle.ob0_world.specs.Exchanges.{Exchange, IsInitialExchange, IsExchangeCourse};
 
 use ob0_analysis::laws::reported_refusal_is_unique;
 use ob0_frame::laws::{
@@ -146,7 +150,10 @@ pub fn serve_has_answered_at_reads()
 /// answered exactly these contents, it has written the same frames. Whenever a read of the input
 /// begins, the frames of all replies to the contents that were read are written and flushed.
 pub fn serve_guarantees_hold_for_every_exchange()
-    ensures { ServeGuaranteesHoldForEveryExchange }
+    ensures { (unit : Unit) (begin now : Exchange) (turns : List ExchangeTurn)
+        → IsInitialExchange unit begin
+        → IsExchangeCourse begin turns now
+        → ServeGuaranteesHoldForExchange begin now }
 {
     guarantees_hold_for_every_exchange();
     serve_answers_like_session();

@@ -18,8 +18,9 @@ use Rattle.ob0_world_rules.specs.Headline.{PreservesRun}
 use Rattle.ob0_world_rules.specs.Laws.{EditsPreserveRun}
 use Rattle.ob0_world_rules.specs.PublicationsAreInOrder.{AnnouncedDocument, AreMadeForDocumentsInOrder, uri_and_version_announced_by_message, uri_and_version_of}
 use Rattle.ob0_world_rules.specs.EditorMoves.{Revision, EditorMove, editor_opens, editor_revises, editor_closes, editor_asks, editor_applies, editor_discards, revised_document, editor_with_document, RevisesDocument, notifications_of_revisions, AppliesAnswer, result_of_opening_given_document, IsAllowedMove}
-use Rattle.ob0_world_rules.specs.EveryEditor.{EditorAndServer, initial_editor_and_server, modeled_messages, notifications_in_queue, model_state_of, ExchangeTurn, editor_moves, editor_sends_unmodeled_message, server_takes_message, editor_takes_message, state_after_move, ServerTakesNextMessage, state_after_editor_takes_next_message, TurnMayLeadTo, IsCourseOfTurns, GuaranteesHoldForEditorAndServer, GuaranteesHoldForEveryEditor}
+use Rattle.ob0_world_rules.specs.EveryEditor.{EditorAndServer, initial_editor_and_server, modeled_messages, notifications_in_queue, model_state_of, ExchangeTurn, editor_moves, editor_sends_unmodeled_message, server_takes_message, editor_takes_message, state_after_move, ServerTakesNextMessage, state_after_editor_takes_next_message, TurnMayLeadTo, IsCourseOfTurns, GuaranteesHoldForEditorAndServer}
 use Rattle.ob0_world_rules.proofs.UriLaws.{get_put, uri_itself}
+use Rattle.ob0_world_rules.proofs.SameTokens.{applied_keeps}
 use Rattle.ob0_world_rules.proofs.Asked.{Known}
 use Rattle.ob0_world_rules.proofs.Keeping.{AnswerFits, Kept, acts_kept, revise_kept, held_known}
 use Rattle.ob0_world_rules.proofs.Interleavings.{opened_kept, close_kept, ask_kept, still_kept, take_kept, without_kept, serve_kept, start_kept, up_to_date, AreLatest, Both}
@@ -147,9 +148,10 @@ module _ (unit : Unit) where
       let asked : known.requested ≡ a.requested = same_Some known.requested a.requested (sym known.is ∙ a.numbered) in
       let same : known.requested.text ≡ a.document.text = ap (λ (x : SentAsk). x.text) asked ∙ sym a.same_text in
       let keep : EditsPreserveRun unit a.document.text a.edits = subst (λ text. EditsPreserveRun unit text a.edits) same known.holds in
-      let is : keep.after ≡ a.text = same_Some keep.after a.text (sym keep.makes ∙ ap (λ u. text_after_edits u a.document.text a.edits) (sym good.kept.counts) ∙ a.makes) in
+      let is : keep.after ≡ a.edited = same_Some keep.after a.edited (sym keep.makes ∙ ap (λ u. text_after_edits u a.document.text a.edits) (sym good.kept.counts) ∙ a.makes) in
       let applied : AppliedEdit = record { uri = a.requested.uri; before = a.document.text; after = a.text } in
-      let keeps : PreservesRun applied = record { before_is_well_typed = keep.before_is_well_typed; after_is_well_typed = subst WellTypedText is keep.after_is_well_typed; same = subst (SameRun a.document.text) is keep.same } in
+      let keeps : PreservesRun applied =
+      applied_keeps a.requested.uri a.document.text a.edited a.text keep.before_is_well_typed (subst WellTypedText is keep.after_is_well_typed) (subst (SameRun a.document.text) is keep.same) a.same_tokens in
       let without : EditorAndServer = record w { editor = e } in
       let so : Good without =
       record {
@@ -287,5 +289,5 @@ module _ (unit : Unit) where
         unpublished_are_queued = pending_named w.held (modeled_messages w.to_server) good.waiting good.pending;
       }
 
-pub guarantees_hold_for_every_editor : GuaranteesHoldForEveryEditor
+pub guarantees_hold_for_every_editor : (unit : Unit) (turns : List ExchangeTurn) (w : EditorAndServer) → IsCourseOfTurns (initial_editor_and_server unit) turns w → GuaranteesHoldForEditorAndServer w
 guarantees_hold_for_every_editor unit turns w lead = holds_with unit w (turns_good unit turns (initial_editor_and_server unit) w (first_good unit) lead)

@@ -2,6 +2,9 @@ mod Latest
 pub mod ModuleTexts
 pub mod Trees
 pub mod KeptRuns
+mod LineEnds
+mod LineEndEdits
+pub mod SameTokens
 pub mod OneModule
 pub mod OneLayout
 pub mod OneInlining

@@ -11,7 +11,7 @@ use Rattle.ob0_world_rules.specs.EditorActs.{EditorAct, ActResult, next_version,
 use Rattle.ob0_world_rules.specs.Events.{Event, editor_acts, serve, take_message, state_after_act, state_after_editor_takes_message, ServerTakesFirstMessage, EventLeadsTo, IsCourse}
 use Rattle.ob0_world_rules.specs.Headline.{GuaranteesHold}
 use Rattle.ob0_world_rules.specs.MirroredDocuments.{ServerWillMirrorEditor}
-use Rattle.ob0_world_rules.specs.Laws.{GuaranteesHoldInEveryInterleaving, ServerMirrorsEditor}
+use Rattle.ob0_world_rules.specs.Laws.{ServerMirrorsEditor}
 use Rattle.ob0_world_rules.specs.PublicationsAreInOrder.{AnnouncedDocument, announced_document_if_open, documents_announced_by_sent_messages, documents_announced_by_event, EventsAnnounceDocuments, uris_and_versions_announced_in_queue, PublicationsAreInOrder}
 use Rattle.ob0_world_rules.specs.EditorMoves.{Revision, EditorMove, editor_opens, editor_revises, editor_closes, editor_asks, editor_applies, editor_discards, revised_document, editor_with_document, RevisesDocument, AppliesAnswer, IsAllowedMove}
 use Rattle.ob0_world_rules.specs.EveryEditor.{EditorAndServer, model_state_of, ExchangeTurn, editor_moves, server_takes_message, editor_takes_message, ServerTakesNextMessage, state_after_editor_takes_next_message, TurnMayLeadTo, IsCourseOfTurns, GuaranteesHoldForEditorAndServer, ModelEditorKeepsRules}
@@ -85,14 +85,12 @@ applied_so e k edits a d text answered numbered same as_asked makes =
       document = d;
       is_open = same.at;
       same_text = as_asked;
-      text = text;
+      edited = text;
       makes = makes;
+      text = text;
+      same_tokens = inl refl;
       new = editor_with_document (editor_without_answer e k) a.uri (revised_document d r);
       revises = rewritten_revises (editor_without_answer e k) a.uri d (whole_text_change text ∷ []) text same.at (whole e.unit d.text text);
-      first = whole_text_change text ∷ [];
-      next = [];
-      cut = refl;
-      first_changes_make_text = whole e.unit d.text text;
       is = refl;
     }
 
@@ -237,7 +235,7 @@ model_editor_keeps_rules unit events end run =
     (led.comes.turns, from_model end led.more, led.comes.lead, as_it_is end led.more)
 
 -- The laws of the model's editor follow from the laws of every editor.
-pub guarantees_hold_in_every_interleaving : GuaranteesHoldInEveryInterleaving
+pub guarantees_hold_in_every_interleaving : (unit : Unit) (events : List Event) (w : ClientAndServer) → IsCourse (initial_client_and_server unit) events w → GuaranteesHold w
 guarantees_hold_in_every_interleaving unit events end run =
     let (turns, w, lead, is) = model_editor_keeps_rules unit events end run in
     subst GuaranteesHold is (guarantees_hold_for_every_editor unit turns w lead).holds

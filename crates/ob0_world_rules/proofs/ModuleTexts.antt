@@ -22,7 +22,7 @@ spelled_one l lexeme.WhiteSpace = refl
 spelled_one l lexeme.Comment = refl
 spelled_one l (lexeme.Token kind) = refl
 
-spelled_so : (lexemes : List Lexeme) → map named_lexeme (words_of_lexemes lexemes) ≡ flat_map (λ l. terminals_of_lexeme l.kind l.text) lexemes
+pub spelled_so : (lexemes : List Lexeme) → map named_lexeme (words_of_lexemes lexemes) ≡ flat_map (λ l. terminals_of_lexeme l.kind l.text) lexemes
 spelled_so [] = refl
 spelled_so (l ∷ lexemes) = map-append named_lexeme (words_of_one_lexeme l l.kind) (words_of_lexemes lexemes) ∙ (λ i. spelled_one l l.kind i ++ spelled_so lexemes i)
 

@@ -20,14 +20,14 @@ use Rattle.ob0_tree.specs.Tree.{Tree, identifiers, module_text, occurrences}
 use Rattle.ob0_edits_tokens.specs.Replacements.{replacement_at_token, range_and_text, text_after_replacement}
 use Rattle.ob0_language_names.specs.Names.{Name, same_name}
 use Rattle.ob0_language_names.specs.Occurrences.{NameConflict, IsFreeName, at_declaration, at_occurrence, first_name_conflict}
-use Rattle.ob0_language_names.specs.BlockParts.{module_block}
 use Rattle.ob0_scope_table.specs.Resolution.{Resolution, declaring_names, token_span, declaration_token}
 use Rattle.ob0_scope.proofs.FirstCaptures.{name_is_free_iff_no_conflict-holds}
 use Rattle.ob0_scope.specs.Renames.{namesake_ordinal}
 use Rattle.ob0_scope.specs.NamesAtPlaces.{identifier_is_bound_to_declaration}
 use Rattle.ob0_edits_tokens.specs.Ranges.{range_of}
 use Rattle.ob0_language_fields.specs.SingleFieldRenaming.{is_duplicate_field_name}
-use Rattle.ob0_types_fields.specs.FieldIdentifiers.{fields_declared_in_block, field_identifiers, field_at_offset, first_token, tokens_of_field}
+use Rattle.ob0_types_fields.specs.IdentifierOwners.{fields_with_owners}
+use Rattle.ob0_types_fields.specs.FieldIdentifiers.{identifiers_declared_in_module, field_identifiers, field_at_offset, first_token, tokens_of_field}
 use Rattle.ob0_edits.specs.AnalysisAnswers.{IsResolvedWellTypedModule}
 use Rattle.ob0_edits.specs.TextBytes.{utf8}
 use Rattle.ob0_rename.specs.Renaming.{Renaming, RenameTarget, declaration, record_field, field_tokens_to_rename, renaming_target, target_of_name_or_field, nothing, occurrence_range, conflicting_field_range, conflicting_declaration_range, predeclared, renaming_at_place, text_after_renaming, tokens_to_rename}
@@ -238,7 +238,7 @@ module _ (unit : Unit) (text : List ℕ) (place : Position) (new : Name) (names 
 
   same_other_field : (k : ℕ) → conflicting_field_range r k ≡ conflicting_field_range q k
   same_other_field k = λ i.
-      option_map (λ token. range_of (width_of unit) text (token_span (e.source i) token)) (first_token (tokens_of_field (e.source i) k new (fields_declared_in_block 0 (module_block (e.tree i)))))
+      option_map (λ token. range_of (width_of unit) text (token_span (e.source i) token)) (first_token (tokens_of_field (e.source i) k new (fields_with_owners (identifiers_declared_in_module (e.tree i)))))
 
   same_captured : (d : ℕ) → first_name_conflict (named_tree_of names.module_read) d new ≡ first_name_conflict (named_tree_of others.module_read) d new
   same_captured d = ap (λ t. first_name_conflict t d new) tree_is_unique

@@ -1,9 +1,10 @@
 -- Defines the rules for an editor: which moves it may make, and which messages it then sends. The
 -- model's editor (`act_result`) also keeps these rules, but each of its acts has only one result.
-use Rattle.std.specs.Prelude.{◌≡◌, ◌+◌, ℕ, ℤ, List, [], ◌∷◌, ◌++◌, map, Some}
+use Rattle.std.specs.Prelude.{◌≡◌, ◌⊎◌, ◌+◌, ℕ, ℤ, List, [], ◌∷◌, ◌++◌, map, Some}
 use Rattle.std.specs.FinMap as map_of
 use Rattle.ob0_text.specs.OpenDocuments.{TextChange, Opened, Changed}
 use Rattle.ob0_world_rules.specs.TextEdits.{Replacement, text_after_edits, text_after_changes}
+use Rattle.ob0_world_rules.specs.OtherWhiteSpace.{HaveSameTokens}
 use Rattle.ob0_world_rules.specs.Asks.{Ask}
 use Rattle.ob0_world_rules.specs.ClientAndServer.{OpenDocument, SentAsk, Editor, sent_ask_with_number, editor_document_with_uri, MessageToServer, notifies}
 use Rattle.ob0_world_rules.specs.EditorActs.{ActResult, result_without_messages, result_with_message, result_of_closing_document, result_of_sending_ask, edits_of_answer_to_request, editor_without_answer}
@@ -58,17 +59,13 @@ RevisesDocument e uri (r ∷ more) new announced =
 abbrev pub notifications_of_revisions : List ℕ → List Revision → List MessageToServer
 notifications_of_revisions uri revisions = map (λ r. notifies (Changed uri r.version r.sent_changes)) revisions
 
--- returns the changes of all revisions, in order
-abbrev pub changes_of_revisions : List Revision → List TextChange
-changes_of_revisions [] = []
-changes_of_revisions (r ∷ more) = r.sent_changes ++ changes_of_revisions more
-
 -- ---- answers
 
 -- States that the editor makes all edits of the answer to request `k`, in the document that was
 -- asked about. The document must be open, with the same text as when the request was sent. The
--- revisions begin with the changes `first`, which make the edited text. Changes by the user
--- (`next`) may follow.
+-- edits make the text `edited`. The text that the editor makes, `text`, is the same, or has the
+-- same tokens: line ends and other white space may differ. The revisions tell the server the
+-- document's next texts, which may include what the user types after the edit.
 pub record AppliesAnswer (e : Editor) (k : ℕ) (revisions : List Revision) (done : ActResult)
     (announced : List AnnouncedDocument) : Type 0 where
   pub edits : List Replacement
@@ -78,14 +75,12 @@ pub record AppliesAnswer (e : Editor) (k : ℕ) (revisions : List Revision) (don
   pub document : OpenDocument
   pub is_open : editor_document_with_uri e requested.uri ≡ Some document
   pub same_text : document.text ≡ requested.text
+  pub edited : List ℕ
+  pub makes : text_after_edits e.unit document.text edits ≡ Some edited
   pub text : List ℕ
-  pub makes : text_after_edits e.unit document.text edits ≡ Some text
+  pub same_tokens : (text ≡ edited) ⊎ HaveSameTokens edited text
   pub new : Editor
   pub revises : RevisesDocument (editor_without_answer e k) requested.uri revisions new announced
-  pub first : List TextChange
-  pub next : List TextChange
-  pub cut : changes_of_revisions revisions ≡ first ++ next
-  pub first_changes_make_text : text_after_changes e.unit (Some document.text) first ≡ Some text
   pub is : done
       ≡ record {
         editor = new;
@@ -112,9 +107,16 @@ IsAllowedMove e (editor_opens uri version text) done announced =
 IsAllowedMove e (editor_revises uri revisions) done announced =
     (new : Editor)
     × RevisesDocument e uri revisions new announced
-    × (done ≡ record { editor = new; sent = notifications_of_revisions uri revisions; applied = [] })
-IsAllowedMove e (editor_closes uri) done announced = (done ≡ result_of_closing_document e uri) × (announced ≡ [])
+    × (done
+    ≡ record { editor = new; sent = notifications_of_revisions uri revisions; applied = [] })
+IsAllowedMove e (editor_closes uri) done announced =
+    (done ≡ result_of_closing_document e uri) × (announced ≡ [])
 IsAllowedMove e (editor_asks uri ask) done announced =
-    (d : OpenDocument) × (editor_document_with_uri e uri ≡ Some d) × (done ≡ result_of_sending_ask e uri ask d) × (announced ≡ [])
-IsAllowedMove e (editor_applies k revisions) done announced = AppliesAnswer e k revisions done announced
-IsAllowedMove e (editor_discards k) done announced = (done ≡ result_without_messages (editor_without_answer e k)) × (announced ≡ [])
+    (d : OpenDocument)
+    × (editor_document_with_uri e uri ≡ Some d)
+    × (done ≡ result_of_sending_ask e uri ask d)
+    × (announced ≡ [])
+IsAllowedMove e (editor_applies k revisions) done announced =
+    AppliesAnswer e k revisions done announced
+IsAllowedMove e (editor_discards k) done announced =
+    (done ≡ result_without_messages (editor_without_answer e k)) × (announced ≡ [])

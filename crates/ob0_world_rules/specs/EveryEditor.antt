@@ -140,8 +140,8 @@ IsCourseOfTurns w (turn ∷ turns) new =
 
 -- ---- the laws
 
--- states the guarantees for the state `w`; according to the law `GuaranteesHoldForEveryEditor`,
--- they hold for each state to which turns lead from the initial state
+-- States the guarantees for the state `w`. They hold for each state to which turns lead from the
+-- initial state: the law `guarantees_hold_for_every_editor`.
 pub record GuaranteesHoldForEditorAndServer (w : EditorAndServer) : Type 0 where
   -- Each applied edit keeps the module's run. Each list of diagnostics is empty exactly if its text
   -- is a well-typed module. If no message of the model waits for the server, the latest diagnostics
@@ -160,14 +160,6 @@ pub record GuaranteesHoldForEditorAndServer (w : EditorAndServer) : Type 0 where
   pub all : w.announced ≡ published ++ waiting
   pub are_made_for_documents : AreMadeForDocumentsInOrder w.made published
   pub unpublished_are_queued : map uri_and_version_of waiting ≡ uris_and_versions_announced_in_queue (modeled_messages w.to_server)
-
--- states that the guarantees hold for every editor that keeps ob0's rules, in every interleaving of
--- the turns
-abbrev pub GuaranteesHoldForEveryEditor : Type 0
-GuaranteesHoldForEveryEditor =
-    (unit : Unit) (turns : List ExchangeTurn) (w : EditorAndServer)
-    → IsCourseOfTurns (initial_editor_and_server unit) turns w
-    → GuaranteesHoldForEditorAndServer w
 
 -- States that the model's editor keeps ob0's rules. Each state to which its events lead can also be
 -- reached by turns of an editor that keeps the rules.

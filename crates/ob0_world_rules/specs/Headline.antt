@@ -42,8 +42,8 @@ PublicationsAreUpToDate e made =
 
 -- ---- the guarantees for a list of events
 
--- states the guarantees for the state `w`; according to the law
--- `GuaranteesHoldInEveryInterleaving`, they hold for each state to which events lead
+-- States the guarantees for the state `w`. They hold for each state to which events lead: the law
+-- `guarantees_hold_in_every_interleaving`.
 pub record GuaranteesHold (w : ClientAndServer) : Type 0 where
   -- each applied edit keeps the module's run
   pub applied : All PreservesRun w.applied

@@ -1,19 +1,22 @@
 -- States laws about the model of client and server.
 -- Rule: none; laws of the model of client and server.
-use Rattle.std.specs.Prelude.{◌≡◌, ◌↔◌, ⊤, ℕ, List, All, Some}
+use Rattle.std.specs.Prelude.{◌≡◌, ◌≤◌, ◌↔◌, ⊤, ℕ, List, All, Some, length}
+use Rattle.ob0_scan.specs.TextWithTokens.{max_text_length}
 use Rattle.ob0_text.specs.declared.edits.Edit.{Edit}
 use Rattle.ob0_text.specs.declared.position_types.Unit.{Unit}
 use Rattle.ob0_tree.specs.Tree.{Tree, module_text}
 use Rattle.ob0_language_names.specs.Names.{Name}
 use Rattle.ob0_edits.specs.ReportedErrors.{IsTextOfTree}
+use Rattle.ob0_edits.specs.TextBytes.{utf8}
 use Rattle.ob0_world_rules.specs.WellTypedTexts.{IsModuleText, WellTypedText, SameRun}
 use Rattle.ob0_world_rules.specs.TextEdits.{Replacement, replacements_of_edits, text_after_edits}
+use Rattle.ob0_world_rules.specs.OtherWhiteSpace.{FileLineEnd, edits_with_line_ends, HaveSameTokens}
 use Rattle.ob0_world_rules.specs.Asks.{Ask}
 use Rattle.ob0_world_rules.specs.Answers.{AreRequestedEdits, IsAnswerForText}
 use Rattle.ob0_world_rules.specs.ClientAndServer.{ClientAndServer, initial_client_and_server}
 use Rattle.ob0_world_rules.specs.EditorActs.{open_document, change_document, close_document, request_edits, apply, discard}
 use Rattle.ob0_world_rules.specs.Events.{Event, editor_acts, serve, take_message, IsCourse, EventLeadsTo}
-use Rattle.ob0_world_rules.specs.Headline.{GuaranteesHold}
+use Rattle.ob0_world_rules.specs.Headline.{PreservesRun}
 use Rattle.ob0_world_rules.specs.MirroredDocuments.{ServerWillMirrorEditor}
 
 -- ---- texts
@@ -43,6 +46,28 @@ AnswerEditsPreserveRun =
     (unit : Unit) (text : List ℕ) (ask : Ask) (edits : List Edit)
     → AreRequestedEdits unit text ask edits
     → EditsPreserveRun unit text (replacements_of_edits edits)
+
+-- States that an edit of an answer keeps the module's run also if the editor makes it with other
+-- white space or other comments, so that only the tokens are the same (`HaveSameTokens`).
+abbrev pub OtherWhiteSpacePreservesRun : Type 0
+OtherWhiteSpacePreservesRun =
+    (unit : Unit) (uri text edited made : List ℕ) (ask : Ask) (edits : List Edit)
+    → AreRequestedEdits unit text ask edits
+    → text_after_edits unit text (replacements_of_edits edits) ≡ Some edited
+    → HaveSameTokens edited made
+    → PreservesRun (record { uri = uri; before = text; after = made })
+
+-- States that edits make a text with the same tokens (`HaveSameTokens`) if the editor puts the
+-- file's own line end in place of each LF of their new texts. The text without that must be a
+-- well-typed module, and the text with it may not be longer than the text of a module may be.
+abbrev pub LineEndsKeepTokens : Type 0
+LineEndsKeepTokens =
+    (unit : Unit) (ends : FileLineEnd) (text edited : List ℕ) (edits : List Replacement)
+    → text_after_edits unit text edits ≡ Some edited
+    → WellTypedText edited
+    → (made : List ℕ)
+    × (text_after_edits unit text (edits_with_line_ends ends edits) ≡ Some made)
+    × (length (utf8 made) ≤ max_text_length → HaveSameTokens edited made)
 
 -- states that two answers to the same request for edits of the same text are equal
 abbrev pub AnswersAreUnique : Type 0
@@ -98,12 +123,6 @@ CourseExistsIfAsksHaveAnswers =
     (unit : Unit) (events : List Event)
     → All AlwaysHasAnswerIfAsk events
     → ¬ ((end : ClientAndServer) → ¬ IsCourse (initial_client_and_server unit) events end)
-
--- states that the guarantees (`GuaranteesHold`) hold in each state to which events lead from the
--- initial state
-abbrev pub GuaranteesHoldInEveryInterleaving : Type 0
-GuaranteesHoldInEveryInterleaving =
-    (u : Unit) (events : List Event) (w : ClientAndServer) → IsCourse (initial_client_and_server u) events w → GuaranteesHold w
 
 -- States that the server and the editor have the same documents once the server has taken all
 -- waiting messages. This holds in each state to which a list of events leads from the initial

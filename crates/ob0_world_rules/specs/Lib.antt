@@ -6,6 +6,7 @@ pub mod Headline
 pub mod Laws
 pub mod PublicationsAreInOrder
 pub mod TextEdits
+pub mod OtherWhiteSpace
 pub mod Asks
 pub mod ClientAndServer
 pub mod EditorActs

@@ -1,18 +1,38 @@
 //! Proves laws about the model of client and server.
-ghost use Rattle.ob0_world_rules.specs.Laws.{CourseExistsIfAsksHaveAnswers, AnswersAreUnique, AnswerEditsPreserveRun, GuaranteesHoldInEveryInterleaving, CourseIsDetermined, ModuleTextDefinitionsAgree, StateAfterEventIsDetermined, ServerMirrorsEditor};
+ghost use Rattle.ob0_world_rules.specs.Laws.{CourseExistsIfAsksHaveAnswers, AnswersAreUnique, AnswerEditsPreserveRun, OtherWhiteSpacePreservesRun, LineEndsKeepTokens, CourseIsDetermined, ModuleTextDefinitionsAgree, StateAfterEventIsDetermined, ServerMirrorsEditor};
 ghost use Rattle.ob0_world_rules.specs.PublicationsAreInOrder.{PublicationsAreInOrder};
-ghost use Rattle.ob0_world_rules.specs.EveryEditor.{ModelEditorKeepsRules, GuaranteesHoldForEveryEditor};
+ghost use Rattle.std.specs.Prelude.{List};
+ghost use Rattle.ob0_text.specs.declared.position_types.Unit.{Unit};
+ghost use Rattle.ob0_world_rules.specs.ClientAndServer.{ClientAndServer, initial_client_and_server};
+ghost use Rattle.ob0_world_rules.specs.Events.{Event, IsCourse};
+ghost use Rattle.ob0_world_rules.specs.Headline.{GuaranteesHold};
+ghost use Rattle.ob0_world_rules.specs.EveryEditor.{EditorAndServer, ExchangeTurn, initial_editor_and_server, IsCourseOfTurns, GuaranteesHoldForEditorAndServer, ModelEditorKeepsRules};
 
 /// Proves the guarantees (`GuaranteesHold`) for every order of events. Every applied edit keeps the
 /// module's run, and all diagnostics are correct.
 pub fn guarantees_hold_in_every_interleaving()
-    ensures { GuaranteesHoldInEveryInterleaving }
+    ensures { (unit : Unit) (events : List Event) (w : ClientAndServer)
+        → IsCourse (initial_client_and_server unit) events w
+        → GuaranteesHold w }
 {}
 
 /// Proves that the edits with which the server answers a request keep the module's run. They turn a
 /// well-typed module into a well-typed module with the same output and the same end.
 pub fn answer_edits_preserve_run()
     ensures { AnswerEditsPreserveRun }
+{}
+
+/// Proves that an edit of an answer keeps the module's run also if the editor makes it with other
+/// white space or other comments, so that only the tokens are the same.
+pub fn other_white_space_preserves_run()
+    ensures { OtherWhiteSpacePreservesRun }
+{}
+
+/// Proves that edits make a text with the same tokens if the editor puts the file's own line end,
+/// CR LF or CR, in place of each LF of their new texts. So it makes no difference to the module's
+/// run, unless the text becomes longer than 1,048,576 bytes.
+pub fn line_ends_keep_tokens()
+    ensures { LineEndsKeepTokens }
 {}
 
 /// Proves that two definitions of the text of a module with a given tree agree. `IsModuleText` uses
@@ -61,7 +81,9 @@ pub fn publications_are_in_order()
 /// server has taken all notifications, the latest diagnostics of each open document are for its
 /// present text.
 pub fn guarantees_hold_for_every_editor()
-    ensures { GuaranteesHoldForEveryEditor }
+    ensures { (unit : Unit) (turns : List ExchangeTurn) (w : EditorAndServer)
+        → IsCourseOfTurns (initial_editor_and_server unit) turns w
+        → GuaranteesHoldForEditorAndServer w }
 {}
 
 /// Proves that the model's editor keeps ob0's rules. Each state to which its events lead can also
