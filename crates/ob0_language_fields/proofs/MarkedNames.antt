@@ -252,13 +252,13 @@ module _ {N : Type 0} where
   plain-declares : {s : Sort} (u : NameUse) → ((x : N) → IsDeclaration (x, u)) → (r : Role) (t : Tree N s) → EachName IsDeclaration (identifiers r (mark_all_names u t))
   plain-declares u h r t = subst (EachName IsDeclaration) (sym (identifiers-mapped_tree (λ x. (x, u)) (λ n. n) r t)) (listed-declares u h (identifiers r t))
 
-  none-declares : {s : Sort} (r : Role) (t : Tree N s) → EachName IsDeclaration (identifiers r (mark_all_names no_field t))
+  pub none-declares : {s : Sort} (r : Role) (t : Tree N s) → EachName IsDeclaration (identifiers r (mark_all_names no_field t))
   none-declares r t = plain-declares no_field (λ x. tt) r t
 
   join : (xs ys : List (Role × UsedName N)) → EachName IsDeclaration xs → EachName IsDeclaration ys → EachName IsDeclaration (xs ++ ys)
   join xs ys h k = each_join IsDeclaration xs ys h k
 
-  declared-declares : {s : Sort} (u : NameUse) → ((x : N) → IsDeclaration (x, u)) → (k : ℕ) (t : Tree N s) → EachName IsDeclaration (used_names (mark_declared_fields u k t))
+  pub declared-declares : {s : Sort} (u : NameUse) → ((x : N) → IsDeclaration (x, u)) → (k : ℕ) (t : Tree N s) → EachName IsDeclaration (used_names (mark_declared_fields u k t))
   declared-declares u h k (array_type e t) = join _ _ (none-declares role.DeclaringName e) (declared-declares u h (suc k) t)
   declared-declares u h k (record_type g rest) = join _ _ (declared-declares (declares_field k) (λ x. tt) (suc k) g) (declared-declares (declares_field k) (λ x. tt) (suc k + group_constructor_count g) rest)
   declared-declares u h k (some_fields ns t) = join _ _ (plain-declares u h role.FieldName ns) (declared-declares no_field (λ x. tt) k t)

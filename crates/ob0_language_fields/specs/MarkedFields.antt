@@ -126,10 +126,10 @@ mark_declared_fields u k (some_formals f fs) =
     (mark_declared_fields u (k + constructor_count (parameter_section_type f)) fs)
 mark_declared_fields u k t = mark_all_names no_field t
 
--- How the statements of a module are marked. `E` is what is known at a place: for example, the
--- environment there. `mark_body` marks a block's statements. The others return what is known after
--- a block's constants, types and variables, after a procedure's heading, after procedures, and
--- within a procedure. Their numbers count the words ARRAY and RECORD before the part.
+-- The functions that mark a module's statements. They pass a state of type `E` from place to place:
+-- for example, the environment there. `mark_body` marks a block's statements. The others return the
+-- state after a block's constants, types and variables, after a procedure's heading, after
+-- procedures, and within a procedure. Their numbers count the words ARRAY and RECORD before the part.
 pub record BodyMarking (N E : Type 0) : Type 0 where
   pub mark_body : E → Tree N (maybe body) → Tree (UsedName N) (maybe body)
   pub after_variables : E → ℕ → Tree N block → E
@@ -140,7 +140,7 @@ pub record BodyMarking (N E : Type 0) : Type 0 where
 -- Marks the names of a block, of procedures or of a procedure. Constants have no fields. `k` is the
 -- count of words ARRAY and RECORD before this part of the text.
 abbrev mutual
-  -- marks the names of a block; `e` is what is known before it
+  -- marks the names of a block; `e` is the state before it
   pub mark_block : {N E : Type 0} → BodyMarking N E → E → ℕ → Tree N block → Tree (UsedName N) block
   mark_block marking e k (forms_block (declares cs ts vs ps) statements) =
       forms_block
@@ -153,7 +153,7 @@ abbrev mutual
       (marking.after_variables e k (forms_block (declares cs ts vs ps) statements))
       (constructor_count_before_procedures k (forms_block (declares cs ts vs ps) statements)) ps) statements)
 
-  -- marks the names of procedures; `e` is what is known before the first one
+  -- marks the names of procedures; `e` is the state before the first one
   pub mark_procedures : {N E : Type 0}
       → BodyMarking N E
       → E
@@ -165,7 +165,7 @@ abbrev mutual
       more (mark_procedure marking (marking.inside_procedure e k p) k p)
       (mark_procedures marking (marking.after_heading e k p) (k + procedure_constructor_count p) rest)
 
-  -- marks the names of a procedure; `e` is what is known within it
+  -- marks the names of a procedure; `e` is the state within it
   pub mark_procedure : {N E : Type 0}
       → BodyMarking N E
       → E
@@ -177,7 +177,7 @@ abbrev mutual
       (mark_block marking e (constructor_count_before_procedure_block k (declares_procedure x fs b closing)) b)
       (closing, no_field)
 
--- marks the names of a module; `e` is what is known before its block
+-- marks the names of a module; `e` is the state before its block
 abbrev pub mark_module : {N E : Type 0} → BodyMarking N E → E → Tree N module_text → Tree (UsedName N) module_text
 mark_module marking e (forms_module x b closing) =
     forms_module (x, no_field) (mark_block marking e 0 b) (closing, no_field)
@@ -186,7 +186,7 @@ mark_module marking e (forms_module x b closing) =
 abbrev pub used_names : {N : Type 0} {s : Sort} → Tree (UsedName N) s → List (Role × UsedName N)
 used_names t = identifiers role.DeclaringName t
 
--- ---- what is known at a place: an environment, the same meanings everywhere, or nothing
+-- ---- three states: an environment, the same meanings everywhere, or nothing
 
 -- Returns the environment `env` with a block's constants, types and variables added, or `env`
 -- unchanged if one of these declarations has an error. Array and record types are numbered from

@@ -9,7 +9,7 @@ use Rattle.ob0_session.specs.Devices.{ReadStatistics}
 
 -- One thing that a call of a stream did.
 pub data StreamStep : Type 0 where
-  -- A read begins. From here on it may wait for input.
+  -- A read begins. It may wait for input until it ends.
   read_begins : StreamStep
   -- The read gives these bytes. It gives none only at the end of the input or if the buffer is
   -- empty.
@@ -83,7 +83,7 @@ unrecorded_state input output references =
     record { input = input; output = output; steps = None; references = references }
 
 -- States that the record `old` grows by these steps to the record `new`. A stream may lose its record,
--- as when it has no more memory for it: then the record isn't known (None), and stays so.
+-- as when it has no more memory for it: then the record isn't known (None), now and after later calls.
 abbrev pub Records : Option (List StreamStep) → Option (List StreamStep) → List StreamStep → Type 0
 Records None new steps = new ≡ None
 Records (Some before) None steps = ⊤

@@ -6,7 +6,7 @@
 //! each reader or writer of std into such a device.
 //!
 //! A `Stream` has both directions. It may also record what its calls did, in order, so that a
-//! contract can state what was written before a read. A `DevicePair` makes a stream of an
+//! contract can say which bytes were written before a read. A `DevicePair` makes a stream of an
 //! `InputDevice` and an `OutputDevice`, and records no such order.
 ghost use Rattle.std.specs.Prelude.{◌≡◌, ◌≢◌, ◌||◌, ◌<◌, ℕ, List, [], Option, Bool, true, false, length, is_err, IfOk, OnOk, OnErr};
 ghost use Rattle.std.specs.Io.{ReadsAtMost, WritesAtMost};

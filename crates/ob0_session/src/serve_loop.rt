@@ -98,7 +98,7 @@ pub fn serve<R: InputDevice, W: OutputDevice>(
 }
 
 /// Serves one conversation over a device with both directions, and returns the exit status with
-/// which the conversation ends. The result and the bytes are those of `serve`. Whenever a read
+/// which the conversation ends. The result and the bytes are the same as for `serve`. Whenever a read
 /// begins, no answer is owed (`prompt`): each message that was read is answered, and all answers are
 /// written and flushed.
 pub fn serve_stream<S: Stream>(alloc: Global, stream: &mut S) -> Result<u8, ServeFault>

@@ -157,8 +157,8 @@ fn output_length(alloc: Global, bytes: &[u8]) -> usize {
 }
 
 /// Returns the index, from 0, of the first step at which a read begins although an answer is owed:
-/// what is written isn't all flushed, or isn't what `serve` writes for the bytes given so far.
-/// Returns None if no answer is owed at any read.
+/// a byte that was written isn't flushed yet, or the bytes written aren't the ones that `serve`
+/// writes for the bytes given so far. Returns None if no answer is owed at any read.
 fn first_owing_read(alloc: Global, input: &[u8], steps: &[RecordedStep]) -> Option<usize> {
     let mut given = 0usize;
     let mut written = 0usize;

@@ -127,7 +127,7 @@ fn parses_with(alloc: Global, tokens: &Tokens, expected: (u32, usize)) -> bool {
     }
 }
 
-/// Returns where the parser refuses tokens. Returns None if it doesn't, or if an allocation fails.
+/// Returns the place at which the parser refuses tokens. Returns None if it accepts them, or if an allocation fails.
 fn refusal_of(alloc: Global, tokens: &Tokens) -> Option<(usize, Option<ExpectedSyntax>)> {
     let parsed: Result<Module<'_>, ParseRefusal> = parse(alloc, tokens);
     match parsed {
@@ -147,7 +147,7 @@ fn is_module_with(alloc: Global, text: &str, second: (u32, u32), expected: (u32,
     }
 }
 
-/// Returns where the parser refuses a text. Returns None if it doesn't.
+/// Returns the place at which the parser refuses a text. Returns None if it accepts it.
 fn refusal_of_text(alloc: Global, text: &str) -> Option<(usize, Option<ExpectedSyntax>)> {
     match scan(alloc, text) {
         Ok(tokens) => refusal_of(alloc, &tokens),

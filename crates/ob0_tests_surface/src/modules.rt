@@ -27,7 +27,7 @@ const MODULE_TEXT: &str = "MODULE M; CONST c = 3; TYPE R = RECORD a: INTEGER END
 /// INTEGER, R, r, c, Write and r.
 static BOUND_ORDINALS: &[usize] = &[0, 8, 9, 7, 5, 9];
 
-/// What is tested about a module.
+/// The answers about a module that the tests compare.
 #[derive(Clone, Copy)]
 pub enum TestedPart {
     Types,

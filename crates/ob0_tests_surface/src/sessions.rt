@@ -17,7 +17,7 @@ const EXIT: &[u8] = b"{\"jsonrpc\":\"2.0\",\"method\":\"exit\"}";
 /// A stream with the frame of `EXIT`.
 const EXIT_STREAM: &[u8] = b"Content-Length: 33\r\n\r\n{\"jsonrpc\":\"2.0\",\"method\":\"exit\"}";
 
-/// Returns the status with which a session has ended. Returns None if it goes on.
+/// Returns the status with which a session has ended. Returns None if it hasn't ended.
 fn status_of_next(next: Next) -> Option<u8> {
     match next {
         Next::Continue => None,

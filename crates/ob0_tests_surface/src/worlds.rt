@@ -67,7 +67,7 @@ fn reported<T: TextStore>(
     }
 }
 
-/// Returns whether nothing is taken in a new world.
+/// Returns whether a new world has taken nothing.
 fn takes_nothing_at_first<T: TextStore>(alloc: Global) -> bool {
     let made: Result<World<T>, WorldFault> = World::new(alloc);
     match made {

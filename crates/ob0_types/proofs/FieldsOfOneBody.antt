@@ -18,10 +18,10 @@ use Rattle.ob0_scope_table.specs.Resolution.{Resolution}
 use Rattle.ob0_scope_table.specs.SpellingChangesInOneBody.{closing_name}
 use Rattle.ob0_types_fields.specs.declared.field_identifier.FieldIdentifier.{FieldIdentifier}
 use Rattle.ob0_types.specs.OneBody.{body_with_token_in_block, body_with_token_in_procedure, body_with_token_in_procedures}
-use Rattle.ob0_types_fields.specs.IdentifierOwners.{fields_in_parameter_sections, fields_in_tree, fields_in_types, fields_in_variables, fields_with_owners, meanings_by_token}
-use Rattle.ob0_types_fields.specs.FieldIdentifiers.{declared_fields, field_at_token, field_identifiers, fields_declared_in_block, fields_declared_in_procedure, fields_declared_in_procedures}
+use Rattle.ob0_types_fields.specs.IdentifierOwners.{block_identifiers, fields_with_owners, meanings_by_token, module_identifiers, owner, procedure_identifiers, procedures_identifiers, section_identifiers, selected_identifiers}
+use Rattle.ob0_types_fields.specs.FieldIdentifiers.{declared_fields, field_at_token, field_identifiers, identifiers_declared_in_block, identifiers_declared_in_module, identifiers_declared_in_procedure, identifiers_declared_in_procedures}
 use Rattle.ob0_types_fields.proofs.OwnersByToken.{module-tokens, tokens}
-use Rattle.ob0_types_fields.proofs.WalkedFields.{among-append, declared_in, fields_in_tree-fields, formals-fields, owned_block, owned_module, owned_procedure, owned_procedures, plain, plain-fields, type_section-fields, used_in, variable_section-fields}
+use Rattle.ob0_types_fields.proofs.FieldVisits.{among-append, declared_plain, owned_plain, owned_section, plain-fields, plain_alike, section_alike}
 
 abbrev Owned : Type 0
 Owned = List (Role × (ℕ × Option ℕ))
@@ -114,124 +114,136 @@ module _ (t : ℕ) (m : Meanings ℕ Shape Signature) where
   ends_with low closing high (x ∷ xs) ys h = (h.0, ends_with (x.1.0 + 1) closing high xs ys h.1)
 
   -- The closing name is the last identifier of a procedure.
-  procedure_ends : (k low high : ℕ) (p : Tree ℕ (item procedure)) → AreAscendingWithin low (tokens (owned_procedure m k p)) high → AreAscendingWithin low (tokens (owned_procedure m k p)) (closing_name p + 1)
+  procedure_ends : (k low high : ℕ) (p : Tree ℕ (item procedure)) → AreAscendingWithin low (tokens (procedure_identifiers m k p)) high → AreAscendingWithin low (tokens (procedure_identifiers m k p)) (closing_name p + 1)
   procedure_ends k low high (declares_procedure x fs b closing) h =
-      (h.0, ends_with (x + 1) closing high (declared_in m.written k fs) (owned_block m (constructor_count_before_procedure_block k (declares_procedure x fs b closing)) b) h.1)
+      (h.0, ends_with (x + 1) closing high (owned_section m.written k fs) (block_identifiers m (constructor_count_before_procedure_block k (declares_procedure x fs b closing)) b) h.1)
 
-  procedure_closes : (k low high : ℕ) (p : Tree ℕ (item procedure)) → AreAscendingWithin low (tokens (owned_procedure m k p)) high → closing_name p < high
+  procedure_closes : (k low high : ℕ) (p : Tree ℕ (item procedure)) → AreAscendingWithin low (tokens (procedure_identifiers m k p)) high → closing_name p < high
   procedure_closes k low high (declares_procedure x fs b closing) h =
-      let c = cut (x + 1) (declared_in m.written k fs) (owned_block m (constructor_count_before_procedure_block k (declares_procedure x fs b closing)) b ++ ((role.ClosingName, (closing, None)) ∷ [])) high h.1 in
-      let d = cut c.middle (owned_block m (constructor_count_before_procedure_block k (declares_procedure x fs b closing)) b) ((role.ClosingName, (closing, None)) ∷ []) high c.last in
+      let c = cut (x + 1) (owned_section m.written k fs) (block_identifiers m (constructor_count_before_procedure_block k (declares_procedure x fs b closing)) b ++ ((role.ClosingName, (closing, None)) ∷ [])) high h.1 in
+      let d = cut c.middle (block_identifiers m (constructor_count_before_procedure_block k (declares_procedure x fs b closing)) b) ((role.ClosingName, (closing, None)) ∷ []) high c.last in
       omega (arith, d.last.1)
 
   -- A procedure that closes before the token is passed over, and any other one contains the token or follows it.
   chosen : (p : Tree ℕ (item procedure)) (k j : ℕ) (rest : Tree ℕ (items procedure)) (statements : Tree ℕ (maybe body))
-      → at_owned t (owned_procedure m k p) ≡ or_else (at t (fields_in_tree m (body_with_token_in_procedure t p))) (at t (fields_declared_in_procedure k p))
-      → at_owned t (owned_procedures m j rest ++ used_in m None statements) ≡ or_else (at t (fields_in_tree m (body_with_token_in_procedures t rest statements))) (at t (fields_declared_in_procedures j rest))
+      → at_owned t (procedure_identifiers m k p) ≡ or_else (at_owned t (selected_identifiers m None (body_with_token_in_procedure t p))) (at_owned t (identifiers_declared_in_procedure k p))
+      → at_owned t (procedures_identifiers m j rest ++ selected_identifiers m None statements) ≡ or_else (at_owned t (selected_identifiers m None (body_with_token_in_procedures t rest statements))) (at_owned t (identifiers_declared_in_procedures j rest))
       → {middle : ℕ} → closing_name p < middle
-      → (closing_name p + 1 ≤ t → at_owned t (owned_procedure m k p) ≡ None)
-      → (t < middle → at_owned t (owned_procedures m j rest ++ used_in m None statements) ≡ None)
-      → or_else (at_owned t (owned_procedure m k p)) (at_owned t (owned_procedures m j rest ++ used_in m None statements))
-      ≡ or_else (at t (fields_in_tree m (body_with_token_in_procedures t (more p rest) statements))) (or_else (at t (fields_declared_in_procedure k p)) (at t (fields_declared_in_procedures j rest)))
+      → (closing_name p + 1 ≤ t → at_owned t (procedure_identifiers m k p) ≡ None)
+      → (t < middle → at_owned t (procedures_identifiers m j rest ++ selected_identifiers m None statements) ≡ None)
+      → or_else (at_owned t (procedure_identifiers m k p)) (at_owned t (procedures_identifiers m j rest ++ selected_identifiers m None statements))
+      ≡ or_else (at_owned t (selected_identifiers m None (body_with_token_in_procedures t (more p rest) statements))) (or_else (at_owned t (identifiers_declared_in_procedure k p)) (at_owned t (identifiers_declared_in_procedures j rest)))
   chosen p k j rest statements first later closes passed behind = one (nat_lt (closing_name p) t) refl
     where
       P : Option FieldIdentifier
-      P = at_owned t (owned_procedure m k p)
+      P = at_owned t (procedure_identifiers m k p)
 
       R : Option FieldIdentifier
-      R = at_owned t (owned_procedures m j rest ++ used_in m None statements)
+      R = at_owned t (procedures_identifiers m j rest ++ selected_identifiers m None statements)
 
       one : (b : Bool) → nat_lt (closing_name p) t ≡ b
-          → or_else P R ≡ or_else (at t (fields_in_tree m (if b then body_with_token_in_procedures t rest statements else body_with_token_in_procedure t p))) (or_else (at t (fields_declared_in_procedure k p)) (at t (fields_declared_in_procedures j rest)))
+          → or_else P R ≡ or_else (at_owned t (selected_identifiers m None (if b then body_with_token_in_procedures t rest statements else body_with_token_in_procedure t p))) (or_else (at_owned t (identifiers_declared_in_procedure k p)) (at_owned t (identifiers_declared_in_procedures j rest)))
       one true e =
           let none = passed (let less = ltb-true (closing_name p) t e in omega (arith, less)) in
-          let undeclared : at t (fields_declared_in_procedure k p) ≡ None = second_none _ _ (sym first ∙ none) in
-          ap (λ o. or_else o R) none ∙ (later ∙ ap (or_else _) (ap (λ o. or_else o (at t (fields_declared_in_procedures j rest))) (sym undeclared)))
+          let undeclared : at_owned t (identifiers_declared_in_procedure k p) ≡ None = second_none _ _ (sym first ∙ none) in
+          ap (λ o. or_else o R) none ∙ (later ∙ ap (or_else _) (ap (λ o. or_else o (at_owned t (identifiers_declared_in_procedures j rest))) (sym undeclared)))
       one false e =
           let none = behind (let le = ltb-false (closing_name p) t e in omega (arith, le, closes)) in
-          let undeclared : at t (fields_declared_in_procedures j rest) ≡ None = second_none _ _ (sym later ∙ none) in
-          ap (or_else P) none ∙ (or_none P ∙ (first ∙ ap (or_else _) (sym (ap (or_else (at t (fields_declared_in_procedure k p))) undeclared ∙ or_none (at t (fields_declared_in_procedure k p))))))
+          let undeclared : at_owned t (identifiers_declared_in_procedures j rest) ≡ None = second_none _ _ (sym later ∙ none) in
+          ap (or_else P) none ∙ (or_none P ∙ (first ∙ ap (or_else _) (sym (ap (or_else (at_owned t (identifiers_declared_in_procedure k p))) undeclared ∙ or_none (at_owned t (identifiers_declared_in_procedure k p))))))
 
   mutual
-    block_field : (k low high : ℕ) (b : Tree ℕ block) → AreAscendingWithin low (tokens (owned_block m k b)) high
-        → at_owned t (owned_block m k b) ≡ or_else (at t (fields_in_tree m (body_with_token_in_block t b))) (at t (fields_declared_in_block k b))
+    block_field : (k low high : ℕ) (b : Tree ℕ block) → AreAscendingWithin low (tokens (block_identifiers m k b)) high
+        → at_owned t (block_identifiers m k b) ≡ or_else (at_owned t (selected_identifiers m None (body_with_token_in_block t b))) (at_owned t (identifiers_declared_in_block k b))
     block_field k low high (forms_block (declares cs ts vs ps) statements) h =
         let b : Tree ℕ block = forms_block (declares cs ts vs ps) statements in
-        let C : Owned = plain m.written cs in
-        let T : Owned = declared_in m.written k ts in
-        let V : Owned = declared_in m.written (constructor_count_before_variables k b) vs in
+        let C : Owned = owned_plain m.written cs in
+        let T : Owned = owned_section m.written k ts in
+        let V : Owned = owned_section m.written (constructor_count_before_variables k b) vs in
         let j : ℕ = constructor_count_before_procedures k b in
-        let Q : Owned = owned_procedures m j ps in
-        let S : Owned = used_in m None statements in
+        let Q : Owned = procedures_identifiers m j ps in
+        let S : Owned = selected_identifiers m None statements in
         let front : Owned = C ++ (T ++ V) in
         let parts : (C ++ (T ++ (V ++ Q))) ++ S ≡ front ++ (Q ++ S) =
         ap (λ l. (C ++ l) ++ S) (sym (append_assoc T V Q)) ∙ (ap (λ l. l ++ S) (sym (append_assoc C (T ++ V) Q)) ∙ append_assoc front Q S) in
         let c = cut low front (Q ++ S) high (subst (λ l. AreAscendingWithin low (tokens l) high) parts h) in
-        let types : List FieldIdentifier = fields_in_types k (section_types ts) in
-        let variables : List FieldIdentifier = fields_in_variables (constructor_count_before_variables k b) (section_variables vs) in
-        let declared : fields_with_owners front ≡ types ++ variables =
-        among-append C (T ++ V) ∙ ((λ i. plain-fields m.written role.DeclaringName cs i ++ fields_with_owners (T ++ V)) ∙ (among-append T V ∙ (λ i. type_section-fields m.written k ts i ++ variable_section-fields m.written (constructor_count_before_variables k b) vs i))) in
-        let inner = fields_in_tree m (body_with_token_in_procedures t ps statements) in
+        let D : Owned = identifiers_declared_in_procedures j ps in
+        let C' : Owned = declared_plain cs in
+        let T' : Owned = section_identifiers k ts in
+        let V' : Owned = section_identifiers (constructor_count_before_variables k b) vs in
+        let S' : Owned = declared_plain statements in
+        let same : C' ++ (T' ++ V') ≡ front = λ i. plain_alike m.written cs i ++ (section_alike m.written k ts i ++ section_alike m.written (constructor_count_before_variables k b) vs i) in
+        let declared : at_owned t (identifiers_declared_in_block k b) ≡ or_else (at_owned t front) (at_owned t D) =
+        owned_append t (C' ++ (T' ++ (V' ++ D))) S'
+        ∙ (ap (or_else (at_owned t (C' ++ (T' ++ (V' ++ D))))) (ap (at t) (plain-fields statements))
+        ∙ (or_none (at_owned t (C' ++ (T' ++ (V' ++ D))))
+        ∙ (ap (at_owned t) (ap (λ l. C' ++ l) (sym (append_assoc T' V' D)) ∙ sym (append_assoc C' (T' ++ V') D))
+        ∙ (owned_append t (C' ++ (T' ++ V')) D ∙ ap (λ l. or_else (at_owned t l) (at_owned t D)) same)))) in
+        let inner = selected_identifiers m None (body_with_token_in_procedures t ps statements) in
         let later = among_field j c.middle high ps statements c.last in
-        let found : (x : FieldIdentifier) → at t inner ≡ Some x → at_owned t front ≡ None =
-        λ x e. none_before t low c.middle high front (Q ++ S) c.first c.last x (later ∙ ap (λ o. or_else o (at t (fields_declared_in_procedures j ps))) e) in
+        let found : (x : FieldIdentifier) → at_owned t inner ≡ Some x → at_owned t front ≡ None =
+        λ x e. none_before t low c.middle high front (Q ++ S) c.first c.last x (later ∙ ap (λ o. or_else o (at_owned t (identifiers_declared_in_procedures j ps))) e) in
         ap (at_owned t) parts
         ∙ (owned_append t front (Q ++ S)
         ∙ (ap (or_else (at_owned t front)) later
-        ∙ (swapped (at_owned t front) (at t inner) (at t (fields_declared_in_procedures j ps)) found
-        ∙ ap (or_else (at t inner))
-        (sym (at_append t (types ++ variables) (fields_declared_in_procedures j ps) ∙ ap (λ l. or_else (at t l) (at t (fields_declared_in_procedures j ps))) (sym declared))
-        ∙ ap (at t) (append_assoc types variables (fields_declared_in_procedures j ps))))))
+        ∙ (swapped (at_owned t front) (at_owned t inner) (at_owned t D) found
+        ∙ ap (or_else (at_owned t inner)) (sym declared))))
 
     among_field : (k low high : ℕ) (ps : Tree ℕ (items procedure)) (statements : Tree ℕ (maybe body))
-        → AreAscendingWithin low (tokens (owned_procedures m k ps ++ used_in m None statements)) high
-        → at_owned t (owned_procedures m k ps ++ used_in m None statements)
-        ≡ or_else (at t (fields_in_tree m (body_with_token_in_procedures t ps statements))) (at t (fields_declared_in_procedures k ps))
-    among_field k low high end statements h = ap (at t) (fields_in_tree-fields m statements) ∙ sym (or_none (at t (fields_in_tree m statements)))
+        → AreAscendingWithin low (tokens (procedures_identifiers m k ps ++ selected_identifiers m None statements)) high
+        → at_owned t (procedures_identifiers m k ps ++ selected_identifiers m None statements)
+        ≡ or_else (at_owned t (selected_identifiers m None (body_with_token_in_procedures t ps statements))) (at_owned t (identifiers_declared_in_procedures k ps))
+    among_field k low high end statements h = sym (or_none (at_owned t (selected_identifiers m None statements)))
     among_field k low high (more p rest) statements h =
         let j : ℕ = k + procedure_constructor_count p in
-        let P : Owned = owned_procedure m k p in
-        let R : Owned = owned_procedures m j rest in
-        let S : Owned = used_in m None statements in
+        let P : Owned = procedure_identifiers m k p in
+        let R : Owned = procedures_identifiers m j rest in
+        let S : Owned = selected_identifiers m None statements in
         let c = cut low P (R ++ S) high (subst (λ l. AreAscendingWithin low (tokens l) high) (append_assoc P R S) h) in
         let first = procedure_field k low c.middle p c.first in
         let later = among_field j c.middle high rest statements c.last in
         let both = ap (at_owned t) (append_assoc P R S) ∙ owned_append t P (R ++ S) in
         both ∙ (chosen p k j rest statements first later (procedure_closes k low c.middle p c.first)
         (λ past. none_below t low (closing_name p + 1) P (procedure_ends k low c.middle p c.first) past) (λ less. none_above t c.middle high (R ++ S) c.last less)
-        ∙ ap (or_else (at t (fields_in_tree m (body_with_token_in_procedures t (more p rest) statements)))) (sym (at_append t (fields_declared_in_procedure k p) (fields_declared_in_procedures j rest))))
+        ∙ ap (or_else (at_owned t (selected_identifiers m None (body_with_token_in_procedures t (more p rest) statements)))) (sym (owned_append t (identifiers_declared_in_procedure k p) (identifiers_declared_in_procedures j rest))))
 
-    procedure_field : (k low high : ℕ) (p : Tree ℕ (item procedure)) → AreAscendingWithin low (tokens (owned_procedure m k p)) high
-        → at_owned t (owned_procedure m k p) ≡ or_else (at t (fields_in_tree m (body_with_token_in_procedure t p))) (at t (fields_declared_in_procedure k p))
+    procedure_field : (k low high : ℕ) (p : Tree ℕ (item procedure)) → AreAscendingWithin low (tokens (procedure_identifiers m k p)) high
+        → at_owned t (procedure_identifiers m k p) ≡ or_else (at_owned t (selected_identifiers m None (body_with_token_in_procedure t p))) (at_owned t (identifiers_declared_in_procedure k p))
     procedure_field k low high (declares_procedure x fs b closing) h =
         let p : Tree ℕ (item procedure) = declares_procedure x fs b closing in
         let j : ℕ = constructor_count_before_procedure_block k p in
-        let A : Owned = declared_in m.written k fs in
-        let B : Owned = owned_block m j b in
+        let A : Owned = owned_section m.written k fs in
+        let B : Owned = block_identifiers m j b in
         let last : Owned = (role.ClosingName, (closing, None)) ∷ [] in
         let c = cut (x + 1) A (B ++ last) high h.1 in
         let d = cut c.middle B last high c.last in
-        let inner = fields_in_tree m (body_with_token_in_block t b) in
+        let inner = selected_identifiers m None (body_with_token_in_block t b) in
         let within = block_field j c.middle d.middle b d.first in
-        let sections : List FieldIdentifier = fields_in_parameter_sections k (formal_parameter_sections fs) in
-        let found : (y : FieldIdentifier) → at t inner ≡ Some y → at_owned t A ≡ None =
-        λ y e. none_before t (x + 1) c.middle d.middle A B c.first d.first y (within ∙ ap (λ o. or_else o (at t (fields_declared_in_block j b))) e) in
+        let B' : Owned = identifiers_declared_in_block j b in
+        let declared : at_owned t (identifiers_declared_in_procedure k p) ≡ or_else (at_owned t A) (at_owned t B') =
+        owned_append t (section_identifiers k fs) (B' ++ last)
+        ∙ (ap (or_else (at_owned t (section_identifiers k fs))) (owned_append t B' last ∙ or_none (at_owned t B')) ∙ ap (λ l. or_else (at_owned t l) (at_owned t B')) (section_alike m.written k fs)) in
+        let found : (y : FieldIdentifier) → at_owned t inner ≡ Some y → at_owned t A ≡ None =
+        λ y e. none_before t (x + 1) c.middle d.middle A B c.first d.first y (within ∙ ap (λ o. or_else o (at_owned t (identifiers_declared_in_block j b))) e) in
         owned_append t A (B ++ last)
         ∙ (ap (or_else (at_owned t A)) (owned_append t B last ∙ (or_none (at_owned t B) ∙ within))
-        ∙ (swapped (at_owned t A) (at t inner) (at t (fields_declared_in_block j b)) found
-        ∙ ap (or_else (at t inner)) (ap (λ l. or_else (at t l) (at t (fields_declared_in_block j b))) (formals-fields m.written k fs) ∙ sym (at_append t sections (fields_declared_in_block j b)))))
+        ∙ (swapped (at_owned t A) (at_owned t inner) (at_owned t (identifiers_declared_in_block j b)) found
+        ∙ ap (or_else (at_owned t inner)) (sym declared)))
 
 pub field_of_one_body : (r : Resolution) (t : ℕ) → TreeMatchesText r.module_read
     → field_at_token t (field_identifiers r)
-    ≡ or_else (field_at_token t (fields_in_tree (meanings_by_token (declared_object (named_tree_of r.module_read)) r) (body_with_token_in_block t (module_block (tree_of r.module_read))))) (field_at_token t (declared_fields r.module_read))
+    ≡ or_else (field_at_token t (fields_with_owners (selected_identifiers (meanings_by_token (declared_object (named_tree_of r.module_read)) r) None (body_with_token_in_block t (module_block (tree_of r.module_read)))))) (field_at_token t (declared_fields r.module_read))
 field_of_one_body r t parsed =
     let m = meanings_by_token (declared_object (named_tree_of r.module_read)) r in
     let ascend = subst (λ ts. AreAscendingWithin 0 ts (length r.module_read.source.tokens)) (sym (module-tokens r)) (leaves_ascend r.module_read parsed) in
     in_module m (tree_of r.module_read) (length r.module_read.source.tokens) ascend
   where
-    in_module : (m : Meanings ℕ Shape Signature) (tree : Tree ℕ module_text) (high : ℕ) → AreAscendingWithin 0 (tokens (owned_module m tree)) high
-        → at_owned t (owned_module m tree) ≡ or_else (at t (fields_in_tree m (body_with_token_in_block t (module_block tree)))) (at t (fields_declared_in_block 0 (module_block tree)))
+    in_module : (m : Meanings ℕ Shape Signature) (tree : Tree ℕ module_text) (high : ℕ) → AreAscendingWithin 0 (tokens (module_identifiers m tree)) high
+        → at_owned t (module_identifiers m tree) ≡ or_else (at_owned t (selected_identifiers m None (body_with_token_in_block t (module_block tree)))) (at_owned t (identifiers_declared_in_module tree))
     in_module m (forms_module x b closing) high h =
-        let B : Owned = owned_block m 0 b in
+        let B : Owned = block_identifiers m 0 b in
         let c = cut (x + 1) B ((role.ModuleName, (closing, None)) ∷ []) high h.1 in
-        owned_append t B ((role.ModuleName, (closing, None)) ∷ []) ∙ (or_none (at_owned t B) ∙ block_field t m 0 (x + 1) c.middle b c.first)
+        let last : Owned = (role.ModuleName, (closing, None)) ∷ [] in
+        let B' : Owned = identifiers_declared_in_block 0 b in
+        let inner = selected_identifiers m None (body_with_token_in_block t b) in
+        owned_append t B last ∙ (or_none (at_owned t B) ∙ (block_field t m 0 (x + 1) c.middle b c.first ∙ ap (or_else (at_owned t inner)) (sym (owned_append t B' last ∙ or_none (at_owned t B')))))

@@ -258,7 +258,6 @@ asks_so = record {
   only = Some (codes "refactor.inline" ∷ []);
   calls = refl;
   from = refl;
-  ordered = inr (refl, omega (arith));
   allowed = refl;
 }
 
@@ -350,14 +349,12 @@ applies_so = record {
   document = document₀;
   is_open = open_is;
   same_text = refl;
-  text = inlined_text;
+  edited = inlined_text;
   makes = edits_make;
+  text = inlined_text;
+  same_tokens = inl refl;
   new = editor₄;
   revises = (document₀, [], open_is, changes_make, (refl, refl), refl);
-  first = law.example_changes;
-  next = [];
-  cut = refl;
-  first_changes_make_text = changes_make;
   is = refl;
 }
 

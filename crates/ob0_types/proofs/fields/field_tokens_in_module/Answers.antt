@@ -2,20 +2,18 @@ use Rattle.std.proofs.Common.{◌≡◌, List, ℕ, length, ◌∙◌, ap, sym, 
 use Rattle.ob0_tree.specs.IdentifierIndexes.{AreIdentifierTokens, AreAscendingWithin}
 use Rattle.ob0_tree.specs.ParsedModule.{named_tree_of, tree_of}
 use Rattle.ob0_language_types.specs.Bindings.{declared_object}
-use Rattle.ob0_types_fields.specs.FieldIdentifiers.{field_identifiers, field_tokens_in_module, tokens_of_field}
-use Rattle.ob0_types_fields.specs.IdentifierOwners.{fields_in_module, meanings_by_token}
 use Rattle.ob0_types_fields.proofs.FieldIdentifierList.{fields_ascend, fields_are_identifiers, kept_ascend, kept_are_identifiers}
-use Rattle.ob0_types_fields.proofs.WalkedFields.{module-fields}
 use Rattle.ob0_types.proofs.fields.field_tokens_in_module.Goals as goal
+use Rattle.ob0_types_fields.specs.IdentifierOwners.{fields_with_owners, meanings_by_token, module_identifiers, owner}
+use Rattle.ob0_types_fields.specs.FieldIdentifiers.{field_identifiers, field_tokens_in_module, tokens_of_field}
+use Rattle.ob0_types_fields.proofs.OwnersByToken.{tokens}
 
 -- The walk over the module finds all fields: names mean the declared objects, by the table.
 value : (c : goal.In_ok-tokens) → c.in_ok-tokens.tokens.items ≡ field_tokens_in_module c.args.well_typed.now c.args.owner c.args.name.now
 value c =
     let r = c.args.well_typed.now in
-    let m = meanings_by_token (declared_object (named_tree_of r.module_read)) r in
     c.in_ok-tokens.ensures
-    ∙ ((λ i. let q = c.resolved-names.ensures.value i in tokens_of_field q.module_read.source c.args.owner c.args.name.now (fields_in_module (meanings_by_token (λ k. c.declarations.ensures k i) q) (tree_of q.module_read)))
-    ∙ ap (tokens_of_field r.module_read.source c.args.owner c.args.name.now) (sym (module-fields m (tree_of r.module_read))))
+    ∙ (λ i. let q = c.resolved-names.ensures.value i in tokens_of_field q.module_read.source c.args.owner c.args.name.now (fields_with_owners (module_identifiers (meanings_by_token (λ k. c.declarations.ensures k i) q) (tree_of q.module_read))))
 
 pub returns-clause-value : goal.returns-clause-value
 returns-clause-value c = value c
