@@ -16,7 +16,7 @@ _ob0() {
             *) if [[ -z $command ]]; then command=${COMP_WORDS[at]}; else place=$((place + 1)); fi ;;
         esac
     done
-    # (a file after a redirection is completed as usual, and so is a file for which this function finds nothing)
+    # (a file after a redirection is completed as usual, like a file for which this function finds nothing)
     case $before in
         *[\<\>]) return ;;
     esac

@@ -17,6 +17,7 @@
 (require 'cl-lib)
 (require 'compile)
 (require 'seq)
+(require 'subr-x)
 
 (defgroup ob0 nil
   "Oberon-0, the language of Wirth's Compiler Construction."
@@ -29,6 +30,11 @@
 (defcustom ob0-mod t
   "Whether files that end in .mod or .Mod are Oberon-0 if they begin with MODULE.
 The case of this word doesn't matter."
+  :type 'boolean)
+
+(defcustom ob0-hints t
+  "Whether a diagnostic's message is followed by what was probably meant.
+The script `ob0-check' guesses that.  The packages of ob0 have it."
   :type 'boolean)
 
 (defcustom ob0-indent-offset 2
@@ -130,7 +136,7 @@ The errors of a module that can't be run are listed as by `ob0-check'."
 ;;; Indentation
 
 ;; What decides is the text from the heading above (MODULE or PROCEDURE, first in its line) to the line; the column of a
-;; PROCEDURE is taken for its level.
+;; PROCEDURE gives its level.
 
 (defconst ob0--deciding
   (concat "\\_<"
@@ -196,7 +202,7 @@ Return the state there: in a block for each level."
          (top (car stack))
          (records (seq-count (lambda (it) (eq (car it) 'record)) stack))
          (case-fold-search nil)
-         ;; (a line of comments is indented as what follows it)
+         ;; (a line of comments is indented like the line after it)
          (next (save-excursion
                  (forward-comment (buffer-size))
                  (if (looking-at ob0--deciding) (match-string-no-properties 0) ""))))
@@ -235,7 +241,7 @@ Return the state there: in a block for each level."
       (ob0--scan state from)
       (while (< (point) last)
         (let ((line (line-beginning-position)))
-          ;; (after a comment of several lines point is behind the start of its last line, which stays as it is)
+          ;; (after a comment of several lines point is behind the start of its last line, which isn't indented)
           (when (<= (point) line)
             (if (looking-at "[ \t]*$")
                 (delete-horizontal-space)
@@ -295,7 +301,7 @@ From a start go to the one before; with a negative ARG to the next."
 
 ;;; The mode
 
-;; (the server has no index: imenu goes by `imenu-generic-expression', also where eglot 1.9 would ask the server)
+;; (the server has no index: imenu uses `imenu-generic-expression', even if eglot 1.9 would ask the server)
 (defvar eglot-stay-out-of)
 
 ;;;###autoload
@@ -393,12 +399,12 @@ Where it is inside a character, go before that."
 (with-eval-after-load 'eglot
   (add-to-list 'eglot-server-programs
                (cons 'ob0-mode (lambda (&rest _) (list (ob0--program) "serve"))))
-  ;; (eglot 1.9 looks without end for a column inside a character past U+FFFF, such as a diagnostic of an older text can have)
+  ;; (eglot 1.9 searches without end for a column inside a character above U+FFFF; a diagnostic of an older text can have one)
   (unless (boundp 'eglot-move-to-linepos-function)
     (add-hook 'eglot-managed-mode-hook #'ob0--count-columns)))
 
-;; What a client shows of a refusal is its text alone, or a line of Lisp. The words are those of docs/MESSAGES.md; NAME and LINE
-;; are those of the place in the answer.
+;; A client shows only the text of a refusal, or a line of Lisp. These words are from docs/MESSAGES.md; NAME and LINE are replaced
+;; according to the answer.
 (defconst ob0--words
   '(("NoName" . "no name here can be renamed: predeclared ones and the module's can't")
     ("Predeclared" . "a predeclared name can't be renamed")
@@ -471,7 +477,123 @@ If nothing is found because the module has an error, tell that."
 (with-eval-after-load 'xref
   (advice-add 'xref-find-definitions :around #'ob0--tell-refusal))
 
-;; A text with half a surrogate pair, or with a byte that isn't UTF-8, can't be told: eglot then fails at each change, and the
+;; What was probably meant is appended to the diagnostics of a text once it rests, as `ob0-check --hints' guesses it: the
+;; client then takes them a second time.
+
+(defvar-local ob0--resting nil
+  "The timer that asks for the hints of this buffer's errors.")
+
+(defun ob0--hints-program ()
+  "Return the script beside the program, or else the one on PATH, or nil."
+  (let ((program (executable-find ob0-program)))
+    (or (and program (executable-find (expand-file-name "ob0-check" (file-name-directory program))))
+        (executable-find "ob0-check"))))
+
+(defun ob0--with-hints (messages errors)
+  "Return MESSAGES with the hints of ERRORS, which are `ob0-check' 's JSON.
+Nil if these are other errors, or have no hints."
+  (let ((hints (mapcar (lambda (it) (alist-get 'body (alist-get 'content it))) errors)))
+    (and (equal messages (mapcar (lambda (it) (alist-get 'description it)) errors))
+         (delq nil (copy-sequence hints))
+         (cl-mapcar (lambda (message hint) (if hint (format "%s\nhint: %s" message hint) message)) messages hints))))
+
+(declare-function json-read "json")
+(defun ob0--take-hints (out tick messages show)
+  "Call SHOW with MESSAGES and their hints, which the buffer OUT has.
+Unless this buffer's text is another one than at this TICK."
+  (let ((errors (with-current-buffer out
+                  (goto-char (point-min))
+                  (ignore-errors (append (json-read) nil)))))
+    (when (eql tick (buffer-chars-modified-tick))
+      (let ((found (ob0--with-hints messages errors)))
+        (when found (funcall show found))))))
+
+(defun ob0--ask-for-hints (messages show)
+  "Ask for the hints of errors with these MESSAGES in this buffer.
+Call SHOW with the messages and their hints."
+  (let ((program (ob0--hints-program))
+        (buffer (current-buffer))
+        (tick (buffer-chars-modified-tick))
+        (out (generate-new-buffer " *ob0-hints*")))
+    (if (not program)
+        (kill-buffer out)
+      (let ((process (make-process
+                      :name "ob0-hints" :buffer out :command (list program "--hints" "--json" "-")
+                      :connection-type 'pipe :coding 'utf-8-unix :noquery t
+                      :sentinel (lambda (process _)
+                                  (unless (process-live-p process)
+                                    (when (buffer-live-p buffer)
+                                      (with-current-buffer buffer (ob0--take-hints out tick messages show)))
+                                    (kill-buffer out))))))
+        (ignore-errors
+          (save-restriction
+            (widen)
+            (process-send-region process (point-min) (point-max)))
+          (process-send-eof process))))))
+
+(declare-function url-unhex-string "url-util")
+(defun ob0--is-at (uri)
+  "Whether this buffer's file is the one at URI."
+  (let ((path (decode-coding-string (url-unhex-string (string-remove-prefix "file://" uri)) 'utf-8)))
+    (member path (list (expand-file-name buffer-file-name) (file-truename buffer-file-name)))))
+
+(defun ob0--hint (uri messages show)
+  "Show MESSAGES of the document at URI with hints by SHOW, once its text rests."
+  (dolist (buffer (buffer-list))
+    (with-current-buffer buffer
+      (when (and ob0-hints (derived-mode-p 'ob0-mode) buffer-file-name (ob0--is-at uri))
+        (when ob0--resting (cancel-timer ob0--resting))
+        (setq ob0--resting
+              (and messages
+                   (let ((tick (buffer-chars-modified-tick)))
+                     (run-at-time 0.3 nil (lambda ()
+                                            (when (buffer-live-p buffer)
+                                              (with-current-buffer buffer
+                                                (when (eql tick (buffer-chars-modified-tick))
+                                                  (ob0--ask-for-hints messages show)))))))))))))
+
+(defvar ob0--is-hinted nil "Whether a client takes diagnostics that have hints.")
+
+(declare-function eglot-handle-notification "ext:eglot")
+(defun ob0--hint-in-eglot (server method &rest params)
+  "Have eglot take the diagnostics of a notification again, with hints.
+SERVER, METHOD and PARAMS are what it was called with."
+  (when (and (eq method 'textDocument/publishDiagnostics) (not ob0--is-hinted))
+    (let ((listed (append (plist-get params :diagnostics) nil)))
+      (ob0--hint (plist-get params :uri)
+                 (mapcar (lambda (it) (plist-get it :message)) listed)
+                 (lambda (messages)
+                   (let ((ob0--is-hinted t)
+                         (hinted (cl-mapcar (lambda (it message) (plist-put (copy-sequence it) :message message))
+                                            listed messages)))
+                     (apply #'eglot-handle-notification server method
+                            (plist-put (copy-sequence params) :diagnostics (vconcat hinted)))))))))
+
+(declare-function lsp--on-diagnostics "ext:lsp-mode")
+(declare-function lsp-get "ext:lsp-protocol")
+(declare-function lsp-put "ext:lsp-protocol")
+(defun ob0--hint-in-lsp-mode (workspace params)
+  "Have lsp-mode take the diagnostics in PARAMS again, with hints.
+WORKSPACE and PARAMS are what `lsp--on-diagnostics' was called with."
+  (unless ob0--is-hinted
+    (let ((listed (append (lsp-get params :diagnostics) nil)))
+      (ob0--hint (lsp-get params :uri)
+                 (mapcar (lambda (it) (lsp-get it :message)) listed)
+                 (lambda (messages)
+                   (let ((ob0--is-hinted t))
+                     (cl-mapc (lambda (it message) (lsp-put it :message message)) listed messages)
+                     (lsp--on-diagnostics workspace params)))))))
+
+(with-eval-after-load 'eglot
+  (require 'json)
+  (require 'url-util)
+  (advice-add 'eglot-handle-notification :after #'ob0--hint-in-eglot))
+(with-eval-after-load 'lsp-mode
+  (require 'json)
+  (require 'url-util)
+  (advice-add 'lsp--on-diagnostics :after #'ob0--hint-in-lsp-mode))
+
+;; A text with half a surrogate pair, or with a byte that isn't UTF-8, can't be told: a client then fails at each change, and the
 ;; server keeps an older text. So such a buffer is closed there and opened again once, and after that at the next change.
 
 (defvar ob0--told nil
@@ -481,52 +603,80 @@ If nothing is found because the module has an error, tell that."
 (defvar-local ob0--closed nil
   "Whether this buffer is closed at the server, since its text can't be told.")
 
-(defvar eglot--recent-changes)
 (declare-function eglot--signal-textDocument/didOpen "ext:eglot")
 (declare-function eglot--signal-textDocument/didClose "ext:eglot")
+(declare-function lsp-workspaces "ext:lsp-mode")
+(declare-function lsp-notify "ext:lsp-mode")
+(declare-function lsp--text-document-identifier "ext:lsp-mode")
+(declare-function lsp--text-document-did-open "ext:lsp-mode")
+(defvar lsp--cur-workspace)
+(defun ob0--signal (is-opened)
+  "Tell the server that this buffer is opened, or closed unless IS-OPENED."
+  (if (not (bound-and-true-p lsp-mode))
+      (if is-opened (eglot--signal-textDocument/didOpen) (eglot--signal-textDocument/didClose))
+    (dolist (lsp--cur-workspace (lsp-workspaces))
+      (if is-opened
+          (lsp--text-document-did-open)
+        (lsp-notify "textDocument/didClose" (list :textDocument (lsp--text-document-identifier)))))))
+
 (defun ob0--open-again (why)
   "Close this buffer at the server, and open it again unless that was tried.
 WHY says what is wrong with it."
-  (eglot--signal-textDocument/didClose)
+  (ob0--signal nil)
   (let ((is-again ob0--tried))
     (setq ob0--tried t ob0--closed is-again)
     (message "ob0: the server can't read %s: %s (%s)" (buffer-name)
-             (if is-again "it stays closed until it is changed" "it is opened again") why)
+             (if is-again "it stays closed until it is changed" "it is opened again")
+             (truncate-string-to-width (car (split-string why "\n")) 60 nil nil t))
     (unless is-again
-      (condition-case problem (eglot--signal-textDocument/didOpen)
+      (condition-case problem (ob0--signal t)
         (error (ob0--open-again (error-message-string problem)))))))
 
+(defvar eglot--recent-changes)
 (defun ob0--tell-change (tell &rest arguments)
   "Call TELL with ARGUMENTS; if that fails, open this buffer again."
   (if (not (derived-mode-p 'ob0-mode))
       (apply tell arguments)
     (setq ob0--told (current-buffer))
-    (let ((is-changed eglot--recent-changes))
+    (let ((is-changed (or (bound-and-true-p lsp-mode) eglot--recent-changes)))
       (condition-case problem
           (cond ((not ob0--closed) (apply tell arguments))
-                (is-changed (eglot--signal-textDocument/didOpen) (setq ob0--closed nil)))
-        (error (if ob0--closed
-                   (setq eglot--recent-changes nil)
-                 (ob0--open-again (error-message-string problem))))))))
+                (is-changed (ob0--signal t) (setq ob0--closed nil)))
+        (error (cond ((not ob0--closed) (ob0--open-again (error-message-string problem)))
+                     ((boundp 'eglot--recent-changes) (setq eglot--recent-changes nil))))))))
+
+(defun ob0--note (version refusal)
+  "Note that the server has read a text of a VERSION, or its REFUSAL of one."
+  (cond (version
+         (dolist (it (buffer-list))
+           (with-current-buffer it
+             (when (and ob0--tried (not ob0--closed) (derived-mode-p 'ob0-mode))
+               (setq ob0--tried nil)))))
+        ((and (member refusal '("not JSON" "not a message")) (buffer-live-p ob0--told))
+         (with-current-buffer ob0--told
+           (unless ob0--closed (ob0--open-again refusal))))))
 
 (defun ob0--take-answer (_ message &rest _)
-  "Take a MESSAGE of a server: whether it has read a text, or couldn't."
-  (let ((id (plist-get message :id))
-        (refusal (plist-get (plist-get message :error) :message))
-        (published (plist-get message :params)))
-    (cond ((and (plist-get message :method) (plist-get published :version))
-           (dolist (it (buffer-list))
-             (with-current-buffer it
-               (when (and ob0--tried (not ob0--closed) (derived-mode-p 'ob0-mode))
-                 (setq ob0--tried nil)))))
-          ((and (null id) (member refusal '("not JSON" "not a message")) (buffer-live-p ob0--told))
-           (with-current-buffer ob0--told
-             (unless ob0--closed (ob0--open-again refusal)))))))
+  "Take a MESSAGE of a server to eglot."
+  (ob0--note (and (plist-get message :method) (plist-get (plist-get message :params) :version))
+             (unless (plist-get message :id) (plist-get (plist-get message :error) :message))))
+
+(defun ob0--take-answer-in-lsp-mode (take message workspace)
+  "Take a MESSAGE of a server to lsp-mode.
+TAKE gets it and its WORKSPACE, unless it refuses a text."
+  (let ((fault (unless (lsp-get message :id) (lsp-get message :error))))
+    (ob0--note (and (lsp-get message :method) (lsp-get (lsp-get message :params) :version))
+               (and fault (lsp-get fault :message)))
+    (unless fault (funcall take message workspace))))
 
 (with-eval-after-load 'eglot
   (advice-add 'eglot--signal-textDocument/didChange :around #'ob0--tell-change)
   (when (fboundp 'jsonrpc-connection-receive)
     (advice-add 'jsonrpc-connection-receive :before #'ob0--take-answer)))
+(with-eval-after-load 'lsp-mode
+  (advice-add 'lsp-on-change :around #'ob0--tell-change)
+  (when (fboundp 'lsp--parser-on-message)
+    (advice-add 'lsp--parser-on-message :around #'ob0--take-answer-in-lsp-mode)))
 
 (defvar lsp-language-id-configuration)
 (defvar lsp--formatting-indent-alist)

@@ -2,9 +2,8 @@
 declare-option -docstring 'the program ob0: its name, or the path of its file' str ob0_program ob0
 
 hook global BufCreate .*\.ob0 %{ set-option buffer filetype ob0 }
-# (the endings .mod and .Mod belong to others too: such a file is taken only if its first word is MODULE in any case, after
-# comments, whatever follows, except a path as in Go's files; a new file has no first word yet, so it is examined when it is
-# saved too)
+# (other languages also use the endings .mod and .Mod: such a file is Oberon-0 only if its first word after comments is MODULE in
+# any case, and no path follows as in Go's files; a new file has no first word yet, so it is also examined when it is saved)
 define-command -hidden ob0-detect %{ try %{
     evaluate-commands -draft %{
         execute-keys '%s\A(?:\s|\(\*(?:.|\n)*?\*\)|\*\))*\K(?i)MODULE\b[^\n]*<ret>'
@@ -31,7 +30,7 @@ hook global WinSetOption filetype=ob0 %{
     hook -group ob0-indent window InsertChar \n ob0-indent-on-new-line
     hook -group ob0-indent window InsertChar [A-Z] ob0-indent-on-word
     hook -once -always window WinSetOption filetype=.* %{ remove-hooks window ob0-indent }
-    # (sed adds the kind that lint wants)
+    # (sed adds the kind that lint needs)
     set-option window lintcmd "run() { ob0-check ""$1"" | sed 's/^[^:]*:[0-9]*:[0-9]*:/& error:/'; } && run"
 }
 

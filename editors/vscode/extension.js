@@ -1,5 +1,6 @@
 // Starts `ob0 serve` for documents of Oberon-0, and has tasks that check and run the file that is shown.
 const { execFile } = require("child_process");
+const path = require("path");
 const vscode = require("vscode");
 const { LanguageClient } = require("vscode-languageclient/node");
 
@@ -13,7 +14,7 @@ function program() {
   return vscode.workspace.getConfiguration("ob0").get("path", "ob0");
 }
 
-// `ob0 check` counts lines and columns from 0 and names no file. A problem matcher needs both as compilers write them.
+// `ob0 check` counts lines and columns from 0 and prints no file. A problem matcher needs both as compilers write them.
 function asCompilers(file, text) {
   return text.replace(/^(\d+):(\d+): /gm, (_, line, column) => `${file}:${Number(line) + 1}:${Number(column) + 1}: `);
 }
@@ -62,7 +63,7 @@ function tasks() {
   return document && !document.isUntitled ? ["check", "run"].map((command) => taskOf({ type: "ob0", command }, document.uri.fsPath)) : [];
 }
 
-// A task of tasks.json, which names the command alone.
+// A task of tasks.json, which contains only the command.
 function resolved(task) {
   const document = shownDocument();
   return document && !document.isUntitled ? taskOf(task.definition, document.uri.fsPath) : undefined;
@@ -82,13 +83,13 @@ async function execute(command) {
 }
 
 // An answer is of the text that it was asked about, and the client makes its edits in whatever the document has by then. So
-// it is dropped where the document was changed, or closed (and maybe opened again), since.
+// it is dropped if the document was changed, or closed (and maybe opened again), since.
 function asItIs(document) {
   const { version } = document;
   return () => !document.isClosed && document.version === version;
 }
 
-// The words of docs/MESSAGES.md for what the server answers. NAME and LINE are those of the place in the answer.
+// The words of docs/MESSAGES.md for the server's answers. NAME and LINE are replaced according to the answer.
 const WORDS = {
   NoName: "no name here can be renamed: predeclared ones and the module's can't",
   Predeclared: "a predeclared name can't be renamed",
@@ -132,7 +133,7 @@ async function unlessLate(document, ...more) {
   }
 }
 
-// VS Code doesn't show why a text isn't formatted, and asks at each save if the user wants that: so the status bar shows it. In a
+// VS Code doesn't show why a text isn't formatted, and may request formatting at each save: so the status bar shows it. In a
 // text with CR LF the layout has an edit for each line end, which VS Code would write as CR LF again: such an edit changes nothing.
 async function layoutUnlessLate(document, ...more) {
   try {
@@ -225,7 +226,52 @@ function closed(document, next) {
   return next(document);
 }
 
+// What was probably meant, as `ob0-check --hints` guesses it, is related information of a diagnostic: the message is the
+// server's. It comes once the text rests; without the script, which packages of ob0 have, there is none.
+const REST = 300; // milliseconds
+const resting = new Map(); // the timers, by uri
+
+function hintsOf(text) {
+  const name = program();
+  const script = path.basename(name) === name ? "ob0-check" : path.join(path.dirname(name), "ob0-check");
+  return new Promise((settle) => {
+    const asked = execFile(script, ["--hints", "--json", "-"], { maxBuffer: 1 << 24 }, (error, out) => {
+      try {
+        settle(JSON.parse(out));
+      } catch {
+        settle([]);
+      }
+    });
+    asked.stdin.on("error", () => {}); // (there is no such script)
+    asked.stdin.end(text);
+  });
+}
+
+async function showHints(document, diagnostics, next) {
+  const isCurrent = asItIs(document);
+  const listed = await hintsOf(document.getText());
+  const isOther = (it, at) => !listed[at] || listed[at].description !== it.message;
+  if (listed.length !== diagnostics.length || diagnostics.some(isOther) || !isCurrent()) return;
+  for (const [at, it] of diagnostics.entries()) {
+    const { content } = listed[at];
+    const place = new vscode.Location(document.uri, it.range);
+    if (content) it.relatedInformation = [new vscode.DiagnosticRelatedInformation(place, `hint: ${content.body}`)];
+  }
+  next(document.uri, diagnostics);
+}
+
+function diagnosticsWithHints(uri, diagnostics, next) {
+  next(uri, diagnostics);
+  const document = vscode.workspace.textDocuments.find((it) => String(it.uri) === String(uri));
+  clearTimeout(resting.get(String(uri)));
+  resting.delete(String(uri));
+  if (!document || !diagnostics.length) return;
+  const isCurrent = asItIs(document);
+  resting.set(String(uri), setTimeout(() => isCurrent() && showHints(document, diagnostics, next), REST));
+}
+
 const middleware = {
+  handleDiagnostics: diagnosticsWithHints,
   didOpen: opened,
   didChange: changed,
   didClose: closed,
@@ -236,7 +282,7 @@ const middleware = {
   provideDocumentFormattingEdits: layoutUnlessLate,
   provideCodeActions: actionsUnlessLate,
 };
-const NEVER = 4; // of RevealOutputChannelOn: the client shows no message of its own for a request that is refused
+const NEVER = 4; // of RevealOutputChannelOn: the client itself shows no message for a request that is refused
 
 function isThere(name) {
   return new Promise((settle) => execFile(name, ["--version"], (error) => settle(!(error && error.syscall))));

@@ -47,7 +47,7 @@ Lines = List[List[str]]
 
 
 class Refused(Exception):
-    """The inputs can't be used."""
+    """The inputs of the exercises can't be used."""
 
 
 class Unprinted(Exception):
@@ -55,18 +55,18 @@ class Unprinted(Exception):
 
 
 class Stopped(BaseException):
-    """A signal has come, which is its argument."""
+    """A signal has arrived. Its number is the argument."""
 
 
 class Case(NamedTuple):
-    """An input, and the numbers on each line that is to be printed."""
+    """An input, and the numbers that the module must print on each line."""
 
     given: str
     wanted: Lines
 
 
 class Ended(NamedTuple):
-    """The output of a command, and its status: None if it was stopped after the time that it may take."""
+    """A command's output and exit status. The status is None if the command was stopped because it ran too long."""
 
     out: str
     err: str
@@ -74,7 +74,8 @@ class Ended(NamedTuple):
 
 
 class Marking(NamedTuple):
-    """The program ob0, how many seconds one run of it may take, and the cases of each exercise, in the order of the exercises."""
+    """The path of the program ob0, how many seconds one run may take, and the cases of each exercise, in the exercises'
+    order."""
 
     program: str
     seconds: float
@@ -82,7 +83,7 @@ class Marking(NamedTuple):
 
 
 class Marked(NamedTuple):
-    """A module of an exercise, and why it isn't right, or None."""
+    """A module of an exercise, and why it isn't right, or None if it is."""
 
     name: str
     exercise: str
@@ -93,14 +94,14 @@ class Marked(NamedTuple):
 
 
 class Result(NamedTuple):
-    """The result of a path: its modules, and lines about the rest."""
+    """The result for a path: its modules, and lines about everything else."""
 
     path: str
     modules: List[Marked]
     others: List[str]
 
     def exercises(self) -> Dict[str, bool]:
-        """Whether all its modules of an exercise are right, for each exercise of which it has any."""
+        """Returns whether all modules of an exercise are right, for each exercise that has a module."""
         found: Dict[str, bool] = {}
         for it in self.modules:
             found[it.exercise] = it.why is None and found.get(it.exercise, True)
@@ -108,7 +109,7 @@ class Result(NamedTuple):
 
 
 def say(line: Union[str, bytes], stream: Optional[TextIO] = sys.stdout) -> None:
-    """Prints a line. A name has the bytes that it has in its folder."""
+    """Prints a line. File names are printed with their own bytes, in any locale."""
     if stream is None:
         raise Unprinted("it is closed")
     left = os.fsencode(line) + b"\n"
@@ -120,8 +121,8 @@ def say(line: Union[str, bytes], stream: Optional[TextIO] = sys.stdout) -> None:
 
 
 def on_a_line(name: str) -> str:
-    """Returns a name with a number for each character that isn't shown as it is, such as a line end or a control of the
-    terminal, so that it is a part of one line. Its bytes that aren't UTF-8 are unchanged."""
+    """Returns a file name that prints on one line: unprintable characters, such as line ends, are replaced by escape
+    sequences. Bytes that aren't UTF-8 are unchanged."""
     letters = os.fsencode(name).decode("utf-8", "surrogateescape")
     is_shown: Callable[[str], bool] = lambda it: it.isprintable() or "\udc80" <= it <= "\udcff"
     shown = (it if is_shown(it) else it.encode("unicode_escape").decode() for it in letters)
@@ -129,7 +130,7 @@ def on_a_line(name: str) -> str:
 
 
 def numbers_of(lines: List[str]) -> Lines:
-    """The numbers on each line, without empty lines at the end."""
+    """Returns the words of each line, without empty lines at the end."""
     found = [it.split() for it in lines]
     while found and not found[-1]:
         found.pop()
@@ -137,7 +138,7 @@ def numbers_of(lines: List[str]) -> Lines:
 
 
 def exercises_in(folder: str) -> List[str]:
-    """Returns the names of a folder's exercises: in the order of the page, and then those that it hasn't."""
+    """Returns the names of the exercises in a folder: first those on the page, in its order, then the others."""
     with open(os.path.join(HERE, "README.md"), encoding="utf-8") as page:
         listed = re.findall(r"^## \d+\. (\w+)$", page.read(), re.M)
     found = sorted(it[:-4] for it in os.listdir(folder) if re.fullmatch(r"\w+\.txt", it, re.A))
@@ -145,7 +146,8 @@ def exercises_in(folder: str) -> List[str]:
 
 
 def cases_in(file: str) -> List[Case]:
-    """Returns the cases of an exercise's file: an empty line separates two."""
+    """Returns the cases in an exercise's file, which are separated by empty lines. Raises Refused if one is
+    malformed."""
     with open(file, encoding="utf-8-sig") as text:
         parts = re.split(r"\n\s*\n", text.read().strip())
     found = []
@@ -159,7 +161,8 @@ def cases_in(file: str) -> List[Case]:
 
 
 def inputs_in(folder: str) -> Dict[str, List[Case]]:
-    """Returns the cases of each exercise that a folder has a file of."""
+    """Returns the cases of each exercise that has a file in a folder. Raises Refused if a file can't be read, or if
+    there is none."""
     try:
         found = {it: cases_in(os.path.join(folder, f"{it}.txt")) for it in exercises_in(folder)}
     except OSError as why:
@@ -172,10 +175,12 @@ def inputs_in(folder: str) -> Dict[str, List[Case]]:
 
 
 def call(marking: Marking, words: List[str], given: str = "", program: str = "") -> Ended:
-    """Runs the program, or another one, with these words on this input, under the limits."""
+    """Runs ob0, or `program` if it is given, with these arguments and this input, under limits of time, memory and
+    output."""
 
     def limit() -> None:
-        """Bounds what a run may write and take. (Its processor time is also bounded, in case this script is killed before it ends.)"""
+        """Limits how much a run may write and how much memory it may use. (Its CPU time is also limited, in case this
+        script is killed before the run ends.)"""
         seconds = int(marking.seconds) + 2
         for which, most in ((resource.RLIMIT_FSIZE, MOST_PRINTED), (resource.RLIMIT_DATA, MOST_MEMORY), (resource.RLIMIT_CPU, seconds)):
             hard = resource.getrlimit(which)[1]
@@ -205,7 +210,7 @@ def call(marking: Marking, words: List[str], given: str = "", program: str = "")
 
 
 def text_in(file: IO[bytes]) -> str:
-    """Returns the contents of a file, from its start, in ASCII."""
+    """Returns the whole contents of a file in ASCII, with other bytes as escape sequences."""
     file.seek(0)
     return file.read().decode("ascii", "backslashreplace")
 
@@ -215,7 +220,7 @@ def shortened(text: str, most: int = 60) -> str:
 
 
 def difference(wanted: Lines, printed: Lines) -> str:
-    """Where what was printed differs first from what was wanted, in words."""
+    """Returns a sentence about the first difference between the printed and the expected numbers."""
     if sum(wanted, []) == sum(printed, []):
         return "it prints the right numbers, but not on the right lines: WriteLn ends a line"
     for at in range(max(len(wanted), len(printed))):
@@ -226,7 +231,7 @@ def difference(wanted: Lines, printed: Lines) -> str:
 
 
 def fault_of(marking: Marking, file: str) -> Optional[str]:
-    """Why a file isn't a module that can be run, or None."""
+    """Returns why a file isn't a module that can be run, or None if it is."""
     found = call(marking, ["check", "--", file])
     if found.status == 0:
         return None
@@ -245,7 +250,7 @@ def begins_with_mark(file: str) -> bool:
 
 
 def why_wrong(marking: Marking, file: str, case: Case) -> Optional[str]:
-    """Why a module is wrong for a case, or None."""
+    """Returns why a module fails a case, or None if it passes."""
     found = call(marking, ["run", "--", file], case.given)
     if found.status is None:
         return f"it had not ended after {marking.seconds:g} seconds: does each loop end?"
@@ -262,7 +267,8 @@ def why_wrong(marking: Marking, file: str, case: Case) -> Optional[str]:
 
 
 def line_of_fault(marking: Marking, file: str, case: Case) -> str:
-    """Returns the line in which a run ends with a fault, in words, if the script ob0-trace is there and finds it."""
+    """Returns the words " in line N" for the line at which a run ends with a fault, or "" if ob0-trace isn't installed
+    or doesn't find it."""
     folders = [os.path.dirname(marking.program), os.path.join(HERE, "..", "..", "share"), os.environ.get("PATH", "")]
     tracer = shutil.which("ob0-trace", path=os.pathsep.join(folders))
     if tracer is None:
@@ -273,7 +279,7 @@ def line_of_fault(marking: Marking, file: str, case: Case) -> str:
 
 
 def why_not_right(marking: Marking, exercise: str, file: str) -> Optional[str]:
-    """Why a module isn't right, or None."""
+    """Returns why a module isn't right, or None if it is."""
     fault = fault_of(marking, file)
     if fault:
         return fault
@@ -285,7 +291,8 @@ def why_not_right(marking: Marking, exercise: str, file: str) -> Optional[str]:
 
 
 def marked(marking: Marking, exercise: str, file: str) -> Marked:
-    """Marks a module. The program takes only names in UTF-8, so another one's file gets a second name for that time."""
+    """Marks a module. The program accepts only file names in UTF-8, so a file with another name is marked through a
+    temporary link."""
     try:
         os.fsencode(file).decode()
         why = why_not_right(marking, exercise, file)
@@ -299,7 +306,8 @@ def marked(marking: Marking, exercise: str, file: str) -> Marked:
 
 
 def modules_in(marking: Marking, path: str) -> List[str]:
-    """Returns the modules of a folder that are named like exercises, in the order of the exercises; or the one module."""
+    """Returns the modules in a folder that are named like exercises, in the exercises' order. If the path isn't a
+    folder, returns the path."""
     if not os.path.isdir(path):
         return [path]
     found = [os.path.join(path, name + ending) for name in marking.cases for ending in ENDINGS]
@@ -308,14 +316,14 @@ def modules_in(marking: Marking, path: str) -> List[str]:
 
 
 def unmarked(marking: Marking, path: str) -> Iterator[str]:
-    """Yields a line for each entry of a folder that isn't marked, except hidden ones."""
+    """Yields a line about each entry of a folder that isn't marked, except hidden entries."""
     marked_ones = {os.path.basename(it) for it in modules_in(marking, path)}
     for entry in sorted(it for it in os.listdir(path) if it not in marked_ones and not it.startswith(".")):
         yield f"{on_a_line(entry)} is not marked: {why_unmarked(marking, os.path.join(path, entry))}"
 
 
 def why_unmarked(marking: Marking, path: str) -> str:
-    """Why an entry of a folder isn't marked."""
+    """Returns why an entry of a folder isn't marked."""
     stem, ending = os.path.splitext(os.path.basename(path))
     meant = next((it for it in marking.cases if it.lower() == stem.lower()), None)
     if os.path.islink(path):
@@ -330,7 +338,7 @@ def why_unmarked(marking: Marking, path: str) -> str:
 
 
 def mark(marking: Marking, path: str, is_said: bool) -> Result:
-    """Marks a path, and prints the result if `is_said`."""
+    """Marks the modules of a path, and prints the results if `is_said`."""
     result = Result(path, [], [])
 
     def found(line: str, is_other: bool = False) -> None:
@@ -367,20 +375,21 @@ def mark(marking: Marking, path: str, is_said: bool) -> Result:
 
 
 def plain(text: str) -> str:
-    """Returns a text for a cell of a table: in UTF-8, on a line, and no formula, also if a spreadsheet takes `;` for the
-    end of a cell."""
+    """Returns a text that is safe in a cell of a table: UTF-8, on one line, without `;`, and not a spreadsheet
+    formula."""
     shown = os.fsencode(on_a_line(text)).decode(errors="backslashreplace").replace(";", "\\x3b")
     return "'" + shown if shown.startswith(FORMULA) else shown
 
 
 def row_of(marking: Marking, result: Result) -> bytes:
-    """Returns a line of a table in CSV: a path's name, how many exercises are right, a cell for each exercise, and the rest."""
+    """Returns a line of the CSV table: the path's name, how many exercises are right, a cell for each exercise, and
+    remarks."""
     cells = [" / ".join(it.said() for it in result.modules if it.exercise == exercise) for exercise in marking.cases]
     return csv_line([name_of(result.path), str(sum(result.exercises().values())), *cells, " / ".join(result.others)])
 
 
 def csv_line(cells: List[str]) -> bytes:
-    """Returns a line of a table, with each cell in quotes."""
+    """Returns a line of a CSV table, with each cell in quotes, and without its final LF."""
     file = io.StringIO()
     csv.writer(file, quoting=csv.QUOTE_ALL).writerow([plain(it) for it in cells])
     return file.getvalue().encode()[:-1]
@@ -391,7 +400,7 @@ def name_of(path: str) -> str:
 
 
 def mark_all(marking: Marking, paths: List[str], is_table: bool) -> int:
-    """Marks each path, prints the results, and returns the status."""
+    """Marks each path, prints the results, and returns the exit status."""
     if is_table:
         say(csv_line(["name", "right", *marking.cases, "others"]))
     results = []
@@ -408,14 +417,14 @@ def mark_all(marking: Marking, paths: List[str], is_table: bool) -> int:
 
 
 def seconds_of(word: str) -> float:
-    """Returns the number of seconds that a word is."""
+    """Converts a word to a number of seconds. Raises ValueError unless it is above 0 and at most a million."""
     if not 0 < float(word) <= 1e6:
         raise ValueError
     return float(word)
 
 
 def parsed(words: List[str]) -> argparse.Namespace:
-    """Returns what a command line gives."""
+    """Returns the parsed command line."""
     parser = argparse.ArgumentParser(description="Marks modules of Oberon-0 by the exercises of this folder.")
     parser.add_argument("--program", default="ob0", help="the program ob0, if it isn't on PATH")
     parser.add_argument("--seconds", type=seconds_of, default=10, help="the longest that one run may take (10)")

@@ -70,7 +70,7 @@ class Server:
             self.end_at_once()
             raise
 
-    def send(self, message: Dict[str, Any]) -> None:
+    def send(self, message: Members) -> None:
         content = json.dumps({"jsonrpc": "2.0", **message}, ensure_ascii=False).encode()
         try:
             self.given.write(b"Content-Length: %d\r\n\r\n%s" % (len(content), content))
@@ -78,8 +78,8 @@ class Server:
         except OSError:
             raise Failure("the server ended") from None
 
-    def take(self) -> Dict[str, Any]:
-        """Returns the next message that the server sends."""
+    def take(self, member: str, wanted: object) -> Members:
+        """Returns the next message that the server sends in which a member is the wanted one."""
         length = 0
         for line in iter(lambda: self.answers.readline().strip(), b""):
             name, _, value = line.partition(b":")
@@ -87,8 +87,8 @@ class Server:
         content = self.answers.read(length)
         if not content:
             raise Failure("the server ended")
-        found: Dict[str, Any] = json.loads(content)
-        return found
+        found: Members = json.loads(content)
+        return found if found.get(member) == wanted else self.take(member, wanted)
 
     def notify(self, method: str, params: object) -> None:
         self.send({"method": method, "params": params})
@@ -96,19 +96,14 @@ class Server:
     def request(self, method: str, params: object) -> Any:
         number = next(self.numbers)
         self.send({"id": number, "method": method, "params": params})
-        found = self.take()
-        while found.get("id") != number:
-            found = self.take()
+        found = self.take("id", number)
         if "error" in found:
             raise Failure(f"the server answers {found['error']['message']}")
         return found["result"]
 
     def diagnostics(self) -> Any:
         """Returns the diagnostics that come after a notification about a document."""
-        found = self.take()
-        while found.get("method") != "textDocument/publishDiagnostics":
-            found = self.take()
-        return found["params"]["diagnostics"]
+        return self.take("method", "textDocument/publishDiagnostics")["params"]["diagnostics"]
 
     def answer(self, text: bytes, method: str = "", params: Optional[Members] = None) -> Tuple[List[Members], Any]:
         """Opens a text and closes it again. Returns its diagnostics, and the answer to a request that is made if it has
@@ -164,9 +159,7 @@ def bytes_of(path: str) -> bytes:
     """Returns the bytes of a file or of standard input; of more than a module may have, one byte too many."""
     if path == STANDARD_INPUT and sys.stdin is None:
         raise OSError(errno.EBADF, "it is closed")
-    if path == STANDARD_INPUT:
-        return sys.stdin.buffer.read(LONGEST + 1)
-    with open(path, "rb") as file:
+    with open(sys.stdin.fileno() if path == STANDARD_INPUT else path, "rb", closefd=path != STANDARD_INPUT) as file:
         return file.read(LONGEST + 1)
 
 
@@ -215,22 +208,27 @@ def modules_at(path: str) -> Iterator[str]:
                 yield below
 
 
-def keep_attributes(old: str, new: str) -> None:
-    """Gives a new file the old one's owner, group, mode and access list. If one of them can't be given, an OSError is
-    raised."""
-    found, made = os.stat(old), os.stat(new)
-    if (found.st_uid, found.st_gid) != (made.st_uid, made.st_gid):
-        os.chown(new, found.st_uid, found.st_gid)
-    os.chmod(new, stat.S_IMODE(found.st_mode))
+def attributes_of(path: str) -> List[str]:
+    """Returns the names of a file's attributes, except those that the system gives to each file."""
     try:
-        names = os.listxattr(old)
+        return [it for it in os.listxattr(path) if not it.startswith("security.")]
     except OSError as why:
         if why.errno != errno.ENOTSUP:
             raise
-        names = []
-    for name in names:
-        if not name.startswith("security."):  # (these the system gives to each file)
+        return []
+
+
+def keep_attributes(old: str, new: str) -> None:
+    """Gives a new file the old one's owner, group, mode and access list, or raises Refused."""
+    found, made = os.stat(old), os.stat(new)
+    try:
+        if (found.st_uid, found.st_gid) != (made.st_uid, made.st_gid):
+            os.chown(new, found.st_uid, found.st_gid)
+        os.chmod(new, stat.S_IMODE(found.st_mode))
+        for name in attributes_of(old):
             os.setxattr(new, name, os.getxattr(old, name))
+    except OSError as why:
+        raise Refused(4, f": its owner, group, mode or access list can't be kept: {why.strerror}") from None
 
 
 def need_replaceable(path: str) -> None:
@@ -255,10 +253,7 @@ def replace(path: str, old: bytes, text: bytes) -> None:
             try:
                 file.write(text)
                 file.close()
-                try:
-                    keep_attributes(path, file.name)
-                except OSError as why:
-                    raise Refused(4, f": its owner, group, mode or access list can't be kept: {why.strerror}") from None
+                keep_attributes(path, file.name)
                 if bytes_of(path) != old:
                     raise Refused(4, ": another program has changed it in the meantime, so it was left unchanged")
                 os.replace(file.name, path)
@@ -319,7 +314,7 @@ class Work:
     def try_one(self, path: str, function: Callable[[], int]) -> None:
         """Notes the status that a function gives, or reports why it can't do its work with a path."""
         try:
-            self.status = max(self.status, function())
+            self.status = max(function(), self.status)
         except Refused as refused:
             self.fail(path, refused.status, refused.why)
         except OSError as fault:
@@ -327,32 +322,30 @@ class Work:
         except (Failure, ValueError, KeyError, TypeError, IndexError) as fault:
             words = fault if isinstance(fault, Failure) else "the server answers something else than it has to"
             self.fail(path, 4, f": {words}")
-            if self.server:
-                self.server.end_at_once()
-            self.server = None
+            self.end_server()
 
-    def find(self, path: str, found: List[str]) -> int:
-        """Adds the modules at a path to a list."""
+    def visit_each(self, path: str) -> int:
+        """Visits the modules at a path, each with a server that hasn't failed."""
         for it in modules_at(path):
-            found.append(it)
+            self.server = self.server or Server()
+            self.try_one(it, functools.partial(self.visit, self.server, it))
         return 0
+
+    def end_server(self) -> None:
+        if self.server:
+            self.server.end_at_once()
+        self.server = None
 
     def visit_all(self, paths: List[str]) -> int:
         """Visits the modules at each path, and returns the highest status."""
         self.server = Server()
         try:
             for path in paths:
-                found: List[str] = []
-                self.try_one(path, functools.partial(self.find, path, found))
-                for it in found:
-                    server = self.server = self.server or Server()
-                    self.try_one(it, functools.partial(self.visit, server, it))
+                self.try_one(path, functools.partial(self.visit_each, path))
             if self.server:
                 self.server.end()
-        except BaseException:
-            if self.server:
-                self.server.end_at_once()
-            raise
+        finally:
+            self.end_server()
         return self.end()
 
     def only(self, path: str, function: Callable[[], int]) -> int:

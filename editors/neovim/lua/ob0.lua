@@ -1,7 +1,8 @@
 -- The settings of the client of ob0, for every version of Neovim, and what keeps its edits from a text that they weren't
--- made for: an answer with edits is refused where the buffer has changed, or was unloaded, since the request. (Versions
--- alone don't do: Neovim compares no version 0, which is that of a document just opened, and a document that is opened
+-- made for: an answer with edits is refused if the buffer has changed, or was unloaded, since the request. (Versions don't
+-- suffice: Neovim compares no version 0, which a document just opened has, and a document that is opened
 -- again is counted from there.)
+local hints = require("ob0.hints")
 local found = {}
 
 local answered_by_edits = {
@@ -31,7 +32,7 @@ local function is_current(made_for)
   return made_for.tick ~= nil and made_for.tick == tick_of(made_for.buffer)
 end
 
--- The words of docs/MESSAGES.md for what the server answers. NAME and LINE are those of the place in the answer.
+-- The words of docs/MESSAGES.md for the server's answers. NAME and LINE are replaced according to the answer.
 local words = {
   NoName = "no name here can be renamed: predeclared ones and the module's can't",
   Predeclared = "a predeclared name can't be renamed",
@@ -191,7 +192,7 @@ local function text_of(buffer)
   return vim.bo[buffer].eol and text .. line_end or text
 end
 
--- Sends the whole text instead of changes at its start, if Neovim is 0.7: that loses the end of the last line where the buffer
+-- Sends the whole text instead of changes at its start, if Neovim is 0.7: that loses the end of the last line when the buffer
 -- was empty.
 local function send_starts_whole(client)
   wrap(client, "notify", function(notify, method, params)
@@ -237,7 +238,10 @@ local function open_unread_again(client)
       tried[result.uri] = nil
     end
     local shows = publish or vim.lsp.handlers["textDocument/publishDiagnostics"] or vim.lsp.diagnostic.on_publish_diagnostics
-    return shows(fault, result, ...)
+    shows(fault, result, ...)
+    if result then
+      hints.update(vim.uri_to_bufnr(result.uri), #result.diagnostics > 0, text_of)
+    end
   end
   return function(why)
     local uri = told

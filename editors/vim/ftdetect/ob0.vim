@@ -1,7 +1,7 @@
-" Oberon-0. The endings .mod and .Mod belong to others too, so such a file is taken only if its first word is MODULE, in any
-" case, whatever follows: the server reports a slip there. (In Go's files a path follows `module`.) let g:ob0_mod = 0 leaves them
-" alone. Vim's own rule for them uses setf, which keeps an earlier choice: hence setlocal.
-" A new file has no first word yet, so it is examined when it is saved too.
+" Oberon-0. Other languages also use the endings .mod and .Mod, so such a file is Oberon-0 only if its first word is MODULE, in
+" any case, whatever follows: the server reports a slip there. (In Go's files a path follows `module`.) With let g:ob0_mod = 0 no
+" such file is Oberon-0. Vim's own rule for them uses setf, which keeps an earlier choice: hence setlocal.
+" A new file has no first word yet, so it is also examined when it is saved.
 function! s:BeginsWithModule() abort
   let l:text = join(getline(1, 100), "\n")
   let l:at = 0

@@ -25,7 +25,7 @@ function! s:Errors(program, file) abort
   return l:found
 endfunction
 
-" :Ob0Run [FILE] saves the buffer and runs its module: in a terminal, where its numbers can be typed (Ctrl-D at the start of a
+" :Ob0Run [FILE] saves the buffer and runs its module: in a terminal, in which one types its numbers (Ctrl-D at the start of a
 " line ends them), or on a file of numbers. The errors of a module that can't be run are listed as :make lists them.
 function! s:Run(input) abort
   let l:program = get(g:, 'ob0_program', 'ob0')

@@ -11,12 +11,12 @@ call ale#linter#Define('ob0', {
       \ 'project_root': {buffer -> expand('#' . buffer . ':p:h')},
       \ })
 
-" A fixer for ALE, which doesn't request formatting of a server: a script formats a copy by what the server answers.
+" A fixer for ALE, which doesn't request formatting from a server: a script formats a copy with the server's answer.
 function! Ob0Fix(buffer) abort
   return {'command': get(g:, 'ob0_format', 'ob0-format') . ' %t', 'read_temporary_file': 1}
 endfunction
 
-" ALE applies the edits of an answer to the text that is there when it comes. Here it forgets the rename and the code actions
+" ALE applies the edits of an answer to the text at its arrival. Here it forgets the rename and the code actions
 " that it waits for when a buffer of Oberon-0 changes or is closed, so that such an answer does nothing.
 function! s:Forget(buffer) abort
   if getbufvar(a:buffer, '&filetype') ==# 'ob0'
@@ -24,7 +24,7 @@ function! s:Forget(buffer) abort
     silent! call ale#codefix#ClearLSPData()
   endif
 endfunction
-" The words of docs/MESSAGES.md for what the server answers, which ALE doesn't show. NAME and LINE are those of the place in the
+" The words of docs/MESSAGES.md for the server's answers, which ALE doesn't show. NAME and LINE are replaced according to the
 " answer.
 let s:words = {
       \ 'NoName': "no name here can be renamed: predeclared ones and the module's can't",
@@ -71,9 +71,35 @@ function! s:FindsNothing(response) abort
   return l:is_asked && !empty(filter(copy(ale#engine#GetLoclist(bufnr(''))), 'v:val.linter_name ==# "ob0"'))
 endfunction
 
+" A text that the server can't read (with half a surrogate pair, say) is told once more: its document is closed and opened.
+" If that isn't read either, it is opened only for the next change, by ALE.
+let s:tried = {}
+
+function! s:OpenAgain(connection, why) abort
+  let l:buffer = bufnr('')
+  let l:count = get(s:tried, l:buffer, 0)
+  if !ale#lsp#CloseDocument(l:buffer) | return | endif
+  let s:tried[l:buffer] = l:count + 1
+  if !l:count
+    call ale#lsp#OpenDocument(a:connection, l:buffer, 'oberon0')
+  endif
+  if l:count < 2
+    let l:how = l:count ? 'it stays closed until it is changed' : 'it is opened again'
+    call s:Echo(printf('the server can''t read %s: %s (%s)', expand('%:t'), l:how, a:why))
+  endif
+endfunction
+
 " Puts an answer into words, after ALE's own line.
 function! s:Tell(connection, response) abort
-  if type(get(a:response, 'error', 0)) is v:t_dict
+  if get(a:response, 'method', '') ==# 'textDocument/publishDiagnostics'
+    let s:tried = has_key(a:response.params, 'version') ? {} : s:tried
+    return
+  endif
+  let l:is_unread = get(a:response, 'id', 0) is v:null && has_key(a:response, 'error')
+  if l:is_unread && a:response.error.message =~# '^not \%(JSON\|a message\)$'
+    call timer_start(0, {-> s:OpenAgain(a:connection, a:response.error.message)})
+    return
+  elseif type(get(a:response, 'error', 0)) is v:t_dict
     let l:words = s:InWords(a:response.error.message)
   elseif s:FindsNothing(a:response)
     let l:words = s:words['ill-typed']
