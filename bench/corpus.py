@@ -4,7 +4,8 @@
   bench/corpus.py SIZE [--line] [--seed N]    a module of SIZE bytes, --line: all on one line
   bench/corpus.py --block N                   N declarations in one block, each used
   bench/corpus.py --nest N                    N procedures inside one another, each using its outer one's variable
-  bench/corpus.py --many N WAY                N variables: in `one` declaration, or `each` in its own; half of them are used
+  bench/corpus.py --many N WAY                N variables: in `one` declaration, in one with names of one `ending`, or `each` in its own; half are used
+  bench/corpus.py --records N WAY             N records of one field: as types of `variables`, of the `fields` of one record, or as `types`
   bench/corpus.py --uses N [--line]           one variable that is used N times
   bench/corpus.py --fields N [--line]         one field of a record that is used N times
   bench/corpus.py --constants N [--line]      one constant that is used N times"""
@@ -18,7 +19,7 @@ KINDS = ("int", "bool", "array", "record")
 
 
 class Scope:
-    """The visible names, by their kind."""
+    """The names that are visible at one point of the module, grouped by kind."""
 
     def __init__(self, outer: Scope | None = None) -> None:
         self.names: dict[str, list[str]] = {it: list(outer.names[it]) if outer else [] for it in (*KINDS, "const")}
@@ -26,7 +27,7 @@ class Scope:
 
 
 class Maker:
-    """Writes a module piece by piece."""
+    """Generates a random module; `seed` determines it completely."""
 
     def __init__(self, seed: int) -> None:
         self.chance = random.Random(seed)
@@ -42,7 +43,7 @@ class Maker:
         return names[max(0, len(names) - 1 - int(self.chance.expovariate(0.15)))]
 
     def integer(self, scope: Scope, depth: int = 0) -> str:
-        """An expression that is an INTEGER, as a factor."""
+        """Returns a random INTEGER expression that can stand wherever a factor can."""
         way = self.chance.random()
         if depth > 2 or way < 0.25:
             return str(self.chance.randrange(1000))
@@ -58,7 +59,7 @@ class Maker:
         return f"({self.integer(scope, depth + 1)} {operator} {self.integer(scope, depth + 1)})"
 
     def truth(self, scope: Scope, depth: int = 0) -> str:
-        """An expression that is a BOOLEAN, as a factor."""
+        """Returns a random BOOLEAN expression that can stand wherever a factor can."""
         way = self.chance.random()
         if way < 0.2 and scope.names["bool"]:
             return self.pick(scope, "bool")
@@ -72,7 +73,7 @@ class Maker:
         return f"({self.integer(scope, depth + 1)} {relation} {self.integer(scope, depth + 1)})"
 
     def target(self, scope: Scope) -> str:
-        """A place that holds an INTEGER."""
+        """Returns the text of a randomly chosen INTEGER variable, array element or record field, to assign to."""
         kinds = [it for it in ("int", "array", "record") if scope.names[it]]
         kind = self.chance.choice(kinds)
         name = self.pick(scope, kind)
@@ -81,7 +82,7 @@ class Maker:
         return f"{name}.{self.chance.choice('xy')}" if kind == "record" else name
 
     def statement(self, scope: Scope, depth: int, indent: int) -> list[str]:
-        """The lines of a statement."""
+        """Returns the lines of a random statement."""
         way = self.chance.random()
         room = "  " * indent
         if depth > 2 or way < 0.5:
@@ -111,7 +112,7 @@ class Maker:
         return found
 
     def variables(self, scope: Scope, indent: int, outermost: bool = False) -> list[str]:
-        """The lines of a VAR section, and its names in scope."""
+        """Returns the lines of a VAR section, and adds its names to `scope`."""
         room = "  " * indent
         integers, truth = [self.fresh("v") for _ in range(3)], self.fresh("b")
         scope.names["int"] += integers
@@ -125,7 +126,7 @@ class Maker:
         return found
 
     def procedure(self, outer: Scope, depth: int) -> list[str]:
-        """The lines of a procedure p(n: INTEGER; VAR m: INTEGER)."""
+        """Returns the lines of a procedure p(n: INTEGER; VAR m: INTEGER), and adds its name to `outer`."""
         scope, name, room = Scope(outer), self.fresh("p"), "  " * depth
         value, place, constant = self.fresh("n"), self.fresh("m"), self.fresh("c")
         scope.procedures.append(name)
@@ -145,7 +146,8 @@ class Maker:
 
 
 def module(size: int, seed: int = 0, on_line: bool = False) -> str:
-    """A module of this many bytes (at least 700)."""
+    """Returns a well-typed module of exactly `size` bytes (at least 700). A comment after the module fills up the
+    rest."""
     maker, scope = Maker(seed), Scope()
     head = ["MODULE Corpus;", "CONST", "  base = 7;", "TYPE", "  Line = ARRAY 16 OF INTEGER;"]
     head += ["  Point = RECORD x, y: INTEGER; done: BOOLEAN END;"]
@@ -169,7 +171,7 @@ def module(size: int, seed: int = 0, on_line: bool = False) -> str:
 
 
 def block(count: int) -> str:
-    """This many declarations in one block, each used once."""
+    """Returns a module with `count` declarations in one block, each used once."""
     names = [f"v{at}" for at in range(count)]
     declared = "\n".join(f"  {it}: INTEGER;" for it in names)
     used = ";\n".join(f"  {it} := {it} + 1" for it in names)
@@ -177,7 +179,7 @@ def block(count: int) -> str:
 
 
 def nest(count: int) -> str:
-    """This many procedures inside one another."""
+    """Returns a module with `count` procedures, each declared inside the previous one."""
     lines = ["MODULE Nest;", "VAR v0: INTEGER;"]
     lines += [f"PROCEDURE p{at}(n{at}: INTEGER); VAR v{at}: INTEGER;" for at in range(1, count + 1)]
     lines += [f"BEGIN v{at} := v{at - 1} + n{at}; v0 := v{at} END p{at};" for at in range(count, 0, -1)]
@@ -185,34 +187,59 @@ def nest(count: int) -> str:
 
 
 def many(count: int, way: str) -> str:
-    """This many variables, in one declaration or each in its own; every second one is used."""
-    names = [f"v{at}" for at in range(count)]
-    declared = ",".join(names) + ":INTEGER;" if way == "one" else "".join(f"{it}:INTEGER;" for it in names)
+    """Returns a module with `count` variables, in one declaration or (with `each`) in separate ones. Every second one
+    is used. With `ending`, all names end in the same eight letters."""
+    names = [f"v{at}ofTheEnd" if way == "ending" else f"v{at}" for at in range(count)]
+    declared = "".join(f"{it}:INTEGER;" for it in names) if way == "each" else ",".join(names) + ":INTEGER;"
     return f"MODULE M;VAR {declared}BEGIN {';'.join(f'{it}:=1' for it in names[::2])} END M."
 
 
+def records(way: str, count: int) -> str:
+    """Returns a module with `count` records of one field. According to `way`, each is the type of a variable, of a
+    field of one record, or a declared type."""
+    made = [f"v{at}" for at in range(count)]
+    declared = "".join(f"{it}{'=' if way == 'types' else ':'}RECORD a:T END;" for it in made)
+    if way == "types":
+        return f"MODULE M;TYPE T=INTEGER;{declared}VAR v:{made[-1]};BEGIN v.a:=1 END M."
+    if way == "fields":
+        return f"MODULE M;TYPE T=INTEGER;VAR r:RECORD {declared}END;BEGIN r.{made[-1]}.a:=1 END M."
+    return f"MODULE M;TYPE T=INTEGER;VAR {declared}BEGIN {made[-1]}.a:=1 END M."
+
+
+def nested_records(count: int, depth: int) -> str:
+    """Returns a module that declares `count` types, each with records nested `depth` deep."""
+    one = "RECORD a:" * depth + "T" + " END" * depth
+    return "MODULE M;TYPE T=INTEGER;" + "".join(f"t{at}={one};" for at in range(count)) + "END M."
+
+
+def repeated(kind: str, statement: str, count: int) -> str:
+    """Returns a module whose body is one statement about a variable `x` of type `kind`, repeated `count` times."""
+    return f"MODULE M;VAR x:{kind};BEGIN " + ";".join([statement] * count) + " END M."
+
+
 def lines_of(head: str, used: list[str], on_line: bool) -> str:
-    """A module of some lines, or of one: a head, statements, the end."""
+    """Returns a module that consists of a heading and these statements. Each statement is on its own line unless
+    `on_line`."""
     return (" " if on_line else "\n").join([head, "BEGIN", *(it + ";" for it in used[:-1]), used[-1] + " END Uses."])
 
 
 def uses(count: int, on_line: bool = False) -> str:
-    """One variable that is used so often."""
+    """Returns a module with one variable that is used `count` times."""
     return lines_of("MODULE Uses; VAR x: INTEGER;", [f"x:={at % 10}" for at in range(count)], on_line)
 
 
 def chain(count: int) -> str:
-    """One variable that is used so often in one sum, in as few bytes as can be."""
+    """Returns a module that uses one variable `count` times in one assignment, in as few bytes as possible."""
     return "MODULE Uses; VAR x: INTEGER; BEGIN x:=" + "x+" * (count - 2) + "x END Uses.\n"
 
 
 def fields(count: int, on_line: bool = False) -> str:
-    """One field of a record that is used so often."""
+    """Returns a module that uses one field of a record `count` times."""
     return lines_of("MODULE Uses; VAR r:RECORD x:INTEGER END;", [f"r.x:={at % 10}" for at in range(count)], on_line)
 
 
 def constants(count: int, on_line: bool = False) -> str:
-    """One constant that is used so often."""
+    """Returns a module that uses one constant `count` times."""
     return lines_of("MODULE Uses; CONST c=7; VAR x: INTEGER;", ["x:=c"] * count, on_line)
 
 
@@ -225,6 +252,8 @@ def main(words: list[str]) -> None:
         text = nest(number("--nest", 0))
     elif "--many" in words:
         text = many(number("--many", 0), words[-1])
+    elif "--records" in words:
+        text = records(words[-1], number("--records", 0))
     elif "--uses" in words:
         text = uses(number("--uses", 0), on_line)
     elif "--fields" in words:

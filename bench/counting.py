@@ -1,4 +1,4 @@
-"""Counts instructions by callgrind: the same on each run, where times vary."""
+"""Counts executed instructions with callgrind. Unlike times, the counts are the same on each run."""
 from __future__ import annotations
 
 import os
@@ -12,12 +12,13 @@ from common import match_of
 
 
 def lacks(command: str) -> Optional[str]:
-    """Returns a text about a missing command, or None."""
+    """Returns a message that says how to install a missing command, or None if it is installed."""
     return None if shutil.which(command) else f"{command} is missing (on Debian: apt-get install {command})"
 
 
 def instructions(words: List[str], given: IO[bytes]) -> int:
-    """Returns how many instructions a command takes on this input. (Python orders sets by a seed.)"""
+    """Returns how many instructions a command executes on this input. (PYTHONHASHSEED is fixed, because the order of
+    Python's sets, and therefore the count, depends on it.)"""
     callgrind = ["valgrind", "--tool=callgrind", "--callgrind-out-file=/dev/null", *words]
     own = {**os.environ, "PYTHONHASHSEED": "0", "LC_ALL": "C.UTF-8"}
     done = subprocess.run(callgrind, stdin=given, stdout=subprocess.DEVNULL, stderr=subprocess.PIPE, env=own, check=False)
@@ -25,7 +26,8 @@ def instructions(words: List[str], given: IO[bytes]) -> int:
 
 
 def instructions_by_function(words: List[str], given: IO[bytes]) -> Dict[str, int]:
-    """Returns how many instructions a command takes on this input in each of its functions, without the functions that these call."""
+    """Returns how many instructions a command executes in each of its functions on this input. A function's count
+    doesn't include the functions that it calls."""
     with tempfile.TemporaryDirectory() as room:
         out = os.path.join(room, "out")
         callgrind = ["valgrind", "--tool=callgrind", f"--callgrind-out-file={out}", *words]
@@ -39,7 +41,7 @@ def instructions_by_function(words: List[str], given: IO[bytes]) -> Dict[str, in
 
 
 def instructions_of_conversation(program: str, given: bytes) -> int:
-    """Returns how many instructions a conversation takes."""
+    """Returns how many instructions `serve` executes for a conversation that consists of these bytes."""
     with tempfile.TemporaryFile() as file:
         file.write(given)
         file.seek(0)
@@ -47,7 +49,7 @@ def instructions_of_conversation(program: str, given: bytes) -> int:
 
 
 def instructions_on_file(words: List[str], text: str) -> int:
-    """Returns how many instructions a command takes on a file with this text, and no input."""
+    """Returns how many instructions a command executes on a file with this text and an empty standard input."""
     with tempfile.TemporaryDirectory() as room:
         path = os.path.join(room, "program")
         with open(path, "w", encoding="utf-8") as out:

@@ -32,7 +32,7 @@ EDITORS = {
 
 
 def seconds(words: List[str]) -> float:
-    """Returns the processor seconds that a command takes, with what it starts."""
+    """Returns the CPU seconds of a command and its child processes."""
     before = resource.getrusage(resource.RUSAGE_CHILDREN)
     subprocess.run(words, check=False, stdin=subprocess.DEVNULL, stdout=subprocess.DEVNULL, stderr=subprocess.DEVNULL, timeout=3600)
     after = resource.getrusage(resource.RUSAGE_CHILDREN)
@@ -40,7 +40,8 @@ def seconds(words: List[str]) -> float:
 
 
 def measured(name: str, file: str, is_whole: bool) -> Tuple[float, float]:
-    """Returns what an editor takes for a line, and for the whole text (if that is measured), more than to open the file."""
+    """Returns the CPU seconds in which an editor indents a new line, and those for the whole text (0.0 unless
+    `is_whole`). The time to start the editor and open the file is subtracted."""
     start, line, whole, nothing = EDITORS[name]
     opened = ["--eval", f'(find-file "{file}")'] if name == "emacs" else [file]
     idle = seconds([*start, *opened, *nothing])

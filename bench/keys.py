@@ -1,5 +1,5 @@
-"""What an editor does while one types, as pairs of conversations: the second does some things more often than the first, so what
-these cost is the difference of both, by how often."""
+"""Conversations that imitate an editor while its user types. They come in pairs: the second one does something `n` more
+times than the first. So the difference of their costs, divided by `n`, is what it costs once."""
 from __future__ import annotations
 
 import random
@@ -26,7 +26,7 @@ def place_of(text: str, at: int) -> tuple[int, int]:
 
 
 def place_after(text: str, pattern: str) -> tuple[int, int]:
-    """The line and the column after the first match in the text's second half."""
+    """Returns the line and column after the first match of `pattern` in the text's second half."""
     middle = len(text) // 2
     return place_of(text, middle + match_of(pattern, text[middle:]).end())
 
@@ -35,18 +35,20 @@ def replaced(line: int, column: int, end: int, new: str, version: int) -> Messag
     return did_change([{"range": extent(f"{line}:{column}-{line}:{end}"), "text": new}], version=version)
 
 
-def in_and_out(text: str, pattern: str, letter: str) -> Longer:
-    """Changes of one letter after a place: it is put in, and then taken out again."""
+def in_and_out(text: str, pattern: str, new: str) -> Longer:
+    """Returns a pair of conversations that insert `new` after the first match in the text's second half and remove it
+    again. The first makes 2 such changes, the second 6."""
     line, column = place_after(text, pattern)
 
     def changes(count: int) -> list[Message]:
-        return [replaced(line, column, column + at % 2, "" if at % 2 else letter, 2 + at) for at in range(count)]
+        return [replaced(line, column, column + at % 2 * len(new), "" if at % 2 else new, 2 + at) for at in range(count)]
 
     return [did_open(text), *changes(2)], [did_open(text), *changes(6)], 4
 
 
 def typed(text: str) -> Longer:
-    """A statement typed letter by letter, after each letter three questions, and taken out again."""
+    """Returns a pair of conversations. In the second, a statement is typed letter by letter, with three requests after
+    each letter, and then removed."""
     line, column = first = place_after(text, r":= [^;\n]*;")
     talk: list[Message] = []
     ident = 10
@@ -65,18 +67,55 @@ def typed(text: str) -> Longer:
 
 
 def with_undeclared_name(text: str) -> str:
-    """The text with an assignment to an undeclared name after its first assignment."""
+    """Returns the text with an assignment to an undeclared name inserted after its first assignment."""
     at = match_of(r":= [^;\n]*;", text).end()
     return f"{text[:at]} Undeclared1 := 1;{text[at:]}"
 
 
-def query(text: str, method: str, params: Message) -> Longer:
+def with_constants(text: str) -> str:
+    """Returns a module of bench/corpus.py with three more constants, and one use of each in its middle."""
+    text = text.replace("  base = 7;", "  base = 7; seven = 7; least = -1; on = TRUE;", 1)
+    middle = len(text) // 2
+    at = middle + match_of(r":= [^;\n]*;", text[middle:]).end()
+    return f"{text[:at]} v1 := seven; v1 := least; b4 := on;{text[at:]}"
+
+
+def query(text: str, method: str, params: Message, times: int = 1) -> Longer:
+    """Returns a pair of conversations: the second asks the same question `times` times."""
     question = request(5, f"textDocument/{method}", {"textDocument": {"uri": URI}, **params})
-    return [did_open(text)], [did_open(text), question], 1
+    return [did_open(text)], [did_open(text), *[question] * times], times
+
+
+def action_at(text: str, at: int) -> Longer:
+    """Returns a pair of conversations: the second asks for code actions at the offset `at` four times."""
+    here = place(*place_of(text, at))
+    return query(text, "codeAction", {"range": {"start": here, "end": here}, "context": {"diagnostics": []}}, 4)
+
+
+def hover_at(text: str, at: int) -> Longer:
+    return query(text, "hover", {"position": place(*place_of(text, at))}, 4)
+
+
+def rows_of_users(text: str) -> Iterator[tuple[str, Longer]]:
+    """Yields named pairs of conversations about the middle of a module of bench/corpus.py: changes at the positions
+    where users type, and requests about names that they read."""
+    yield "  a statement that is the first of its body", in_and_out(text, r"\n *BEGIN", " v1 := 0;")
+    yield "  a statement that is the second of its body", in_and_out(text, r"\n *BEGIN\n *\S+ := [^;\n]*;", " v1 := 0;")
+    yield "  a statement that is the last of its body", in_and_out(text, r"[^\s;](?=\n *END p)", "; v1 := 0")
+    yield "  a letter in a procedure's name", in_and_out(text, r"\n *PROCEDURE p[0-9]+", "q")
+    yield "  a local declaration", in_and_out(text, r"\n +VAR", " q: INTEGER;")
+    with_uses = with_constants(text)
+    for name, word in (("a number", "seven"), ("a negative number", "least"), ("TRUE", "on")):
+        yield f"  code actions on the declaration of {name}", action_at(with_uses, with_uses.index(f" {word} =") + 1)
+        yield f"  code actions on a use of {name}", action_at(with_uses, with_uses.index(f":= {word};") + 3)
+    middle = len(text) // 2
+    yield "  hover on a field", hover_at(text, middle + match_of(r"r[0-9]+\.", text[middle:]).end())
+    yield "  hover on a variable", hover_at(text, middle + match_of(r"\n *v(?=[0-9]+ :=)", text[middle:]).end())
 
 
 def shrinking(count: int, seed: int = 0) -> list[Message]:
-    """Eight documents that are opened and then changed so often, each time to a text of between 100 bytes and 1 MB."""
+    """Returns messages that open eight documents and make `count` changes. Each change replaces the whole text of a
+    random document by a text of between 100 bytes and 1 MB."""
     chance = random.Random(seed)
     texts = [corpus.module(int(100 * 10000 ** (it / 15)), it) for it in range(16)]
     uri: Callable[[int], str] = lambda it: f"file:///{it}"
@@ -85,15 +124,16 @@ def shrinking(count: int, seed: int = 0) -> list[Message]:
 
 
 def emptied(uri: str) -> list[Message]:
-    """A document of 1 MiB of line ends, and a change of one range that leaves 16 bytes."""
+    """Returns messages that open a document of 1 MiB, most of it line ends, and make one change that leaves 16
+    bytes."""
     lines = MIB - 576
     whole = {"range": extent(f"1:0-{lines}:0"), "text": ""}
     return [did_open("MODULE M;" + "\n" * lines + "END M.", uri), did_change([whole], uri)]
 
 
 def made_smaller(uri: str, first: str = "", last: str = "") -> list[Message]:
-    """A document of 1 MiB, and changes that leave 12 of its lines, each less than half as many as the change before. The
-    text `first` is put before all lines at the start, and `last` at the end."""
+    """Returns messages that open a document of 1 MiB and shrink it to 12 lines. Each change leaves less than half as
+    many lines as the previous one. `first` is inserted at the top before these changes, and `last` after them."""
     top = "MODULE M; VAR x:INTEGER; BEGIN\n"
     left = LINES_LEFT[0]
     talk = [did_open(top + "x:=x+1;\n" * left + "END M.", uri)]
@@ -108,7 +148,7 @@ def made_smaller(uri: str, first: str = "", last: str = "") -> list[Message]:
 
 
 def rows() -> Iterator[tuple[str, Longer]]:
-    """Names, and two conversations."""
+    """Yields all measurements: a name, and a pair of conversations."""
     for size in SIZES:
         text = corpus.module(size)
         yield f"a module of {size:,} is opened", ([], [did_open(text)], 1)
@@ -116,9 +156,13 @@ def rows() -> Iterator[tuple[str, Longer]]:
         yield "  a blank more or less", in_and_out(text, r":= [^;\n]*[0-9]", " ")
         yield "  a statement more or less", in_and_out(text, r":= [^;\n]*;", ";")
         yield "  a key typed, with three questions", typed(text)
+        yield from rows_of_users(text)
         faulty = with_undeclared_name(text)
-        yield "  a digit, beside an undeclared name", in_and_out(faulty, r":= [^;\n]*[0-9]", "1")
-        yield "  a statement, beside an undeclared name", in_and_out(faulty, r":= [^;\n]*;", ";")
+        yield "  a digit, with an undeclared name", in_and_out(faulty, r":= [^;\n]*[0-9]", "1")
+        yield "  a statement, with an undeclared name", in_and_out(faulty, r":= [^;\n]*;", ";")
+    records = corpus.records("variables", 40000)
+    yield "hover on a field, after 40,000 variables of records", hover_at(records, records.rindex(".a") + 1)
+    yield "a statement, after 20,000 names with one ending", in_and_out(corpus.many(20000, "ending"), "BEGIN [^;]*;", ";")
     uses = corpus.uses(100000, False)
     yield "references, 100,000 places", query(uses, "references", {"context": {"includeDeclaration": True}, "position": place(0, 18)})
     yield "rename, 100,000 places", query(uses, "rename", {"newName": "y", "position": place(0, 18)})
@@ -127,5 +171,5 @@ def rows() -> Iterator[tuple[str, Longer]]:
 
 
 def conversation(messages: list[Message]) -> list[Message]:
-    """A conversation that begins and ends as it has to."""
+    """Returns the messages of a whole conversation: `initialize`, these messages, `shutdown` and `exit`."""
     return [initialize(**LITERALS), *messages, request(9999, "shutdown"), {"jsonrpc": "2.0", "method": "exit"}]

@@ -42,7 +42,7 @@ def part_of(name: str) -> str:
 
 
 def counted(messages: List[Message]) -> Dict[str, int]:
-    """The instructions of a conversation, by the parts."""
+    """Returns the instructions of a conversation for each part of the server."""
     with tempfile.TemporaryFile() as file:
         file.write(frames(keys.conversation(messages)))
         file.seek(0)

@@ -24,19 +24,21 @@ Rows = List[Tuple[str, List[float]]]
 
 
 def region(heading: str) -> re.Pattern[str]:
-    """Returns the text under a heading: a paragraph, and then the plot and the table, or a line that says that they are missing."""
+    """Returns a pattern that matches the section under a heading: a paragraph, then the plot and the table, or a line
+    that says that they are missing."""
     return re.compile(rf"(## {re.escape(heading)}\n\n(?:[^\n]+\n)+\n)(Not counted yet[^\n]*\n|!\[[^\n]*\n\n(?:\|[^\n]*\n)+)")
 
 
 def rows_of(page: str, heading: str) -> tuple[list[str], Rows]:
-    """The heads and the rows of the table under a heading: a name, and numbers. None if there is no table."""
+    """Returns the column heads and the rows (a name and numbers) of the table under a heading. Both are empty if the
+    page has no table there."""
     text = common.match_of(region(heading).pattern, page)[2].partition("\n\n")[2]
     lines = [[it.strip() for it in line.strip("|").split("|")] for line in text.splitlines()]
     return lines[0] if lines else [], [(cells[0], [float(it.replace(",", "")) for it in cells[1:]]) for cells in lines[2:]]
 
 
 def in_words(value: float) -> str:
-    """A power of ten as a number that is read at a glance."""
+    """Writes a power of ten in a form that is easy to read, for example "10 M"."""
     for unit, word in ((1e9, " G"), (1e6, " M"), (1e3, " k")):
         if value >= unit:
             return f"{value / unit:g}{word}"
@@ -44,12 +46,14 @@ def in_words(value: float) -> str:
 
 
 def scale(low: float, high: float, first: float, last: float) -> Callable[[float], float]:
-    """Returns the place of a number between the places of two powers of ten."""
+    """Returns a function that maps a number to a coordinate, on a logarithmic scale. It maps 10**low to `first` and
+    10**high to `last`."""
     return lambda value: first + (math.log10(value) - low) / (high - low) * (last - first)
 
 
 def plot_of_keys(page: str) -> str:
-    """Instructions by the size of the text, both by powers of ten: a line for each change, and one for reading from scratch."""
+    """Draws the instructions against the text's size, both on logarithmic scales, with a line for each row of the
+    table. Returns the picture as SVG."""
     heads, rows = rows_of(page, KEYS)
     sizes = [float(it.replace(",", "").split()[0]) for it in heads[1:] if it.endswith("bytes")]
     values = [(name, found[: len(sizes)]) for name, found in rows]
@@ -77,7 +81,7 @@ def plot_of_keys(page: str) -> str:
 
 
 def apart(heights: list[float], least: float) -> list[float]:
-    """Heights near the given ones, in their order, that are so far apart at least."""
+    """Returns these coordinates, moved so that neighbours are at least `least` apart, in the same order."""
     found = list(heights)
     order = sorted(range(len(found)), key=found.__getitem__)
     for before, at in zip(order, order[1:]):
@@ -86,7 +90,8 @@ def apart(heights: list[float], least: float) -> list[float]:
 
 
 def plot_of_runs(page: str) -> str:
-    """For each program two bars: how many instructions ob0 takes for each one of Lua's, and of Python's."""
+    """Draws two bars for each program: how many instructions ob0 executes for each one of Lua's, and of Python's.
+    Returns the picture as SVG."""
     heads, rows = rows_of(page, RUNS)
     others = [it.partition(" by ")[2] for it in heads if " by " in it]
     values = [(name, found[-len(others) :]) for name, found in rows]
@@ -114,6 +119,6 @@ def plot_of_runs(page: str) -> str:
 
 
 def drawn_of(page: str) -> dict[str, str]:
-    """Each plot by its file's name; none if the page has no figures yet."""
+    """Returns each plot as SVG by its file's name. Plots whose tables are missing on the page are left out."""
     made = {KEYS: plot_of_keys, RUNS: plot_of_runs}
     return {PLOTS[heading][0]: plot(page) for heading, plot in made.items() if rows_of(page, heading)[1]}

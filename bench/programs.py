@@ -627,7 +627,8 @@ main()
 
 
 def calls(count: int) -> str:
-    """A program of Oberon-0 that makes this many calls (a multiple of 1,000), one after the other, and writes how many."""
+    """Returns an Oberon-0 program that makes `count` calls (a multiple of 1,000), one after another, and writes their
+    number."""
     return f"""MODULE Many;
 VAR i, j, made: INTEGER;
 PROCEDURE Count(n: INTEGER; VAR made: INTEGER);
@@ -646,7 +647,8 @@ END Many.
 
 
 def open_calls(depth: int, turns: int) -> str:
-    """A program that has this many calls open at a time, this often, each with 16,384 cells, and writes how many it made."""
+    """Returns an Oberon-0 program that nests `depth` calls, each with an array of 16,384 cells, and does so `turns`
+    times. It writes how many calls it made."""
     return f"""MODULE Deep;
 VAR i, made: INTEGER;
 PROCEDURE Down(n: INTEGER; VAR made: INTEGER);
@@ -661,7 +663,7 @@ END Deep.
 
 
 def numbers_out(count: int) -> str:
-    """A program of Oberon-0 that writes this many numbers (a multiple of 1,000), of one digit each."""
+    """Returns an Oberon-0 program that writes `count` one-digit numbers (a multiple of 1,000)."""
     return f"""MODULE Out;
 VAR i, j: INTEGER;
 BEGIN

@@ -1,12 +1,12 @@
 #!/usr/bin/env python3
-"""Counts instructions, and writes what it finds into docs/PERFORMANCE.md: tables, the plots that are drawn from them, and what they were
-counted with.
+"""Counts instructions, and writes docs/PERFORMANCE.md: its tables, their plots, and the versions of the tools.
 
-  bench/report.py           counts on bin/ob0 (or on the program that the variable OB0 names), and writes the page and the plots
+  bench/report.py           counts for bin/ob0 (or the program in the variable OB0), and writes the page and the plots
   bench/report.py --plots   draws the plots from the page's tables
 
-Instructions are counted by callgrind, of valgrind: the same program and the same input have the same count each time, on every machine
-with the same C library. The programs beside ob0 are Debian's lua5.4 and python3. What a program takes to start is taken away."""
+Valgrind's callgrind counts the instructions. The same program and the same input have the same count each time, on
+every machine with the same C library. The other programs are Debian's lua5.4 and python3. The instructions of a
+program's start are subtracted."""
 from __future__ import annotations
 
 import os
@@ -20,7 +20,7 @@ sys.dont_write_bytecode = True
 HERE = os.path.dirname(os.path.abspath(__file__))
 sys.path[:0] = [HERE, os.path.join(os.path.dirname(HERE), "tests", "lib")]
 
-from harness import BINARY, TOP, frames  # noqa: E402 (it says where the scripts are)
+from harness import BINARY, TOP, frames  # noqa: E402 (it puts the folders of scripts on the path)
 
 import common  # noqa: E402
 import corpus  # noqa: E402
@@ -34,14 +34,15 @@ PAGE = os.path.join(TOP, "docs", "PERFORMANCE.md")
 COUNTED = re.compile(r"(## What they were counted with\n\n).*?(?=\n## |\Z)", re.S)
 SIZES = keys.SIZES
 Table = Dict[str, List[int]]
-# what is changed at a place in the middle of a text: the place is after the first match in the second half
+# each change: a pattern, after whose first match in the second half of the text it is made, and the text that comes and
+# goes
 CHANGES = {
     "a blank in or out": (r":= [^;\n]*[0-9]", " "),
     "a digit in or out": (r":= [^;\n]*[0-9]", "1"),
     "a statement in or out": (r":= [^;\n]*;", ";"),
 }
 SCRATCH, TYPED = "read from scratch", "a key typed, with hover, definition and code actions"
-BESIDE = {"Lua": "/usr/bin/lua5.4", "Python": "/usr/bin/python3"}
+OTHERS = {"Lua": "/usr/bin/lua5.4", "Python": "/usr/bin/python3"}
 
 
 def said(name: str, counts: list[int]) -> None:
@@ -53,7 +54,8 @@ def conversed(messages: list[Message]) -> int:
 
 
 def of_keys() -> Table:
-    """For each change its instructions, by the size of the text; and those of reading the text from scratch."""
+    """Returns the table of instructions for each kind of change and for reading the text from scratch, by the text's
+    size."""
     found: Table = {name: [] for name in (SCRATCH, *CHANGES, TYPED)}
     nothing = conversed([])
     for size in SIZES:
@@ -70,8 +72,9 @@ def of_keys() -> Table:
 
 
 def of_runs() -> Table:
-    """For each program its instructions in ob0, in Lua and in Python."""
-    words = [[BINARY, "run"], [BESIDE["Lua"]], [BESIDE["Python"], "-I", "-S"]]
+    """Returns how many instructions each program takes in ob0, in Lua and in Python, without those that starting
+    takes."""
+    words = [[BINARY, "run"], [OTHERS["Lua"]], [OTHERS["Python"], "-I", "-S"]]
     nothing = [counting.instructions_on_file(it, text) for it, text in zip(words, ("MODULE M; END M.\n", "", ""))]
     found: Table = {}
     for name, texts in programs.PROGRAMS.items():
@@ -89,7 +92,7 @@ def table(heads: list[str], rows: list[list[str]]) -> str:
 
 
 def times(whole: int, part: int) -> str:
-    """How many times a count is another one, with two digits at least."""
+    """Formats the ratio of two counts with at least two digits."""
     return f"{whole / part:,.0f}" if whole >= 10 * part else f"{whole / part:.2g}"
 
 
@@ -100,7 +103,7 @@ def table_of_keys(found: Table) -> str:
 
 
 def table_of_runs(found: Table) -> str:
-    heads = ["Program", "ob0", *BESIDE, *(f"ob0 by {it}" for it in BESIDE)]
+    heads = ["Program", "ob0", *OTHERS, *(f"ob0 by {it}" for it in OTHERS)]
     rows = [[name, *(f"{it:,}" for it in counts), *(times(counts[0], it) for it in counts[1:])] for name, counts in found.items()]
     return table(heads, rows)
 
@@ -111,27 +114,28 @@ def version_of(words: list[str], pattern: str) -> str:
 
 
 def processor() -> str:
-    """The kind of this machine's processor."""
+    """Returns the model name of this machine's processor."""
     with open("/proc/cpuinfo", encoding="utf-8", errors="replace") as file:
         return common.match_of(r"model name\s*: (.*)", file.read())[1].strip()
 
 
 def counted_with() -> str:
-    """A list of what the figures were counted with."""
+    """Returns a Markdown list of what the figures were counted with: the program, the machine, and the versions of the
+    tools."""
     is_proved = os.path.abspath(BINARY) == common.BINARY and common.is_current()
     kind = "the proved program" if is_proved else "**not the proved program** of these sources"
     lines = {
         "ob0": f"{kind}; the sum of its sources is `{common.sum_of(common.sources(common.below('ob0')))}`",
         "the machine": f"x86-64 Linux, {processor()}",
         "valgrind": version_of(["valgrind", "--version"], r"valgrind-(\S+)"),
-        "Lua": version_of([BESIDE["Lua"], "-v"], r"Lua (\S+)"),
-        "Python": version_of([BESIDE["Python"], "--version"], r"Python (\S+)"),
+        "Lua": version_of([OTHERS["Lua"], "-v"], r"Lua (\S+)"),
+        "Python": version_of([OTHERS["Python"], "--version"], r"Python (\S+)"),
     }
     return "".join(f"- {name}: {text}\n" for name, text in lines.items())
 
 
 def with_table(page: str, heading: str, new: str) -> str:
-    """The page with a plot and a table under a heading."""
+    """Returns the page with the plot and the table under a heading replaced."""
     name, title = plots.PLOTS[heading]
     region = plots.region(heading)
     common.match_of(region.pattern, page)
@@ -144,7 +148,7 @@ def page_now() -> str:
 
 
 def draw() -> None:
-    """Draws the plots from the page's tables."""
+    """Draws the plots from the page's tables, and writes them to docs/pictures."""
     for name, drawn in plots.drawn_of(page_now()).items():
         with open(os.path.join(TOP, "docs", "pictures", name), "w", encoding="utf-8") as file:
             file.write(drawn)
@@ -153,7 +157,7 @@ def draw() -> None:
 def main(words: List[str]) -> int:
     if words != ["--plots"]:
         # (one that is compiled to be tried checks each access, and can't be counted)
-        missing = [it for it in ("valgrind", *BESIDE.values(), BINARY) if not shutil.which(it)]
+        missing = [it for it in ("valgrind", *OTHERS.values(), BINARY) if not shutil.which(it)]
         if missing:
             common.stop(f"{', '.join(missing)} is missing: on Debian `apt-get install valgrind lua5.4 python3`, and `make build`")
         page = with_table(page_now(), plots.KEYS, table_of_keys(of_keys()))

@@ -1,12 +1,12 @@
 #!/usr/bin/env python3
-"""Times bin/ob0 and prints what it finds; nothing fails by time.
+"""Times bin/ob0 and prints the times; nothing fails because of a time.
 
-  bench/run.py [WORD..]   the measurements whose names hold one of the words; with no word all of them
+  bench/run.py [WORD..]   all measurements, or those with one of the words in the name
 
-The peak memory that docs/ROBUSTNESS.md has goes into tools/figures.txt, with which a test compares that page.
+The peak memory of docs/ROBUSTNESS.md is written to tools/figures.txt; a test compares it with that page.
 
-The variable BESIDE may name another program with the same commands. Then runs, keys and the largest messages are also measured
-with that one."""
+If the variable OTHER_OB0 is the path of another program with the same commands, runs, keys, questions,
+readings of files, memory and the largest messages are also measured with that one."""
 from __future__ import annotations
 
 import ctypes
@@ -31,7 +31,7 @@ import keys  # noqa: E402
 from harness import BINARY, EXIT, SHUTDOWN, did_change, did_open, extent, frame, frames, initialize, place, request  # noqa: E402
 import figures  # noqa: E402
 from common import match_of  # noqa: E402
-from counting import instructions_of_conversation, lacks  # noqa: E402
+from counting import instructions_of_conversation, instructions_on_file, lacks  # noqa: E402
 from framing import Incoming, Message  # noqa: E402
 
 MIB = 1 << 20
@@ -40,7 +40,7 @@ MEASURES: List[Tuple[str, Callable[[], None]]] = []
 
 
 def measure(name: str) -> Callable[[Callable[[], None]], Callable[[], None]]:
-    """Makes a function a measurement under this name."""
+    """Returns a decorator that registers a function as the measurement with this name."""
 
     def take(function: Callable[[], None]) -> Callable[[], None]:
         MEASURES.append((name, function))
@@ -58,7 +58,7 @@ def megabytes(count: float) -> str:
 
 
 def memory_of(pid: int, kind: str) -> int:
-    """Returns the memory of a process that /proc lists under this name, or 0 if the process has ended."""
+    """Returns the memory in bytes that /proc/PID/status lists as `kind`, or 0 if the process has ended."""
     try:
         with open(f"/proc/{pid}/status", encoding="ascii", errors="replace") as file:
             found = re.search(kind + r":\s+(\d+)", file.read())
@@ -68,17 +68,18 @@ def memory_of(pid: int, kind: str) -> int:
 
 
 def memory_now(pid: int) -> int:
-    """The resident memory of a process."""
+    """Returns the resident memory of a process in bytes, or 0 if it has ended."""
     return memory_of(pid, "VmRSS")
 
 
 def peak_until_now(pid: int) -> int:
-    """The peak memory of a process."""
+    """Returns the peak memory of a process so far in bytes, or 0 if it has ended."""
     return memory_of(pid, "VmHWM")
 
 
 def watch(pid: int, peak: list[int]) -> None:
-    """Keeps the peak memory of a process, which it reads each millisecond (wait4 would also count its parent's)."""
+    """Stores the peak memory of a process in `peak[0]` each millisecond, until the process ends. (wait4 would also
+    count its parent's memory.)"""
     while found := peak_until_now(pid):
         peak[0] = found
         time.sleep(0.001)
@@ -93,8 +94,8 @@ def trace(what: int, pid: int = 0, given: int = 0) -> None:
 
 
 def peak_of(words: list[str], given: IO[bytes], cwd: str | None) -> int:
-    """The peak memory of a run that is stopped at its end and read there: for runs that are too short to watch. 0 if
-    this system lets nobody stop a process."""
+    """Returns the peak memory of a run. The process is traced and stopped just before it exits, and its peak is read
+    then, because polling would miss so short a run. Returns 0 if the system doesn't permit tracing."""
     given.seek(0)
     how: dict[str, Any] = {"stdin": given, "stdout": subprocess.DEVNULL, "stderr": subprocess.DEVNULL, "cwd": cwd}
     process = subprocess.Popen(words, preexec_fn=lambda: trace(TRACE_ME), **how)
@@ -112,8 +113,8 @@ def peak_of(words: list[str], given: IO[bytes], cwd: str | None) -> int:
 
 
 class Timed:
-    """A run of a command on bytes as its standard input: seconds, seconds on a processor, peak memory in bytes,
-    what it wrote."""
+    """Runs a command with these bytes as its standard input, and records its wall-clock time, CPU time, peak memory,
+    status and output."""
 
     def __init__(self, words: list[str], given: bytes, cwd: str | None = None) -> None:
         peak = [0]
@@ -138,30 +139,33 @@ class Timed:
 
 
 def best(count: int, run: Callable[[], Timed]) -> Timed:
-    """Returns the quickest of some runs, by the time on a processor, because other programs may run here."""
+    """Returns the fastest of `count` runs, judged by CPU time, because other programs may be running."""
     return min((run() for _ in range(count)), key=Timed.on_processor)
 
 
 def conversed(messages: list[Message], program: str = BINARY) -> Timed:
-    """The quickest of three conversations with these messages and an end."""
+    """Runs a conversation with these messages, followed by `shutdown` and `exit`, three times. Returns the fastest
+    run."""
     given = frames([*messages, SHUTDOWN, EXIT])
     return best(3, lambda: Timed([program, "serve"], given))
 
 
 def place_in_the_middle(text: str) -> tuple[int, int]:
-    """Returns the line and column of a place in the middle of a text at which a blank changes nothing."""
+    """Returns the line and column of the first `(` in the text's second half. A blank inserted there changes no
+    token."""
     middle = text.index("(", len(text) // 2)
     return text.count("\n", 0, middle), middle - (text.rfind("\n", 0, middle) + 1)
 
 
 def letter_at(text: str, version: int) -> Message:
-    """A change of one letter in the middle of a text."""
+    """Returns a didChange that inserts a blank in the middle of a text."""
     line, column = place_in_the_middle(text)
     return did_change([{"range": extent(f"{line}:{column}-{line}:{column}"), "text": " "}], version=version)
 
 
 def letters_at(text: str, count: int) -> Message:
-    """This many changes in one notification: in the middle of a text a blank is put in, then taken out, and so on."""
+    """Returns a didChange with `count` changes, which insert a blank in the middle of a text and remove it again by
+    turns."""
     line, column = place_in_the_middle(text)
     put = {"range": extent(f"{line}:{column}-{line}:{column}"), "text": " "}
     take = {"range": extent(f"{line}:{column}-{line}:{column + 1}"), "text": ""}
@@ -187,7 +191,8 @@ def served() -> None:
 
 
 def opened(text: str, times: int) -> Cost:
-    """Time on a processor for one open of a text through `serve`, over this many of them, and the peak memory."""
+    """Returns the CPU time of opening a text once, averaged over `times` openings in one conversation, and the peak
+    memory."""
     empty = frames([initialize(), SHUTDOWN, EXIT])
     given = frames([initialize(), *(did_open(text, version=at) for at in range(times)), SHUTDOWN, EXIT])
     found, nothing = best(3, lambda: Timed([BINARY, "serve"], given)), best(3, lambda: Timed([BINARY, "serve"], empty))
@@ -195,8 +200,8 @@ def opened(text: str, times: int) -> Cost:
 
 
 def ratios(what: str, rows: list[tuple[int, float, int]]) -> None:
-    """Prints how time on a processor and peak memory grew between the last two of some rows of a text's length, seconds and
-    memory (from 100 KB to 1 MiB, if these are the sizes), and both by the growth of the length."""
+    """Prints how CPU time and peak memory grew between the last two rows, and the ratio of each to the growth of the
+    text. Each row contains a text's length, seconds, and bytes of memory."""
     (small, first, low), (large, last, high) = rows[-2:]
     grew = large / small
     said(f"{what}: time grew by {last / first:.1f}, and the text by {grew:.1f}", f"ratio {last / first / grew:.2f}")
@@ -207,7 +212,8 @@ def ratios(what: str, rows: list[tuple[int, float, int]]) -> None:
 
 
 def growth(what: str, sizes: list[int], make: Callable[[int], str], each: Callable[[str, int], Cost]) -> None:
-    """Prints time on a processor, bytes a second and memory for growing sizes, and the ratios of the last to the one before it, by size."""
+    """Measures texts of growing sizes. Prints CPU time, throughput and memory for each, and how they grew between the
+    last two."""
     rows = []
     for size in sizes:
         text = make(size)
@@ -227,7 +233,8 @@ def growing() -> None:
 
 
 def changed(text: str, times: int) -> Cost:
-    """Time on a processor for one change of a letter, over this many of them after an opening, and the peak memory."""
+    """Returns the CPU time of changing one letter, averaged over `times` changes after the text is opened, and the peak
+    memory."""
     changes = [letter_at(text, version) for version in range(2, 2 + times)]
     start = [initialize(), did_open(text)]
     found, opening = conversed([*start, *changes]), conversed(start)
@@ -241,7 +248,7 @@ def changing() -> None:
 
 @measure("serve: 100 faults at the end of a module, from 10 KB to 1 MiB")
 def faulty() -> None:
-    """What an opening costs; each fault is a truth value that is assigned to an integer."""
+    """Measures how a module with 100 errors is opened. Each error assigns a BOOLEAN to an INTEGER variable."""
 
     def make(size: int) -> str:
         faults = ["x:=TRUE"] * 100
@@ -252,7 +259,7 @@ def faulty() -> None:
 
 
 class Talk:
-    """A server in conversation, one message at a time; replies are awaited and not read as JSON."""
+    """A running server. Messages are sent to it one at a time; each reply is awaited, but its JSON isn't parsed."""
 
     def __init__(self, text: str, **capabilities: Any) -> None:
         self.process = subprocess.Popen([BINARY, "serve"], stdin=subprocess.PIPE, stdout=subprocess.PIPE, bufsize=0)
@@ -277,12 +284,12 @@ class Talk:
             left = left[self.given.write(left) :]
 
     def used(self) -> float:
-        """The milliseconds that the server was on a processor."""
+        """Returns the CPU time of the server so far, in milliseconds."""
         with open(f"/proc/{self.process.pid}/schedstat", encoding="ascii") as file:
             return int(file.read().split()[0]) / 1e6
 
     def take(self) -> bytes:
-        """The content of the next message."""
+        """Waits for the server's next message, and returns its content. Raises EOFError if the server ends."""
         while (content := self.incoming.take()) is None:
             came = os.read(self.out.fileno(), MIB)
             if not came:
@@ -291,7 +298,8 @@ class Talk:
         return content
 
     def after(self, message: Message) -> tuple[float, bytes]:
-        """Returns the reply to a message, and the seconds from the message's first byte to the reply's last one."""
+        """Sends a message and waits for the reply. Returns the seconds from the message's first byte to the reply's
+        last one, and the reply."""
         given = frame(message)
         start = time.monotonic()
         self.send(given)
@@ -300,7 +308,7 @@ class Talk:
 
 
 def spread(taken: Iterable[float]) -> str:
-    """The least, the middle and the most of some seconds, as milliseconds."""
+    """Formats the least, the median and the greatest of these seconds as milliseconds."""
     taken = sorted(taken)
     return ", ".join(f"{1000 * taken[at]:.1f}" for at in (0, len(taken) // 2, -1))
 
@@ -325,17 +333,18 @@ def changed_often() -> None:
                 said(f"{name}, {count:,} changes: seconds to the diagnostics", f"{talk.after(letters_at(text, count))[0]:.3f}")
 
 
-def on_file(words: list[str], text: str, given: bytes = b"", times: int = 3) -> Timed:
-    """A run of the program on a file with this text: the quickest of this many."""
+def on_file(words: list[str], text: str, given: bytes = b"", times: int = 3, program: str = BINARY) -> Timed:
+    """Runs a command on a file with this text `times` times, and returns the fastest run."""
     with tempfile.TemporaryDirectory() as room:
         with open(os.path.join(room, "m.mod"), "w", encoding="utf-8") as file:
             file.write(text)
-        return best(times, lambda: Timed([BINARY, words[0], "m.mod", *words[1:]], given, cwd=room))
+        return best(times, lambda: Timed([program, words[0], "m.mod", *words[1:]], given, cwd=room))
 
 
 @measure("parse: a module that ends too early, compared with one that has a bad character at its end")
 def parsed() -> None:
-    """If a module ends too early, nothing after the parser begins; if the scanner reports a fault, the parser doesn't begin."""
+    """Measures the parser. If a module ends too early, nothing after the parser starts; if the scanner reports a fault,
+    the parser doesn't start. So the difference is the parser's cost."""
 
     def compare(sizes: list[int], **how: Any) -> None:
         rows = []
@@ -368,6 +377,46 @@ def checked() -> None:
     growth("procedures inside one another", [10, 50, 100], corpus.nest, each)
 
 
+@measure("check: whole modules, and 40,000 names with one ending: instructions, and time on a processor")
+def read_beside() -> None:
+    """Measures how `check` reads large modules. If OTHER_OB0 is set, its milliseconds and instructions are printed
+    after ours."""
+    texts = {f"a module of {size:,} bytes": corpus.module(size) for size in (10_000, 100_000, MIB - 1000)}
+    texts["40,000 names in one declaration"] = corpus.many(40_000, "one")
+    texts["40,000 names with one ending in one declaration"] = corpus.many(40_000, "ending")
+    for name, text in texts.items():
+        found = [on_file(["check"], text, program=it) for it in programs_compared()]
+        if any(it.status for it in found):
+            said("NOTE: the module isn't well-typed", found[0].out[:200].decode(errors="replace"))
+        counted = [] if lacks("valgrind") else [float(instructions_on_file([it, "check"], text)) for it in programs_compared()]
+        said(name, side_by_side([1000 * it.processor for it in found], "9.3f", " ms") + side_by_side(counted, "15,.0f", ""))
+
+
+@measure("memory: texts of nearly 1 MiB that take most of it")
+def memory_beside() -> None:
+    """Prints the peak memory of `check`, of `serve` with one document, and what a second document adds. If OTHER_OB0 is
+    set, its peaks are printed after ours."""
+    texts = {
+        "890 types of records, 90 deep": corpus.nested_records(890, 90),
+        "a record with 48,000 fields of records": corpus.records("fields", 48_000),
+        "48,000 variables of records": corpus.records("variables", 48_000),
+        "48,000 types of records": corpus.records("types", 48_000),
+        "`x:=x=x`, 149,000 times": corpus.repeated("BOOLEAN", "x:=x=x", 149_000),
+        "`x:=-(-x)`, 116,000 times": corpus.repeated("INTEGER", "x:=-(-x)", 116_000),
+        "`x:=~~..~x` of 99 signs, 10,000 times": corpus.repeated("BOOLEAN", "x:=" + "~" * 99 + "x", 10_000),
+        "1,048,000 empty statements": corpus.repeated("BOOLEAN", "", 1_048_000),
+    }
+    for name, text in texts.items():
+        parts = []
+        for program in programs_compared():
+            one, two = ([did_open(text, f"file:///{at}") for at in range(count)] for count in (1, 2))
+            checked, first, both = on_file(["check"], text, program=program), conversed([initialize(), *one], program), conversed([initialize(), *two], program)
+            if checked.status:
+                said("NOTE: the module isn't well-typed", checked.out[:200].decode(errors="replace"))
+            parts.append(f"{megabytes(checked.memory)}, {megabytes(first.memory)}, {megabytes(both.memory - first.memory)}")
+        said(f"{name}: {len(text):,} bytes", "; ".join(parts))
+
+
 @measure("check: 50,000 declarations in one block")
 def large_block() -> None:
     def each(text: str, count: int) -> Cost:
@@ -381,8 +430,8 @@ def large_block() -> None:
 
 
 def cost_of_query(text: str, method: str, params: Message, expected: bytes, count: int, **capabilities: Any) -> Cost:
-    """Returns the cost of a request through `serve` without the opening: time on a processor, and the peak memory. The answer
-    must hold the expected bytes so often."""
+    """Returns the CPU time of a request, without opening the document, and the peak memory. Prints a note unless the
+    output contains `expected` exactly `count` times."""
     question = request(5, f"textDocument/{method}", {"textDocument": {"uri": "file:///m"}, **params})
     start = [initialize(**capabilities), did_open(text)]
     without, found = conversed(start), conversed([*start, question])
@@ -398,7 +447,8 @@ COUNTS, OF_A_FIELD = [17000, 170000], [12500, 125000]
 
 @measure("large: the largest input, compared with half of it")
 def largest() -> None:
-    """A ratio of 1 is a cost that grows with the size. The program's start is subtracted."""
+    """Measures the largest accepted inputs and inputs of half the size. A ratio of 1 means that the cost grows in
+    proportion to the size. The cost of starting the program is subtracted."""
     import largest_inputs
 
     nothing = best(3, lambda: Timed([BINARY, "serve"], frames([initialize(), SHUTDOWN, EXIT]))).processor
@@ -425,13 +475,14 @@ def place_of(text: str, at: int) -> Message:
 
 
 def middle_name(text: str) -> int:
-    """Returns the place, after the middle of a text, of a number that a statement on its own line assigns to a variable."""
+    """Returns the offset, after the middle of a text, of a variable that a statement assigns to."""
     middle = len(text) // 2
     return middle + match_of(r"(?<=[\n ])v[0-9]+ := [^;\n]*;", text[middle:]).start()
 
 
 def questions_at(text: str) -> dict[str, tuple[str, Message]]:
-    """The questions of an editor at a name in the middle of a text, and a hover at the sign after it."""
+    """Returns the requests that an editor makes about a name in the middle of a text, by name, and a hover between two
+    tokens."""
     at = middle_name(text)
     known, here = {"textDocument": {"uri": "file:///m"}}, place_of(text, at)
     between = place_of(text, text.index(":=", at) + 1)
@@ -448,8 +499,8 @@ def questions_at(text: str) -> dict[str, tuple[str, Message]]:
 
 @measure("questions: at one name in the middle, from 10 KB to 1 MiB")
 def questions_in_the_middle() -> None:
-    """Time on a processor of one question of many about an open document, and its instructions: by both, it should cost its
-    answer and not the text."""
+    """Measures the CPU time and the instructions of one request about an open document. Both should grow with the
+    answer, and not with the text."""
     many, few = 200, 20
     for size in (10_000, 100_000, MIB - 1000):
         text = corpus.module(size)
@@ -472,8 +523,8 @@ def questions_in_the_middle() -> None:
 
 
 def type_statement(talk: Talk, text: str) -> list[tuple[float, float]]:
-    """Types a statement into the middle of a text, key by key, each with the questions that editors ask then. Returns for each key
-    milliseconds on a processor and by the clock."""
+    """Types a statement into the middle of a text, and sends the requests that editors send after each key. Returns the
+    CPU time and the wall-clock time of each key in milliseconds."""
     at = text.index(";", middle_name(text)) + 1
     known, found = {"textDocument": {"uri": "file:///m"}}, []
     typed = "\n  IF (1 < 2) & TRUE THEN WriteLn END;"
@@ -503,7 +554,8 @@ def typed() -> None:
 
 @measure("typing: changes that leave a text ill-typed, compared with changes that don't")
 def left_ill_typed() -> None:
-    """What makes a number a truth value is put in and taken out again, and so is what leaves it a number."""
+    """Inserts `TRUE & ` before a number and removes it again, so that the text is ill-typed every other time. Does the
+    same with `1 * `, which keeps it well-typed."""
     for size in (10_000, 100_000, MIB - 1000):
         text = corpus.module(size)
         at = text.index(" := ", middle_name(text)) + 4
@@ -532,7 +584,8 @@ def many_documents() -> None:
 
 @measure("questions: hovers in several documents of 1 MB, one after another")
 def questions_in_turn() -> None:
-    """Four of the longest are kept: with one more each question reads a whole text again."""
+    """Asks about several documents, one after another. The server keeps the four longest analyses, so with a fifth
+    document each request analyses a whole text from scratch."""
     text = corpus.module(MIB - 1000)
     here = place_of(text, middle_name(text))
     for count in (1, 2, 4, 5):
@@ -548,7 +601,8 @@ def questions_in_turn() -> None:
 
 @measure("serve: documents of 1 MB that become a comment that isn't closed")
 def commented_out() -> None:
-    """A text without lexemes keeps at most as much as it counts for: both lines are about the same."""
+    """Compares the peak memory for 1 and for 40 documents of 1 MiB whose text was replaced by an unclosed comment. Both
+    should be about equal, because a text without lexemes keeps little memory."""
     text = corpus.module(MIB - 1000)
     with Talk(text) as talk:
         talk.after(did_change("(*"))
@@ -562,7 +616,8 @@ def commented_out() -> None:
 
 @measure("serve: documents that each become one character: of 8 KB a bad one, of 100 KB a name")
 def one_character() -> None:
-    """The parts kept for the text before also count, or there are none: the lines of each are about the same."""
+    """Compares the peak memory for growing numbers of documents that were replaced by one character. The figures should
+    be about equal, because the parts that are kept of a previous text are counted or freed."""
     for letter, size, counts in (("$", 8_000, (500, 1000, 2000)), ("x", 100_000, (100, 200, 400))):
         text = corpus.module(size)
         with Talk(text) as talk:
@@ -576,7 +631,8 @@ def one_character() -> None:
 
 @measure("serve: documents of 1 MB that are made smaller")
 def made_smaller() -> None:
-    """Each list gives its room back or counts with it: 64 documents hold about as much as 8, whatever they were before."""
+    """Measures the memory of 8 and of 64 documents that were made much smaller. Both should be about equal, because
+    each list frees its memory or is counted with it."""
     kinds: dict[str, Callable[[str], list[Message]]] = {
         "modules in all steps": keys.made_smaller,
         "refused by the parser in all steps": lambda uri: keys.made_smaller(uri, first="x:=;\n"),
@@ -614,8 +670,8 @@ def renamed() -> None:
 
 
 def halves(what: str, cost: Callable[[int, int], Cost], first: int, second: int) -> None:
-    """Prints what a pair of sizes costs, and its ratio from half of either: 1 is a cost that grows with only that size, 0.5 one
-    that doesn't grow with it. A product of both sizes would be 1 each way."""
+    """Prints what a pair of sizes costs, and the ratio of this cost to twice the cost when one size is halved. The
+    ratio is 1 for a size to which the cost is proportional, and 0.5 for one on which it doesn't depend."""
     whole, memory = cost(first, second)
     by_first, by_second = cost(first // 2, second)[0], cost(first, second // 2)[0]
     said(f"{what}, {first:,} and {second:,}", f"{whole:7.3f} s, ratios {whole / by_first / 2:.2f} and {whole / by_second / 2:.2f}; {megabytes(memory)}")
@@ -631,7 +687,8 @@ def renamed_to_a_long_name() -> None:
 
 
 def cost_of_changes(changes: int, lines: int, line_of: Callable[[int], int], program: str = BINARY) -> Cost:
-    """Returns the cost of one notification without the opening: change number `at` is in line `line_of(at)` of this many."""
+    """Returns the CPU time of one notification with `changes` changes, without opening the document, and the peak
+    memory. Change number `at` is in line `line_of(at)` of `lines` lines."""
     text = "MODULE M; VAR x: INTEGER; BEGIN\n" + "x:=x+1;\n" * lines + "END M.\n"
     replaced = [{"range": extent(f"{1 + line_of(at)}:0-{1 + line_of(at)}:1"), "text": "x"} for at in range(changes)]
     start = [initialize(), did_open(text)]
@@ -647,20 +704,22 @@ def changed_on_each_line() -> None:
 
 @measure("serve: changes that alternate between the first line and the last in one notification, compared with half of both")
 def changed_at_both_ends() -> None:
-    """Each moves the starts of all lines between. If BESIDE names another program, its time is also printed."""
+    """Measures changes that alternate between the first and the last line. Each moves the starts of all lines between
+    them. If OTHER_OB0 is set, its time is printed also."""
 
     def cost(changes: int, lines: int, program: str = BINARY) -> Cost:
         return cost_of_changes(changes, lines, lambda at: at % 2 * (lines - 1), program)
 
     halves("alternating changes, and lines", cost, 16_000, 128_000)
-    if os.environ.get("BESIDE"):
-        seconds, _ = cost(16_000, 128_000, os.environ["BESIDE"])
+    if os.environ.get("OTHER_OB0"):
+        seconds, _ = cost(16_000, 128_000, os.environ["OTHER_OB0"])
         said("alternating changes, other program", f"{seconds:7.3f} s, ratio {cost(16_000, 128_000)[0] / seconds:.2f}")
 
 
 @measure("serve: a replace-all in one long line in one notification, compared with half of the changes and half of the line")
 def replaced_in_one_line() -> None:
-    """Each place is counted from the one before it, in either order."""
+    """Measures many changes in one line, from first to last and from last to first. The server finds each position by
+    counting from the previous one."""
 
     def cost(changes: int, statements: int, turned: bool) -> Cost:
         text = "MODULE M; VAR x: INTEGER; BEGIN\n" + "x:=x+1;" * statements + "\nEND M.\n"
@@ -676,7 +735,8 @@ def replaced_in_one_line() -> None:
 
 @measure("serve: one message of 16 MiB, compared with one of 8")
 def largest_message() -> None:
-    """If BESIDE names another program, its time and its peak memory are also printed."""
+    """Measures the largest messages that the server reads. If OTHER_OB0 is set, its time and peak memory are printed
+    also."""
 
     def each(one: bytes, size: int, program: str = BINARY) -> Cost:
         content = b"[" + (one + b",") * ((size - 3) // (len(one) + 1)) + b"0]"
@@ -690,15 +750,16 @@ def largest_message() -> None:
         (half, low), (whole, high) = each(one, 8 * MIB), each(one, 16 * MIB - 64)
         said(f"a message of {name}", f"{whole:7.3f} s, ratio {whole / half / 2:.2f}; {megabytes(high)}, of half of it {megabytes(low)}")
         peaks[f"one message: {name}"] = f"16 MiB of {name} | {high / MIB:,.0f} MiB"
-        if os.environ.get("BESIDE"):
-            seconds, memory = each(one, 16 * MIB - 64, os.environ["BESIDE"])
+        if os.environ.get("OTHER_OB0"):
+            seconds, memory = each(one, 16 * MIB - 64, os.environ["OTHER_OB0"])
             said(f"a message of {name}, other program", f"{seconds:7.3f} s  {megabytes(memory)}  ratios {whole / seconds:.2f} and {high / memory:.2f}")
     figures.keep(peaks, BINARY)
 
 
 @measure("rename: from the request to the end of its answer, on 1 MiB")
 def rename_answered() -> None:
-    """By the clock, with the document open: a name that is in a module here and there, and one that is all of the text."""
+    """Measures the time until a rename is answered while the document is open: for a name that is used in several
+    places, and for one that fills the text."""
 
     def whole(name: str, text: str, line: int, character: int, old: str, new: str) -> None:
         question = request(5, "textDocument/rename", {"newName": new, "position": place(line, character), "textDocument": {"uri": "file:///m"}})
@@ -725,7 +786,8 @@ def field_renamed() -> None:
 
 @measure("inline: a constant that is used all over 100 KB and 1 MB")
 def inlined() -> None:
-    """At the declaration Inline everywhere is offered, at a use both actions are: the last one, at the text's end."""
+    """Measures code actions at a constant's declaration, which offers *Inline everywhere*, and at its last use, which
+    offers both actions."""
 
     def at(text: str, where: int) -> Message:
         here = place_of(text, where)
@@ -752,29 +814,41 @@ def laid_out() -> None:
         return max(found.processor - without.processor, 1e-4), found.memory
 
     def wide(size: int) -> str:
-        """A module on one line with this many blanks between its words that its layout isn't longer than it is."""
+        """Returns a module on one line whose tokens are separated by so many blanks that the formatted text isn't
+        longer."""
         return corpus.module(size * 39 // 100, on_line=True).replace(" ", " " * 5).ljust(size)
 
     growth("layout of a module of", [100000, 900000], corpus.module, each)
     growth("layout of a module on one line of", [100000, MIB], wide, each)
 
 
+def programs_compared() -> list[str]:
+    """Returns the path of our program, followed by the path in OTHER_OB0 if that is set."""
+    return [it for it in (BINARY, os.environ.get("OTHER_OB0")) if it]
+
+
+def side_by_side(values: list[float], form: str, unit: str) -> str:
+    """Formats the values of our program and of the other one, and their ratio if there are two."""
+    line = "".join(format(it, form) for it in values) + unit
+    return line + (f" (ratio {values[0] / values[1]:.2f})" if values[1:] else "")
+
+
 @measure("keys: what an editor does while one types: instructions, and time on a processor")
 def keys_typed() -> None:
-    """If BESIDE names another program, its instructions are printed after ours."""
-
-    programs = [it for it in (BINARY, os.environ.get("BESIDE")) if it]
+    """Measures what each keystroke and request of bench/keys.py costs. If OTHER_OB0 is set, its milliseconds and
+    instructions are printed after ours."""
     counts = lacks("valgrind") is None
     if not counts:
         said("instructions", f"not counted: {lacks('valgrind')}")
     for name, (short, long, count) in keys.rows():
         less, more = (frames(keys.conversation(it)) for it in (short, long))
-        one, other = (best(3, functools.partial(Timed, [BINARY, "serve"], given)).processor for given in (less, more))
-        line = f"{max(other - one, 1e-5) / count * 1000:9.3f} ms"
-        if counts:
-            taken = [(instructions_of_conversation(it, more) - instructions_of_conversation(it, less)) / count for it in programs]
-            line += "".join(f"  {it:14,.0f}" for it in taken) + (f"  ratio {taken[0] / taken[1]:.2f}" if taken[1:] else "")
-        said(name, line)
+        taken, counted = [], []
+        for program in programs_compared():
+            one, other = (best(3, functools.partial(Timed, [program, "serve"], given)).processor for given in (less, more))
+            taken.append(max(other - one, 1e-5) / count * 1000)
+            if counts:
+                counted.append((instructions_of_conversation(program, more) - instructions_of_conversation(program, less)) / count)
+        said(name, side_by_side(taken, "9.3f", " ms") + side_by_side(counted, "15,.0f", ""))
 
 
 @measure("keys: eight documents that grow and shrink between 100 bytes and 1 MB: peak memory")
@@ -786,7 +860,8 @@ def grown_and_shrunk() -> None:
 
 
 def instructions(words: list[str], file: str) -> str:
-    """Returns how many instructions a command on a file takes, as valgrind counts them, or why it can't."""
+    """Returns how many instructions a command executes on a file, as text. If valgrind is missing or counts nothing,
+    the text says so."""
     if missing := lacks("valgrind"):
         return f"skipped: {missing}"
     counted = ["valgrind", "--tool=callgrind", "--callgrind-out-file=/dev/null", *words, file]
@@ -799,7 +874,7 @@ def instructions(words: list[str], file: str) -> str:
 def ran() -> None:
     import programs
 
-    compared = os.environ.get("BESIDE")
+    compared = os.environ.get("OTHER_OB0")
     missing = {command: lacks(command) for command in ("lua5.4", "python3")}
     for name, (text, lua, python) in programs.PROGRAMS.items():
         found = on_file(["run"], text)
@@ -825,7 +900,7 @@ def ran() -> None:
 
 
 def output_of(text: str, wanted: int) -> Timed:
-    """A run that has to write this number."""
+    """Runs a program once, and returns the run. Prints a note unless the output is exactly the number `wanted`."""
     found = on_file(["run"], text, times=1)
     if found.status or found.out != b" %d\n" % wanted:
         said("NOTE: another output was expected", f"status {found.status}, {found.out[:100]!r}")
@@ -849,7 +924,8 @@ def flat() -> None:
 
 @measure("run: memory by the numbers that are written")
 def numbers() -> None:
-    """Nothing is written before a run's end: so its output is stored."""
+    """Measures programs that write many numbers. Nothing is written before a run ends, so the output is held in
+    memory."""
     import programs
 
     def of(count: int) -> Timed:

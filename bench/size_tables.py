@@ -1,8 +1,6 @@
-"""What bench/sizes.py counts: things that are defined more than once, the parts that keep an analysis over a change, and the
-functions that look for a body.
-
-A line of a table names a folder or a file, and then what is counted in it. `CRATE/src: FILE..` means whole files, and
-`CRATE/src/FILE: NAME..` functions (in `specs` and `proofs` definitions and lemmas). Lines and names are sorted."""
+"""The tables of bench/sizes.py: things that are defined more than once, the code that only serves to keep an analysis
+over a change, and the functions that search for a procedure's body. `CRATE/src: FILE..` in a table means whole files,
+and `CRATE/src/FILE: NAME..` functions (in `specs` and `proofs` definitions and lemmas). Lines and names are sorted."""
 from __future__ import annotations
 
 # Things that are defined more than once, each with the names of its definitions or functions. A name that doesn't exist isn't
@@ -18,8 +16,8 @@ CONCEPTS = {
     "relations of a changed body": "AreBindingsBeforeBodyChange AreBindingsBeforeBodyReplacement",
 }
 
-# What would go if every text were analysed from scratch. A file is counted as a whole if that is true of nearly all its lines.
-# With a file of code, and with a function, the folder of its proofs is counted.
+# The parts that wouldn't exist if every text were analysed from scratch. A file is counted as a whole if that is true
+# of nearly all its lines. With a file of code, and with a function, the folder of its proofs is counted.
 KEPT = """
 ob0_analysis/proofs: GivenBack LastModule NewBody NoBegin OneBody Pieces Ways WiderRange
 ob0_analysis/specs: BodyAfterFirstIdentifier LastModule OneBody ReuseConditions

@@ -15,13 +15,13 @@ are counted by a rule.
 
 Which parts only keep an analysis is a judgement. We read each crate with the question which functions, definitions
 and lemmas would go if every text were analysed from scratch, and looked up who cites them. Types aren't counted, nor
-lemmas that other proofs also cite. If a name in that table doesn't exist, the script names it, and fails. For another
+lemmas that other proofs also cite. If a name in that table doesn't exist, the script prints it, and fails. For another
 tree it prints the missing names and counts the rest; if that tree has its own bench/size_tables.py, the script uses
 the tables in it.
 
 A function reaches the functions that it calls by name. A method's name stands for all methods of that name, except
-methods of types that no reached function names. So the counts are upper bounds. The script needs the toolchain, which
-cuts the sources into words, but no built program."""
+methods of types that no reached function mentions. So the counts are upper bounds. The script needs the toolchain,
+which cuts the sources into words, but no built program."""
 from __future__ import annotations
 
 import functools
@@ -53,7 +53,7 @@ source = functools.lru_cache(None)(Source)
 
 @functools.lru_cache(None)
 def lines_in(path: str) -> list[str]:
-    """Returns the lines of a file, or none if there is no such file."""
+    """Returns the lines of a file, or an empty list if it doesn't exist."""
     if not os.path.exists(path):
         return []
     with open(path, encoding="utf-8") as file:
@@ -65,7 +65,7 @@ def path_of(*steps: str) -> str:
 
 
 def files_in(*steps: str) -> list[str]:
-    """Returns the files in a folder of a crate, or none if there is no such folder."""
+    """Returns the paths of all files below a folder of a crate, or an empty list if it doesn't exist."""
     return [os.path.join(at, it) for at, _, names in os.walk(path_of(*steps)) for it in names]
 
 
@@ -74,20 +74,23 @@ def is_comment(line: str) -> bool:
 
 
 def functions_of(entry: Entry) -> list[Function]:
-    """Returns the functions of a file that have an entry's name."""
+    """Returns the functions in an entry's file that have the entry's name. (A method's name can occur more than
+    once.)"""
     crate, _, file, name = entry
     return [it for it in source(crate).functions if it.file == f"src/{file}.rt" and it.name == name]
 
 
 def definition(lines: list[str], name: str) -> range:
-    """Returns which lines have a definition or lemma: those around its first one, up to empty lines."""
+    """Returns the range of lines of the first definition or lemma with this name, up to the surrounding empty lines.
+    The range is empty if there is none."""
     begins = re.compile(rf" *(?:(?:abbrev|unfoldable|pub|record|data) )*{re.escape(name)}(?![\w-])")
     empty = [-1, *(at for at, line in enumerate(lines) if not line.strip()), len(lines)]
     return next((range(low + 1, high) for low, high in zip(empty, empty[1:]) if any(map(begins.match, lines[low + 1 : high]))), range(0))
 
 
 def lines_of(entry: Entry) -> set[tuple[str, int]]:
-    """Returns the lines of an entry, and of its proofs if it is code, as paths and indexes. Returns none if it doesn't exist."""
+    """Returns the lines of a table's entry as pairs of a path and an index. If the entry is code, its proofs are
+    included. The set is empty if the entry doesn't exist."""
     crate, part, file, name = entry
     path = path_of(crate, part, file + (".rt" if part == "src" else ".antt"))
     lines = lines_in(path)
@@ -104,7 +107,7 @@ def lines_of(entry: Entry) -> set[tuple[str, int]]:
 
 
 def entries(table: str, missing: list[str]) -> list[Entry]:
-    """Returns what a table names and the sources have. Appends the other names to `missing`."""
+    """Returns the entries of a table that exist in the sources. Appends the names of the others to `missing`."""
     found: List[Entry] = []
     for where, _, names in (line.partition(": ") for line in table.split("\n")):
         crate, part, file = [*where.split("/", 2), "", ""][:3]
@@ -118,7 +121,7 @@ def entries(table: str, missing: list[str]) -> list[Entry]:
 
 
 class Calls:
-    """The functions of the crates below the session's server, and which of them each one calls."""
+    """The functions of the server's crate and of the crates that it depends on, and which of them each one calls."""
 
     def __init__(self, listed: dict[str, list[str]]) -> None:
         crates = [it for it in common.below(SERVER, listed) if os.path.isdir(path_of(it))]
@@ -135,7 +138,7 @@ class Calls:
                 self.types.setdefault(words[at + 1].text, set()).update(inside)
 
     def called(self, function: Function) -> Iterator[list[Function]]:
-        """Returns for each call in a function the functions that it may mean."""
+        """Yields, for each call in a function, the functions that it may refer to."""
         words = function.words
         for at, word in enumerate(words):
             is_called = words[at + 1 : at + 2] == ["("] or words[at + 1 : at + 4] == [":", ":", "<"]
@@ -143,7 +146,8 @@ class Calls:
                 yield self.meant(function, words[:at], self.named[word])
 
     def meant(self, function: Function, before: list[str], named: list[Function]) -> list[Function]:
-        """Returns the functions of a name that a call may mean, by the words before the name."""
+        """Selects, from the functions in `named`, the ones that a call may refer to, judged by the words before the
+        name."""
         crate = function.crate
         if before[-1] == ".":
             methods = [it for it in named if it.owner and (it.trait or it.crate in self.below[crate])]
@@ -159,7 +163,8 @@ class Calls:
         return near or [it for it in free if it.crate == crate or it.name in self.imported[crate]]
 
     def types_in(self, words: Iterable[str], known: set[str]) -> set[str]:
-        """Returns the known types, those that the words name, and those in the declarations of these."""
+        """Returns the set `known`, extended by the types that occur in `words` and, repeatedly, by those in their
+        declarations."""
         found, waiting = {*known}, [*words]
         while waiting:
             word = waiting.pop()
@@ -169,7 +174,7 @@ class Calls:
         return found
 
     def reached(self, start: set[Function], without: set[Function]) -> set[Function]:
-        """Returns the functions that those of `start` can reach, but not through those of `without`."""
+        """Returns the functions that `start` can reach without passing through `without`."""
         found: Set[Function] = set()
         types = self.types_in([STORE], set())
         # (the end of a scope calls `drop`, and `?` calls `from`)
@@ -190,7 +195,7 @@ def row(name: str, cells: Iterable[object], rest: str = "") -> None:
 
 
 def text_in(path: str) -> list[str]:
-    """Returns the lines of a file that aren't empty, no comments and no imports."""
+    """Returns the lines of a file, without empty lines, comments and imports."""
     return [line for line in lines_in(path) if not NO_TEXT.match(line)]
 
 
@@ -199,7 +204,8 @@ def tokens_in(crate: str, part: str) -> int:
 
 
 def print_tokens(crates_of: dict[str, list[str]], missing: list[str]) -> None:
-    """Prints the tokens of text of each room, and of the crates in it."""
+    """Prints the number of tokens in each group of crates, and in each crate of the group. Appends crates that don't
+    exist to `missing`."""
     row("tokens of text", [*PARTS, "all"])
     total = [0] * len(PARTS)
     for name, crates in crates_of.items():
@@ -215,34 +221,37 @@ def print_tokens(crates_of: dict[str, list[str]], missing: list[str]) -> None:
 
 
 def antt_files(*parts: str) -> list[str]:
-    """Returns the files of these parts of all crates."""
+    """Returns the files in these folders (such as `specs`) of all crates."""
     return [path for crate in os.listdir(path_of()) for part in parts for path in files_in(crate, part)]
 
 
 @functools.lru_cache(None)
 def joined_text(path: str) -> str:
-    """Returns the text of a file of definitions or proofs, with types and right sides that continue on one line."""
+    """Returns the text of a file of definitions or proofs without comments. A type or right side that continues on the
+    next line is joined into one line."""
     return re.sub(r"(?<= =)\n +|\n +(?=[→×])", " ", "\n".join(text_in(path)))
 
 
 @functools.lru_cache(None)
 def clauses_in(path: str) -> dict[str, list[tuple[str, str]]]:
-    """Returns the clauses of each definition and lemma of a file by its name, each as its patterns and its right side."""
+    """Returns the clauses of each definition and lemma in a file, by name. A clause is a pair of its patterns and its
+    right side."""
     found: Dict[str, List[Tuple[str, str]]] = {}
-    for clause in re.finditer(r"^ *([\w'-]+) (.*?) =(?: (.*))?$", joined_text(path), re.M):
+    for clause in re.finditer(r"^ *([\w'-]+) (?!=)(.*?) =(?: (.*))?$", joined_text(path), re.M):
         found.setdefault(clause[1], []).append((clause[2], clause[3] or ""))
     return found
 
 
 def constructors() -> set[str]:
-    """Returns the constructors of the syntax trees."""
+    """Returns the names of the constructors of the syntax tree."""
     lines = lines_in(path_of("ob0_tree", "specs", "Tree.antt"))
     lines = [lines[at] for at in definition(lines, "Tree")]
     return {it[1] for it in (re.match(r"  (\w+) :", line) for line in lines) if it}
 
 
 def names_with_each_constructor() -> list[str]:
-    """Returns the definitions and lemmas that have a clause for at least nine tenths of the constructors."""
+    """Returns the names of the definitions and lemmas that have a clause for at least nine tenths of the syntax tree's
+    constructors."""
     known = constructors()
     found = [
         (name, {word for patterns, _ in clauses for word in TOKEN.findall(patterns)} & known)
@@ -253,14 +262,15 @@ def names_with_each_constructor() -> list[str]:
 
 
 def definitions_over_a_block() -> list[str]:
-    """Returns the lines of definitions whose type mentions a block, or that are records over one."""
+    """Returns the lines that declare a definition or a record whose type mentions a block."""
     lines = [line for path in antt_files("specs") for line in joined_text(path).split("\n")]
     tree = "|".join(constructors())
     return [line for line in lines if re.search(r"Tree \S+ block\b(?!_)", line) and not re.match(rf"  ({tree}) : ", line)]
 
 
 def is_predicate_of_each(name: str, path: str) -> bool:
-    """Returns whether a definition has two clauses: Unit for the empty list, and a product with itself for a longer one."""
+    """Returns whether a definition says that a predicate holds for each item of a list. It has two clauses: Unit for
+    the empty list, and a product that contains itself for a longer one."""
     clauses = clauses_in(path)[name]
     empty = [right for patterns, right in clauses if "[]" in patterns]
     longer = [right for patterns, right in clauses if "∷" in patterns and "[]" not in patterns]
@@ -273,9 +283,12 @@ def is_predicate_of_each(name: str, path: str) -> bool:
 
 
 def print_concepts(by_name: dict[str, str], crates: int) -> None:
-    """Prints how often the sources define one thing, and what a new production touches."""
-    declared = re.compile(r"^ *(?:\w+ )*(?:(?:record|data) ([\w'-]+)\b|([\w'-]+) : )", re.M)
-    words = {it[1] or it[2] for path in antt_files("specs", "proofs") for it in declared.finditer(joined_text(path))}
+    """Prints, for each concept, how many definitions state it, and how many definitions and files a new production of
+    the grammar would change."""
+    # (a part of a record has a type, as a definition does, but no clause)
+    types = re.compile(r"^ *(?:\w+ )*(?:record|data) ([\w'-]+)\b", re.M)
+    words = {it[1] for path in antt_files("specs", "proofs") for it in types.finditer(joined_text(path))}
+    words |= {name for path in antt_files("specs", "proofs") for name in clauses_in(path)}
     words |= {it.name for crate in os.listdir(path_of()) for it in source(crate).functions}
     for concept, names in by_name.items():
         found = [it for it in names.split() if it in words]
@@ -292,7 +305,7 @@ def print_concepts(by_name: dict[str, str], crates: int) -> None:
 
 
 def print_kept(table: str, missing: list[str]) -> None:
-    """Prints for each crate the lines that only keep an analysis over a change."""
+    """Prints, for each crate, how many lines only serve to keep an analysis over a change."""
     lines = {line for entry in entries(table, missing) for line in lines_of(entry)}
     where = [os.path.relpath(path, path_of()).split(os.sep)[:2] for path, _ in lines]
     row("kept over a change", [*PARTS, "all"])
@@ -303,7 +316,8 @@ def print_kept(table: str, missing: list[str]) -> None:
 
 
 def print_reached(tables: dict[str, Any], listed: dict[str, list[str]], missing: list[str]) -> None:
-    """Prints what a didChange reaches. Then does so for two changes, with their searches, unless a name for them is missing."""
+    """Prints how many functions a didChange can reach. Does the same for two special changes, with their calls that
+    search for the changed body, unless a name in their tables is missing."""
     calls = Calls(listed)
     start = {it for it in source(SERVER).functions if "did_change" in it.words}
     missing += [] if start else [f"a function of crates/{SERVER} that calls did_change"]
@@ -327,7 +341,8 @@ def main(words: List[str]) -> int:
         common.stop(f"{folders[0]} has no folder crates")
 
     def with_file(*steps: str) -> str:
-        """Returns the first folder that has a file: a tree may be exported in part."""
+        """Returns the first of the folders that contains this file, because a tree may have been exported only in
+        part."""
         return next(it for it in folders if os.path.exists(os.path.join(it, *steps)))
 
     named = [os.path.join(it, "bench", "size_tables.py") for it in (TOP, with_file("bench", "size_tables.py"))]

@@ -35,7 +35,8 @@ CALLED = re.compile(r"cfn=(.*)|calls=(\d+)")
 
 
 def wrapper(room: str) -> str:
-    """The path of a script that runs the program under callgrind. The counts of each run are in a separate file."""
+    """Writes a script that runs the program under callgrind, and returns its path. Each run leaves its counts in a
+    separate file."""
     program = os.path.abspath(os.environ.get("OB0") or os.path.join(TOP, "bin", "ob0"))
     callgrind = f"valgrind --quiet --tool=callgrind --compress-strings=no --callgrind-out-file='{room}/%p.calls'"
     path = os.path.join(room, "counted")
@@ -46,7 +47,7 @@ def wrapper(room: str) -> str:
 
 
 def calls_in(path: str) -> Counter[str]:
-    """Returns how often each of the counted functions was called in a run."""
+    """Returns how often a run called each of the functions in COUNTED."""
     found: Counter[str] = collections.Counter()
     name = ""
     with open(path, encoding="utf-8", errors="replace") as lines:
@@ -60,7 +61,8 @@ def calls_in(path: str) -> Counter[str]:
 
 
 def converse_all(count: int, room: str) -> tuple[Counter[str], list[Counter[str]]]:
-    """Makes the changes. Returns how many were of which kind by their texts, and the calls in each run of a server that got changes."""
+    """Makes `count` random changes. Returns how many changes were of each kind, and the calls that each server counted.
+    Servers that got no changes are left out."""
     os.environ["OB0"] = wrapper(room)
     import random_changes  # pylint: disable=import-outside-toplevel  # (the tests read OB0 when they are loaded)
 
