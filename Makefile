@@ -28,7 +28,7 @@
 #   make bench          measures the program, and writes docs/PERFORMANCE.md with its plots
 #   make surface        writes bin/SURFACE.md (crates, functions, mutants), and counts in README.md
 #   make statement      writes docs/STATEMENT.md, and bin/DEFINITIONS.md with all other definitions
-#   make pictures       draws README's picture of an editor, and those of docs/ARCHITECTURE.md
+#   make pictures       draws the pictures of README (an editor) and docs/ARCHITECTURE.md
 #   make editors        installs the editors and tools of the end-to-end tests, by apt-get.
 #                       RELEASE=trixie runs the editors' tests on another Debian, as root
 PREFIX ?= /usr/local
@@ -36,7 +36,7 @@ PYTHON ?= python3
 # A recipe reads these from the environment, so that no shell expands them.
 export PREFIX DESTDIR
 
-.PHONY: help demo test build check editors try end-to-end faults wrong-bodies surface statement bench pictures package vsix install uninstall python
+.PHONY: help demo test build check editors try end-to-end faults wrong-bodies surface statement bench pictures package vsix place install uninstall python
 
 help:
 	@sed -n '/^#/!q; s/^# \{0,1\}//p' Makefile
@@ -88,7 +88,11 @@ package: build
 vsix: python
 	@$(PYTHON) tools/package.py vsix
 
-install: build
+# (looks before anything is built whether the folders can be made)
+place: python
+	@$(PYTHON) tools/package.py place "$$PREFIX" "$$DESTDIR"
+
+install: place build
 	@$(PYTHON) tools/package.py install "$$PREFIX" "$$DESTDIR"
 
 uninstall: python

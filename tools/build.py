@@ -1,18 +1,17 @@
 #!/usr/bin/env python3
-"""Proves crates, lowest first, over what earlier checks kept in crates/*/out.
-
-  tools/build.py           the program's crates; builds the program too, and leaves it as bin/ob0
-  tools/build.py --check   all crates and their tests; builds no program, and runs no test
-
-It says which crate is being proved, how many are left and the time so far. If a crate isn't proved, a build ends. With --check the
-crates that don't need it are proved, and the last line names those that weren't proved. A program that is up to date is left as it
-is, and so is a crate that was proved here of the same sources, over the same crates below, by the same kit. With --check it says of
-each crate how many modules were loaded and how many proved again; a crate is left too where nothing changed that its proofs have
-read of those below: each proof that is kept says at its head which modules the checker saw for it, and each module of a library a
-sum over what it says, comments apart. What is kept is trusted, so this is not the gate.
-
-Two runs of rt in one tree wait for each other if they depend on the same crate. So each crate is proved in a tree of
-its own, a room: a copy of its sources, and of each crate below hard links to its sources and its proved library."""
+"""Proves crates, each after the crates that it depends on, and reuses the work that earlier checks kept in
+crates/*/out.
+  tools/build.py           proves the program's crates, and builds bin/ob0
+  tools/build.py --check   proves all crates and their tests; builds no program, and runs no test
+It prints which crate is being proved, how many are left, and the time so far. If a proof fails, a build ends. --check
+continues with the crates that don't need the failed one; its last line lists the failures. A crate is skipped if it was
+proved here by the same toolchain, from the same sources, with the same sources of the crates that it depends on.
+--check also skips a crate if nothing changed in those crates that its proofs have read. To know that, it reads the
+heads of kept files: a kept proof lists the modules that the checker read for it, and a module of a library contains a
+checksum of its statements without comments. --check also prints how many modules of each crate were loaded and how many
+were proved again. Kept work is trusted, so `make test` is still needed. Two runs of rt in one tree wait for each other
+if they depend on the same crate. So each crate is proved in a separate folder of bin/rooms. It contains a copy of the
+crate's sources, and hard links to the sources and the proved library of each crate that it depends on."""
 from __future__ import annotations
 
 import hashlib
@@ -34,11 +33,11 @@ from common import TOP, BINARY
 
 STEP = 15  # seconds between two lines about a crate that takes long
 ROOMS = os.path.join(TOP, "bin", "rooms")
-# What rattle makes of a function's body and of its proof, by the last part of a module's name: no crate above can name these. (A
-# program and the tests see the code of all that they reach, and TheLink: what their last line says of that is left to the gate.)
+# The last parts of the names of modules that rattle makes from a function's body or its proof. No crate above can name
+# these. (A program and the tests also see TheLink and the code that they reach; the gate checks that.)
 OF_BODIES = frozenset({"Code", "Mir", "Layout", "Lts", "View", "Given", "Goals", "Named", "Proof", "Tie", "TheLink"})
-# How each line begins that the checker writes at the head of what it keeps of a module, and how many bytes of a module's head have
-# the sum over what it says.
+# The beginning of each line that the checker writes at the head of a kept module, and the number of bytes that contain
+# the sum over the module's statements.
 HEAD, CONTENT = b"--@ ", 2048
 
 
@@ -47,8 +46,8 @@ def processors() -> int:
 
 
 def lanes() -> int:
-    """How many crates are proved side by side: one for each processor, and one for each 3.5 GB of free memory (a check takes 1 to
-    3 GB)."""
+    """Returns how many crates to prove at the same time: one for each processor, but at most one for each 3.5 GB of
+    free memory. (A check takes 1 to 3 GB.)"""
     free = os.sysconf("SC_PAGE_SIZE") * os.sysconf("SC_PHYS_PAGES")
     try:
         with open("/proc/meminfo", encoding="ascii") as file:
@@ -60,7 +59,7 @@ def lanes() -> int:
 
 
 def link(old: str, new: str) -> None:
-    """Makes a hard link, or a copy if it can't be linked."""
+    """Makes a hard link to a file, or a copy if linking fails."""
     try:
         os.link(old, new)
     except OSError:
@@ -68,12 +67,13 @@ def link(old: str, new: str) -> None:
 
 
 def chain(name: str, named: dict[str, list[str]]) -> int:
-    """How many crates are one above the other over this one, at most."""
+    """Returns the length of the longest chain of crates that depend on this one."""
     return max((1 + chain(it, named) for it in named if name in named[it]), default=0)
 
 
 def furnish(room: str, name: str, named: dict[str, list[str]]) -> None:
-    """Makes a room for a crate: its sources, and the crates below with their proved libraries."""
+    """Creates the folder in which a crate is proved: its sources, and the crates that it depends on, with their proved
+    libraries."""
     shutil.rmtree(room, ignore_errors=True)
     os.makedirs(os.path.join(room, "crates"))
     shutil.copy2(os.path.join(TOP, "HANDLES"), room)
@@ -88,8 +88,8 @@ def furnish(room: str, name: str, named: dict[str, list[str]]) -> None:
 
 
 def link_tree(old: str, new: str, without: list[str]) -> None:
-    """A folder of hard links to what another folder has. (`rt` follows no symbolic links. There are about 300 files a library, so
-    nothing is done here that needn't be.)"""
+    """Creates a folder of hard links to the files of another folder, leaving out some names. (`rt` follows no symbolic
+    links. A library contains about 300 files, so this has to be fast.)"""
     os.makedirs(new)
     for it in os.scandir(old):
         if it.name in without:
@@ -101,8 +101,8 @@ def link_tree(old: str, new: str, without: list[str]) -> None:
 
 
 def command(name: str, named: dict[str, list[str]], is_check: bool) -> list[str]:
-    """What proves a crate: where others rest on it, its library is made too, and of the program an executable where that is
-    wanted."""
+    """Returns the command that proves a crate. The command also builds the library that other crates need, or the
+    program."""
     if name == "ob0" and not is_check:
         return ["rt", "run", "--", "--help"]
     if any(name in below for below in named.values()):
@@ -111,8 +111,8 @@ def command(name: str, named: dict[str, list[str]], is_check: bool) -> list[str]
 
 
 class Sums:
-    """Of each crate sums over what its proof rests on: its sources, what it names, the kit, and of the crates below either all of
-    their sources or what its proofs have read of them."""
+    """Computes checksums of everything that a crate's proof depends on: its sources, its line of crates.txt, the
+    toolchain, and either all sources of the crates that it depends on or the parts that its proofs have read."""
 
     def __init__(self, named: dict[str, list[str]]) -> None:
         self.named, self.lines, self.kit = named, common.listed(), common.kit()
@@ -129,7 +129,8 @@ class Sums:
         return self.sum_over(name, lambda it: self.own[it])
 
     def of_read(self, name: str) -> str:
-        """Returns None if a library below is missing, or if it isn't known what the crate's proofs have read."""
+        """Returns the checksum of everything that the crate's proofs have read. Returns "" if that isn't known, or if a
+        library is missing."""
         for it in common.below(name, self.named)[:-1]:
             if it not in self.shown:
                 self.shown[it] = Shown.by(it)
@@ -142,13 +143,15 @@ class Sums:
         return self.sum_over(name, lambda it: self.own[it] if it == name else self.shown_to(it, of_crate.get(it, [])))
 
     def shown_to(self, name: str, seen: list[str]) -> tuple[str, list[tuple[str, str]]]:
-        """What a crate shows to one whose proofs have seen these modules of it."""
+        """Returns checksums of these modules of a crate and of its interface, for the proofs of another crate that read
+        them."""
         shown = self.shown[name]
         return (shown.face, [(it, shown.contents.get(it, "")) for it in seen]) if shown else ("", [])
 
 
 def marks(names: list[str]) -> list[tuple[str, int, int]]:
-    """When the sources of crates were last written, and their sizes: by these it is seen that something was written meanwhile."""
+    """Returns the modification times and sizes of the sources of these crates. If they differ after a proof, somebody
+    edited the sources meanwhile."""
     stats = [(it, os.stat(it)) for it in common.sources(names)]
     return [(it, found.st_mtime_ns, found.st_size) for it, found in stats]
 
@@ -158,16 +161,16 @@ def library_of(name: str) -> str:
 
 
 class Shown(NamedTuple):
-    """What a library shows to the crates above: a sum over what the compiler reads of it, and by the names of its modules a sum over
-    what each says, as the checker has worked it out. (It works out one over the names and types of a module too, its `exports`,
-    which stays where the body of a definition changes: so it is of no use here.)"""
+    """Checksums of the parts of a library that other crates can read. `face` covers the files that the compiler reads;
+    `contents` has the checker's checksum of each module. (The checker's `exports`, a checksum of names and types, can't
+    be used: it doesn't change with the body of a definition.)"""
 
     face: str
     contents: dict[str, str]
 
     @classmethod
     def by(cls, name: str) -> Shown | None:
-        """Returns None if a crate has no library, or one of another form."""
+        """Reads a crate's built library. Returns None if it doesn't exist or can't be read."""
         library = library_of(name)
         files = []
         for part in ("interface", "below"):
@@ -189,7 +192,8 @@ class Shown(NamedTuple):
 
 
 def said_at_head(lines: Iterable[bytes], word: str) -> list[str]:
-    """What the lines with this word say at the head of a module that the checker keeps; no line after the head is read."""
+    """Returns the texts that follow this word in the header of a kept module. Reads no further than the line after the
+    header."""
     found, begin = [], HEAD + word.encode() + b" "
     for line in lines:
         if not line.startswith(HEAD):
@@ -200,7 +204,8 @@ def said_at_head(lines: Iterable[bytes], word: str) -> list[str]:
 
 
 def crate_of(module: str) -> str:
-    """The crate of a module by the checker's name of it, as `Rattle-ob0_text-specs.Texts`."""
+    """Returns the crate's name in the checker's name of a module, such as `Rattle-ob0_text-specs.Texts`. Returns "" if
+    there is none."""
     found = re.match(r"Rattle-(\w+)", module)
     return found[1] if found else ""
 
@@ -210,8 +215,8 @@ def seen_path(name: str) -> str:
 
 
 def keep_seen(name: str, below: list[str]) -> None:
-    """Keeps which modules of the crates below the checker saw for the proofs of a crate, by what is kept of them, but for what it
-    makes of bodies."""
+    """Writes the list of the modules of other crates that the checker read for a crate's proofs. Modules that it makes
+    from functions' bodies are left out. The kept proofs contain these names."""
     seen = {"none"}
     for at, _, names in os.walk(os.path.join(TOP, "crates", name, "out", "incremental")):
         for it in names:
@@ -223,8 +228,8 @@ def keep_seen(name: str, below: list[str]) -> None:
 
 
 class Proved:
-    """What is kept of a crate that was proved: `proved` in its folder of kept work says of which sources, by which command, with
-    which library, and over what it read of the crates below."""
+    """The record in crates/NAME/out/proved that a crate was proved: the command, the checksum of the sources, the
+    library's stamp, and the checksum of the parts of other crates that its proofs have read."""
 
     def __init__(self, name: str, words: list[str], sum_of_all: str, rests: list[str]) -> None:
         self.name, self.words, self.sum, self.rests = name, words, sum_of_all, rests
@@ -236,33 +241,36 @@ class Proved:
 
     @property
     def text(self) -> str:
-        """Returns the text to print first if the crate is up to date."""
+        """Returns the text with which `out/proved` begins if the crate is up to date."""
         return "\n".join([" ".join(self.words), self.sum, text_of(self.library), ""])
 
     @property
     def library(self) -> str:
-        """The stamp of the library, by which `rt` knows of which sources it is."""
+        """Returns the path of the library's stamp, in which `rt` records the library's sources."""
         return os.path.join(TOP, "crates", self.name, "out", "rlib", "stamp")
 
     def is_current(self) -> bool:
-        """Whether the crate was proved so; where others rest on it, its library has to be there."""
+        """Returns whether the crate was proved from the present sources. If other crates need its library, the library
+        must also exist."""
         has_library = os.path.isdir(library_of(self.name)) and text_of(self.library)
         return text_of(self.path).startswith(self.text) and bool(has_library or self.words[1] != "lib")
 
     def has_read(self, read: str) -> bool:
-        """Whether the crate was proved so over what it would read now."""
+        """Returns whether the crate was last proved by the same command, and its proofs read parts of other crates with
+        this checksum."""
         lines = text_of(self.path).split("\n")
         return bool(read) and len(lines) > 3 and (lines[0], lines[3]) == (" ".join(self.words), read)
 
     def keep(self, read: str) -> None:
-        """Keeps that it was proved over what it read, but where something that it rests on was written meanwhile."""
+        """Records that the crate was proved. Does nothing if a file that its proof depends on was written during the
+        proof."""
         if marks(self.rests) == self.marks:
             with open(self.path, "w", encoding="utf-8") as file:
                 file.write(f"{self.text}{read}\n")
 
 
 def text_of(path: str) -> str:
-    """Returns a file's text, or nothing if there is no file."""
+    """Returns a file's text, or "" if it can't be read."""
     try:
         with open(path, encoding="utf-8") as file:
             return file.read()
@@ -271,7 +279,7 @@ def text_of(path: str) -> str:
 
 
 class Modules(NamedTuple):
-    """How many modules of a crate a check loaded, and how many it proved."""
+    """The number of a crate's modules that a check loaded, and the number that it proved."""
 
     loaded: int
     checked: int
@@ -281,13 +289,13 @@ class Modules(NamedTuple):
 
 
 def modules_of(name: str, said: str) -> Modules:
-    """What a check says of a crate's modules."""
+    """Returns the counts of modules that a check printed about a crate, or zeros if it printed none."""
     found = re.findall(rf"^crate {name}: modules loaded=(\d+) checked=(\d+)", said, re.M)
     return Modules(*map(int, found[-1])) if found else Modules(0, 0)
 
 
 class Work:
-    """One crate that is being proved, in a separate room."""
+    """One crate that is being proved, in a separate folder."""
 
     def __init__(self, name: str, named: dict[str, list[str]], jobs: int, is_check: bool) -> None:
         self.name, self.room = name, os.path.join(ROOMS, name)
@@ -298,19 +306,19 @@ class Work:
         words += ["--jobs", str(jobs)] if "--" not in words else []
         with open(self.log, "wb") as out:
             how: dict[str, Any] = {"cwd": os.path.join(self.room, "crates", name), "stdin": subprocess.DEVNULL, "stdout": out}
-            # (a group of its own, by which it is ended. In a session of its own `nice` would have no effect: the system shares
-            # the processors out by session first)
+            # (a separate group, so that it can be ended as a whole. In a separate session `nice` would have no effect:
+            # the system divides the processors among sessions first)
             self.process = subprocess.Popen(words, preexec_fn=os.setpgrp, stderr=subprocess.STDOUT, **how)
 
     def furnish(self, named: dict[str, list[str]]) -> None:
-        """Makes the room, and moves the kept work on the crate's own proofs there."""
+        """Creates the folder, and moves the work that was kept of the crate's own proofs there."""
         furnish(self.room, self.name, named)
         if os.path.isdir(self.out):
             os.rename(self.out, self.moved)
         os.makedirs(self.moved, exist_ok=True)
 
     def leave(self) -> None:
-        """Brings what was proved back to the crate's folder."""
+        """Moves the proved work back to the crate's own folder, and removes the separate one."""
         if os.path.isdir(self.moved):
             shutil.rmtree(self.out, ignore_errors=True)
             os.rename(self.moved, self.out)
@@ -318,7 +326,7 @@ class Work:
         shutil.rmtree(self.room, ignore_errors=True)
 
     def end(self) -> None:
-        """Ends this check and what it started."""
+        """Stops this check and its processes, and moves its work back."""
         try:
             os.killpg(self.process.pid, signal.SIGTERM)
             self.process.wait()
@@ -331,16 +339,18 @@ class Work:
             return file.read()
 
     def modules(self) -> Modules:
-        """Returns how many of the crate's modules were loaded and proved again: none if its library is up to date."""
+        """Returns how many of the crate's modules were loaded and proved again. Both are 0 if its library is up to
+        date."""
         return modules_of(self.name, self.said())
 
     def errors(self) -> str:
-        """The lines of its log that name an error or a goal that isn't proved, or the end of the log if there are none."""
+        """Returns the lines of the log that contain an error or an unproved goal, or the end of the log if there are
+        none."""
         said = self.said()
         return "\n".join(it for it in said.split("\n") if re.search(r": error\b|\berror\[|it is not proved", it)) or said[-4000:]
 
     def at(self) -> str:
-        """How far the check is, by its own word."""
+        """Returns the progress that the check last printed, or "" if it has printed none."""
         found = re.findall(r"^so far: (\d+ of \d+ functions) checked", self.said(), re.M)
         return f", {found[-1]} checked" if found else ""
 
@@ -351,7 +361,7 @@ def end_all(running: dict[str, Work]) -> None:
 
 
 def main(words: list[str]) -> int:
-    """Proves, and builds the program if that is requested; returns the exit status."""
+    """Proves the crates, and builds the program unless `--check` is given. Returns the exit status."""
     is_check = "--check" in words
     # (a program that is up to date needs no toolchain)
     if not is_check and common.is_current():
@@ -365,13 +375,14 @@ def main(words: list[str]) -> int:
 
 
 def prove_libraries(names: Iterable[str]) -> int:
-    """Proves some crates and those below them as --check does, and builds each library that isn't made of the present sources."""
+    """Proves some crates and the crates that they depend on, as --check does. Also builds each library that isn't made
+    from the present sources. Returns the exit status."""
     return carry_out(Plan(True, names, True))
 
 
 def carry_out(plan: Plan) -> int:
-    """Proves what a plan names; returns the exit status. If a signal ends it, it ends the checks that run first, and brings back from
-    the rooms what was proved. (A signal that is ignored, as `nohup` has it, stays ignored.)"""
+    """Carries out a plan, and returns the exit status. If a signal arrives, the running checks are stopped and the
+    proved work is moved back first. (A signal that `nohup` ignores has no effect.)"""
     running: dict[str, Work] = {}
     came: list[int] = []
     others = {it: signal.getsignal(it) for it in common.ENDING}
@@ -387,8 +398,8 @@ def carry_out(plan: Plan) -> int:
 
 
 class Plan:
-    """What is done and what is left: crates to prove, and libraries to build again since a crate above is to be proved (where the
-    plan is exact, all that aren't made of the present sources)."""
+    """Which crates are done and which are left: crates to prove, and libraries to build again because another crate
+    needs them. An exact plan builds every library again that isn't made from the present sources."""
 
     def __init__(self, is_check: bool, tops: Iterable[str] = (), is_exact: bool = False) -> None:
         self.named, self.is_check, self.is_exact, self.timer = common.libraries(), is_check, is_exact, common.Timer()
@@ -396,20 +407,20 @@ class Plan:
         self.all = list(dict.fromkeys(it for top in tops for it in common.below(top, self.named)))
         self.sums = Sums(self.named)
         self.kept = {it: Proved(it, self.command(it), self.sums.of_sources(it), common.below(it, self.named)) for it in self.all}
-        # (what has the longest chain above it goes first)
+        # (the crate with the longest chain above it goes first)
         self.heights = {name: chain(name, self.named) for name in self.all}
         self.done: dict[str, Modules] = {}
-        self.built: set[str] = set()  # of these, those whose library is made of the present sources
-        self.again: set[str] = set()  # and those whose library is to be built again
-        self.alike: set[str] = set()  # those whose proofs have read nothing that changed
-        self.open: set[str] = set()  # the crates about which kept work says nothing
+        self.built: set[str] = set()  # the crates with a library that is made from the present sources
+        self.again: set[str] = set()  # the crates with a library that is to be built again
+        self.alike: set[str] = set()  # the crates whose proofs have read nothing that changed
+        self.open: set[str] = set()  # the crates that aren't recorded as proved
 
     def command(self, name: str) -> list[str]:
         return command(name, self.named, self.is_check)
 
     def is_kept(self, name: str) -> bool:
-        """Whether kept work says that a crate is proved, all those below it being so. (The program is built of all crates: where
-        its executable is wanted, `rt` says whether it is up to date.)"""
+        """Returns whether a crate needn't be proved again, provided that the crates it depends on are done. (Only `rt`
+        knows whether the program's executable is up to date.)"""
         kept = self.kept[name]
         if name not in self.open and kept.words[1] != "run":
             if kept.is_current():
@@ -422,7 +433,8 @@ class Plan:
         return False
 
     def ready(self, running: Iterable[str]) -> list[str]:
-        """The crates that can be proved now, or built again."""
+        """Returns the crates that can be proved, or whose library can be built again, now. Those on which the longest
+        chain of crates depends come first."""
         found = []
         for name in self.all:
             if name in running or name in self.done and name not in self.again:
@@ -438,7 +450,7 @@ class Plan:
         return sorted(found, key=lambda it: -self.heights[it])
 
     def take(self, name: str, modules: Modules) -> None:
-        """Takes a crate that was proved, or built again."""
+        """Records that a crate was proved, or its library built again."""
         self.done[name] = modules
         self.built.add(name)
         self.again.discard(name)
@@ -458,7 +470,7 @@ class Plan:
 
 
 def prove_all(running: dict[str, Work], plan: Plan, came: list[int]) -> int:
-    """Proves what a plan names, until a signal comes; returns the exit status."""
+    """Proves the crates of a plan, until a signal arrives. Returns the exit status."""
     failed: list[str] = []
     ready, most, shown_at = plan.ready(running), lanes(), time.monotonic()
     plan.say(f"{len(plan.done)} of {len(plan.all)} crates are up to date")
@@ -497,7 +509,7 @@ def prove_all(running: dict[str, Work], plan: Plan, came: list[int]) -> int:
 
 
 def end(plan: Plan) -> int:
-    """Prints what was done, and keeps the program if one was built."""
+    """Prints what was done, and copies the program to bin/ob0 if one was built. Returns the exit status."""
     if plan.is_check:
         found = plan.done.values()
         again = sum(it.checked > 0 for it in found)

@@ -1,4 +1,4 @@
-"""How a crate is checked with mutants in it: over which libraries, in which copy of its files, and what the prover says of them."""
+"""Applies mutants to a copy of a crate, checks it against proved libraries, and reads the prover's verdicts."""
 from __future__ import annotations
 
 import os
@@ -16,15 +16,15 @@ from edits import Edit
 
 VERDICT = re.compile(r"^(?:fn|impl|struct|enum|trait|const|static) (\S+): (proved|not proved.*|no proof.*)", re.M)
 ERROR = re.compile(r"(?:\./)?((?:src|specs|proofs)/\S+?):(\d+):\d+: error(?:\[[\w-]+\])?: (?:(`[^`]*`): )?(.*)")
-# (what of a reason says that the function itself was not judged)
+# (the beginning of a reason that is about another function)
 OF_ANOTHER = r"(?:it calls |it passes |a call of |it is in a cycle of calls with )"
-# (an error by which a text can't be read, so that no contract was tried)
+# (an error that stops the reading of a text, so no contract was tried)
 UNREAD = re.compile(r"is not in scope|has no field|is no name|operand is missing|expected the end|cannot continue")
 NAMES_LOST = re.compile(r"has no field|is not in scope|has no `|was not admitted|that can be named from here")
 
 
 def messages_of(text: str) -> list[str]:
-    """What a check printed by messages: each is a line with the indented lines after it, in which the prover continues it."""
+    """Returns the messages of a check. The prover continues a message on indented lines; these are joined here."""
     found: list[str] = []
     for line in text.split("\n"):
         if found and found[-1] and line[:1] in (" ", "\t") and line.strip():
@@ -35,7 +35,7 @@ def messages_of(text: str) -> list[str]:
 
 
 class Said:
-    """What a check printed."""
+    """The output of a check, and what can be read from it."""
 
     def __init__(self, text: str, status: int) -> None:
         self.text, self.status = text, status
@@ -45,12 +45,13 @@ class Said:
         self.ended = bool(re.search(r"^(?:logic=|only=\d+ (?:proved|holes)=\d+)", text, re.M))
 
     def is_proved(self) -> bool:
-        """Whether all that was checked is proved."""
+        """Returns whether each checked function is proved."""
         last = re.search(r"^only=(\d+) proved=(\d+)", self.text, re.M)
         return not self.status and ("\nlogic=proved " in self.text or bool(last and last[1] == last[2]))
 
     def own(self, symbol: str) -> bool:
-        """Whether a function is refused for what it does itself."""
+        """Returns whether a function was refused for its own reasons, and not only because another function isn't
+        proved."""
         said = self.verdicts[symbol]
         if said.startswith("no proof"):
             reasons = said[len("no proof:") :].split("; ")
@@ -58,11 +59,11 @@ class Said:
         return said.startswith("not proved")
 
     def waits(self, symbol: str) -> bool:
-        """Whether a function stands on one that isn't proved: then not all of its goals need have been tried."""
+        """Returns whether a function calls one that isn't proved. If so, some of its goals may not have been tried."""
         return bool(re.search(f"[:;] {OF_ANOTHER}", self.verdicts[symbol]))
 
     def goals(self, symbol: str) -> list[str]:
-        """The goals of a function that were not proved, with their places."""
+        """Returns the unproved goals of a function, each with its file and line."""
         lines = self.text.split("\n")
         end = next((i for i, it in enumerate(lines) if it.startswith(f"fn {symbol}: ")), 0)
         found = []
@@ -74,9 +75,9 @@ class Said:
         return found[::-1]
 
     def proof_errors(self, symbol: str, proof: str) -> list[str]:
-        """The errors in the files of a function's proof."""
-        # (that of a cycle is where the prover has its functions: of methods that is below their type. The folder of a function that
-        # calls itself begins with a plus, and goes on with the closure if it does so by one)
+        """Returns the errors in the files of a function's proof."""
+        # (the proof of a cycle is next to its functions, or below the type of its methods. The folder of a function
+        # that calls itself begins with a plus, followed by the closure through which it does so)
         *above, name = symbol.partition("::")[2].split("::")
         cycle = re.search(r"\+\w+$", proof)
         starts = tuple("/".join(["proofs", *above, it]) for it in (f"{cycle[0] if cycle else name}/", f"+{name}/", f"+{name}+"))
@@ -84,8 +85,8 @@ class Said:
         return [line for line, at in errors if at and at[1].startswith(starts)]
 
     def refusing(self, symbol: str, proof: str) -> list[str]:
-        """The goals of a function that were not proved, and those that the answers in its proof don't prove any more, though all that
-        they name is there."""
+        """Returns the goals because of which a function is refused: the unproved ones, and those whose answer in its
+        proof fails although all names in the answer exist."""
         found = self.goals(symbol)
         for line in self.proof_errors(symbol, proof):
             at = ERROR.match(line)
@@ -95,7 +96,7 @@ class Said:
         return found
 
     def why(self, symbol: str, proof: str) -> str:
-        """What refused a function: goals, or an error in its proof."""
+        """Returns the goals because of which a function is refused, or an error in its proof if there are none."""
         goals, errors = self.refusing(symbol, proof), self.proof_errors(symbol, proof)
         if goals:
             return "; ".join(goals)[:300]
@@ -105,7 +106,8 @@ class Said:
 
 
 def unreadable(said: Said, edit: Edit) -> str | None:
-    """The error by which the compiler or antt could not read a mutant, if one is in what it turns."""
+    """Returns the error that stopped the compiler or the checker at a changed function, so that the mutant wasn't
+    judged. Returns None if there is no such error."""
     for line in said.messages:
         at = ERROR.match(line)
         if not at:
@@ -113,20 +115,20 @@ def unreadable(said: Said, edit: Edit) -> str | None:
         place = at[1], int(at[2])
         if place not in edit.lines and not any(it.file == at[1] and it.first <= place[1] <= it.last for it in edit.turned or ()):
             continue
-        # (an error that names a goal is a refusal, unless the goal itself can't be read)
+        # (an error about a goal is a refusal, unless the goal itself can't be read)
         if not at[3] or UNREAD.search(re.sub(r"`[^`]*`", "", at[4])):
             return line[:160]
     return None
 
 
 def symbols_of(said: Said, functions: Iterable[reading.Function]) -> dict[str, str]:
-    """The names under which a check judged some functions, each with the proof that it belongs to."""
+    """Returns the names that a check uses for these functions, each with the name of the function's proof."""
     functions = list(functions)
     return {it: f.proof for it in said.verdicts for f in functions if f.is_named(it)}
 
 
 class Libraries:
-    """Proved libraries of this repository: a folder of hard links to them."""
+    """A folder of hard links to the proved libraries of this repository."""
 
     def __init__(self, folder: str) -> None:
         self.folder = folder
@@ -134,20 +136,20 @@ class Libraries:
         shutil.rmtree(folder, ignore_errors=True)
 
     def add(self, crate: str) -> None:
-        """Adds the library that was made of a proved crate."""
+        """Adds the library of a proved crate. (A program has no library.)"""
         self.proved.add(crate)
         try:
             shutil.copytree(build.library_of(crate), self.place(crate), copy_function=build.link)
         except (OSError, shutil.Error):
-            # (a program has none; what lacks another crate's is tried without these)
+            # (a program has no library)
             shutil.rmtree(self.place(crate), ignore_errors=True)
 
     def place(self, crate: str) -> str:
         return os.path.join(self.folder, f"{crate}.rlib")
 
     def words(self, crate: str, only: Iterable[str]) -> Optional[list[str]]:
-        """The command that checks some functions of a crate over these libraries (all where none is given), or None where one
-        lacks."""
+        """Returns the command that checks these functions of a crate, or the whole crate if `only` is empty. Returns
+        None if a library that it needs is missing."""
         lines = common.listed()
         below = [it for it in common.below(crate) if it != crate]
         if not all(os.path.isdir(self.place(it)) for it in below):
@@ -164,7 +166,7 @@ class Libraries:
 
 
 def furnish(room: str, crate: str, chosen: Iterable[Edit]) -> None:
-    """Puts a crate's files with some mutants into a folder."""
+    """Copies a crate's files to a folder, and applies some mutants to them."""
     chosen = list(chosen)
     for part in ("src", "specs", "proofs"):
         folder = os.path.join(TOP, "crates", crate, part)
@@ -178,7 +180,7 @@ def furnish(room: str, crate: str, chosen: Iterable[Edit]) -> None:
 
 
 def with_bodies(text: str, path: str, chosen: Iterable[Edit]) -> str:
-    """A file's text with the lines that some mutants change in it."""
+    """Returns a file's text with these mutants applied."""
     lines = text.split("\n")
     for edit in chosen:
         for (where, number), now in edit.lines.items():
@@ -188,7 +190,7 @@ def with_bodies(text: str, path: str, chosen: Iterable[Edit]) -> str:
 
 
 def check(words: list[str], room: str) -> Said:
-    """What a check says that is made in a folder."""
+    """Runs a check in a folder, and returns its output."""
     how: dict[str, Any] = {"stdin": subprocess.DEVNULL, "stdout": subprocess.PIPE, "stderr": subprocess.STDOUT}
     ran = subprocess.run(words, cwd=room, check=False, **how)
     return Said(ran.stdout.decode(errors="replace"), ran.returncode)

@@ -1,4 +1,4 @@
-"""What the scripts share: where things are, what is missing and how to get it, and how long it took."""
+"""Functions that all scripts share: paths, what to do if something is missing, checksums of the sources, and times."""
 from __future__ import annotations
 
 import contextlib
@@ -22,7 +22,7 @@ TOP = os.path.dirname(os.path.dirname(os.path.abspath(__file__)))
 BINARY = os.path.join(TOP, "bin", "ob0")
 STAMP = BINARY + ".stamp"
 
-# what ends a script: Ctrl-C, a job that is cancelled, a terminal that is closed
+# the signals that end a script: of Ctrl-C, a cancelled job and a closed terminal
 ENDING = (signal.SIGINT, signal.SIGTERM, signal.SIGHUP)
 HELD: list[IO[str]] = []  # the lock of this checkout, while this script holds it
 LONGEST_TEMPORARY = 50  # bytes: a socket in a folder below it has a path of at most 107
@@ -41,15 +41,16 @@ def stop(why: str, status: int = 2) -> NoReturn:
 
 
 def settle() -> None:
-    """Makes what is started from here independent of the user's shell: everybody can read the files that it makes, and git
-    finds the repository by the folder. (In a hook and in `git rebase -x` the variables of git can name another one.)"""
+    """Makes child processes independent of the user's shell: everybody can read the files that they make, and Git finds
+    the repository by the current folder. (In a hook and in `git rebase -x`, Git's variables can point to another
+    repository.)"""
     os.umask(0o022)
     for name in [it for it in os.environ if it.startswith("GIT_")]:
         del os.environ[name]
 
 
 def unfit(folder: str) -> str:
-    """Why tests can't keep their temporary files in a folder; empty if they can."""
+    """Returns why tests can't keep their temporary files in a folder, or "" if they can."""
     if not os.access(folder, os.W_OK | os.X_OK):
         return "it can't be written"
     if os.statvfs(folder).f_flag & os.ST_NOEXEC:
@@ -65,7 +66,8 @@ def unfit(folder: str) -> str:
 
 
 def choose_temporary() -> None:
-    """Chooses the folder for temporary files: the user's, or a system's if tests fail in that; ends the script if no folder fits."""
+    """Chooses the folder for temporary files: the user's, or a standard one if tests would fail in that. Ends the
+    script if no folder is suitable."""
     whys: list[str] = []
     for folder in dict.fromkeys([tempfile.gettempdir(), "/tmp", "/var/tmp"]):
         why = unfit(folder)
@@ -80,8 +82,8 @@ def choose_temporary() -> None:
 
 @contextlib.contextmanager
 def one_at_a_time() -> Iterator[None]:
-    """Holds this checkout's lock, for which a second script waits: `make build`, `check`, `test` and `wrong-bodies` all move the kept
-    work of crates and remove bin/rooms. A script that holds the lock can take it again."""
+    """Holds this checkout's lock, because `make build`, `check`, `test` and `wrong-bodies` move the kept work of crates
+    and remove bin/rooms. Another script waits for the lock; a script that holds it may enter again."""
     if HELD:
         yield
         return
@@ -101,8 +103,8 @@ def one_at_a_time() -> Iterator[None]:
 
 @contextlib.contextmanager
 def ended_by_signals(where: Callable[[], str]) -> Iterator[None]:
-    """Has Ctrl-C, a cancelled job or a closed terminal end what this script started, the provers included, and then the script, which
-    says where it was. (A signal that is ignored, as `nohup` has it, stays ignored.)"""
+    """If Ctrl-C, a cancelled job or a closed terminal ends this script, also ends all processes that it started. Prints
+    the script's progress, which `where` returns. (A signal that `nohup` ignores has no effect.)"""
 
     def end(number: int, _: object) -> None:
         for it in ENDING:
@@ -118,7 +120,8 @@ def ended_by_signals(where: Callable[[], str]) -> Iterator[None]:
 
 
 def need(command: str) -> str:
-    """The path of a command, or the end of the script, which says what is missing."""
+    """Returns the path of a command. If the command is missing, ends the script with a message that says how to get
+    it."""
     found = shutil.which(command)
     if not found:
         stop(f"{command} is missing: {HOW_TO_GET.get(command, 'install it')}")
@@ -126,7 +129,7 @@ def need(command: str) -> str:
 
 
 def clock(seconds: float) -> str:
-    """Minutes and seconds."""
+    """Formats a time as minutes and seconds."""
     return f"{int(seconds) // 60}:{int(seconds) % 60:02d}"
 
 
@@ -139,7 +142,7 @@ class Timer:
 
 
 def listed() -> dict[str, list[str]]:
-    """Each crate of crates.txt with all that its line names."""
+    """Returns the crates of crates.txt, each with all the names after the colon on its line."""
     lines = {}
     with open(os.path.join(TOP, "crates.txt"), encoding="utf-8") as file:
         for line in file:
@@ -152,7 +155,7 @@ def listed() -> dict[str, list[str]]:
 
 
 def match_of(pattern: str, text: str, flags: int = 0) -> re.Match[str]:
-    """The first match of a pattern in a text that has one."""
+    """Returns the first match of a pattern in a text. Raises LookupError if there is none."""
     found = re.search(pattern, text, flags)
     if not found:
         raise LookupError(f"nothing matches {pattern!r} in {text[:300]!r}")
@@ -160,20 +163,20 @@ def match_of(pattern: str, text: str, flags: int = 0) -> re.Match[str]:
 
 
 def libraries() -> dict[str, list[str]]:
-    """Each crate of crates.txt with the crates of this repository that its line names."""
+    """Returns the crates of crates.txt, each with the crates of this repository that it depends on directly."""
     lines = listed()
     return {name: [it for it in given if it in lines] for name, given in lines.items()}
 
 
 def write_list(path: str, names: Iterable[str]) -> None:
-    """Writes a crates.txt of only these crates."""
+    """Writes a crates.txt that contains only these crates."""
     lines = listed()
     with open(path, "w", encoding="utf-8") as file:
         file.writelines(f"{name}: {' '.join(lines[name])}\n" for name in names)
 
 
 def below(name: str, named: dict[str, list[str]] | None = None, found: list[str] | None = None) -> list[str]:
-    """The crates that a crate rests on and the crate itself, lowest first."""
+    """Returns a crate and all crates that it depends on, each after its own dependencies."""
     named = libraries() if named is None else named
     found = [] if found is None else found
     for lower in named.get(name, []):
@@ -184,7 +187,7 @@ def below(name: str, named: dict[str, list[str]] | None = None, found: list[str]
 
 
 def sources(names: Iterable[str]) -> list[str]:
-    """The files that decide what the program is."""
+    """Returns the paths of all files that determine how these crates are proved and built."""
     files = [os.path.join(TOP, "crates.txt"), os.path.join(TOP, "HANDLES")]
     for name in names:
         for part in ("src", "specs", "proofs"):
@@ -195,7 +198,7 @@ def sources(names: Iterable[str]) -> list[str]:
 
 
 def sum_of(files: Iterable[str]) -> str:
-    """A sum over files: their paths and their bytes."""
+    """Returns the SHA-256 checksum of files: of their paths and their bytes."""
     total = hashlib.sha256()
     for file in files:
         total.update(os.path.relpath(file, TOP).encode() + b"\0")
@@ -210,7 +213,7 @@ def file_sum(path: str) -> str:
 
 
 def kit() -> str | None:
-    """Returns the toolchain's line, or None if it isn't installed."""
+    """Returns the toolchain's version, or None if it isn't installed."""
     if not shutil.which("rt"):
         return None
     how: dict[str, Any] = {"stdout": subprocess.PIPE, "stderr": subprocess.DEVNULL, "stdin": subprocess.DEVNULL}
@@ -219,7 +222,8 @@ def kit() -> str | None:
 
 
 def commit() -> str:
-    """The commit's hash, whoever owns the repository; 0 outside a repository of git."""
+    """Returns the hash of HEAD, even if another user owns the repository. Returns "0" outside a Git repository, or if
+    git isn't installed."""
     # (a hook of git that starts this has another repository in its variables)
     own = {name: value for name, value in os.environ.items() if not name.startswith("GIT_")}
     words = ["git", "-c", f"safe.directory={TOP}", "-C", TOP, "rev-parse", "HEAD"]
@@ -231,8 +235,8 @@ def commit() -> str:
 
 
 def stamp() -> dict[str, str]:
-    """What bin/ob0.stamp says of bin/ob0: the toolchain that proved it, the sums of its sources and of the program, and the last line
-    of `make test` once that has ended on it."""
+    """Returns the content of bin/ob0.stamp: the toolchain that proved bin/ob0, checksums of its sources and of the
+    program, and the last line of `make test` if that has tested the program."""
     try:
         with open(STAMP, encoding="utf-8") as file:
             return dict(line.rstrip("\n").split(" ", 1) for line in file if " " in line)
@@ -241,8 +245,8 @@ def stamp() -> dict[str, str]:
 
 
 def is_current() -> bool:
-    """Whether bin/ob0 is the program that was proved and built from the present sources, by the toolchain that is here (by any,
-    where none is here)."""
+    """Returns whether bin/ob0 was proved and built from the present sources, by the installed toolchain if there is
+    one."""
     if not os.access(BINARY, os.X_OK):
         return False
     found, here = stamp(), kit()
@@ -254,8 +258,8 @@ def is_current() -> bool:
 
 
 def keep(linked: str) -> None:
-    """Copies a linked program to bin/ob0, with a stamp: the toolchain's identity and sums over the sources and over the program. By it
-    nothing is proved again if nothing changed."""
+    """Copies a linked program to bin/ob0, and writes its stamp: the toolchain, and checksums of the sources and the
+    program. As long as these stay the same, nothing is proved again."""
     os.makedirs(os.path.dirname(BINARY), exist_ok=True)
     shutil.copyfile(linked, BINARY + ".new")
     os.chmod(BINARY + ".new", 0o755)
@@ -264,7 +268,8 @@ def keep(linked: str) -> None:
 
 
 def keep_verdict(line: str, share: str = "") -> None:
-    """Adds to the stamp of the program that it tested the last line of `make test`, and how many of the proofs that made itself."""
+    """Adds the last line of `make test`, and how many proofs it made, to the stamp. Does nothing unless bin/ob0 is up
+    to date."""
     if is_current():
         write_stamp({**stamp(), "gate": line, "proofs": share})
 

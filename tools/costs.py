@@ -1,11 +1,11 @@
 #!/usr/bin/env python3
-"""Lists the modules on which the proof of a crate spends its time, by the files of its last check from scratch in out/incremental.
-
+"""Lists the modules on which a crate's proof spends its time, judged by the files that its last check from scratch left
+in out/incremental.
   tools/costs.py [--least SECONDS] CRATE..   the modules that took at least so long (2 seconds, if no number is given)
-
-A check of one job writes a file when a module is proved, so a module cost the time since the file before. The figures mean nothing
-for a crate that was checked in parts or by several jobs. If other work ran, they are too high, but still show which module costs
-most. (`make build` and `make check` give a crate one job while all lanes are used.)"""
+A check with one job writes a file as soon as a module is proved, so a module took the time since the previous file. The
+figures mean nothing for a crate that was checked in parts or by several jobs. If other work ran, they are too high, but
+still show which module costs most. (`make build` and `make check` give a crate one job while as many crates as possible
+are being proved.)"""
 import argparse
 import collections
 import glob
@@ -23,13 +23,14 @@ OF_FUNCTIONS = ("Lts", "Proof", "Tie", "Answers", "Invariants")
 
 
 class Module(NamedTuple):
-    """A module that was proved, and the seconds that it took."""
+    """A proved module, and how many seconds its proof took."""
 
     name: str
     seconds: float
 
     def kind(self, lemmas: List[str]) -> str:
-        """Returns what a module is: one of our own files of definitions or lemmas, or one that rattle makes for a function."""
+        """Returns the kind of a module: definitions, lemmas, the kind of module that the toolchain makes for functions,
+        or "other modules"."""
         part, _, inside = self.name.partition(".")
         if part == "specs" and "." not in inside:
             return "definitions"
@@ -40,7 +41,7 @@ class Module(NamedTuple):
 
     @property
     def function(self) -> str:
-        """The function that it belongs to: its path up to what rattle makes."""
+        """Returns the path of the function that the module belongs to, or the module's name if it belongs to none."""
         part, _, inside = self.name.partition(".")
         path = inside.split(".")
         if part != "proofs" or len(path) < 2:
@@ -53,7 +54,7 @@ class Module(NamedTuple):
 
 
 def modules_of(crate: str) -> List[Module]:
-    """The modules of a crate in the order in which they were proved."""
+    """Returns the modules of a crate in the order in which they were proved."""
     kept = os.path.join(common.TOP, "crates", crate, "out", "incremental", "*", f"Rattle-{crate}[-.]*.oantt")
     files = sorted((os.stat(it).st_mtime, it) for it in glob.glob(kept))
     found = []
@@ -65,7 +66,7 @@ def modules_of(crate: str) -> List[Module]:
 
 
 def lemmas_of(crate: str) -> List[str]:
-    """The files of a crate's own lemmas, which are directly in proofs/."""
+    """Returns the names of the files of lemmas that are directly in a crate's proofs/."""
     return [os.path.basename(it)[: -len(".antt")] for it in glob.glob(os.path.join(common.TOP, "crates", crate, "proofs", "*.antt"))]
 
 
@@ -76,7 +77,7 @@ def rows(sums: Dict[str, float], least: float, whole: float) -> Iterator[str]:
 
 
 def show(crate: str, least: float) -> bool:
-    """Prints the costs of one crate's modules, and returns whether it has kept files."""
+    """Prints what the modules of one crate cost. Returns False if its last check left no files."""
     modules, lemmas = modules_of(crate), lemmas_of(crate)
     whole = sum(it.seconds for it in modules)
     if not modules:

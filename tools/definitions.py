@@ -1,6 +1,6 @@
-"""The definitions of the crates and the types of the code: where each is, with its comment, and which others it names.
-
-A name is looked up by the `use` lines of its file. Definitions of the standard library are not followed."""
+"""Reads the definitions of the crates and the types of the code: the file and comment of each, and the other
+definitions that it uses. A name is resolved through the `use` lines of its file. Definitions of the standard library
+are not followed."""
 from __future__ import annotations
 
 import os
@@ -30,7 +30,7 @@ def lines_of(path: str) -> list[str]:
 
 
 class Block:
-    """One definition, or some that name one another, with the comment over it."""
+    """One definition, or several mutually recursive ones, with the comment above."""
 
     def __init__(self, file: File, comment: list[str], code: list[str]) -> None:
         self.file, self.comment, self.code = file, comment, code
@@ -39,7 +39,7 @@ class Block:
 
 
 def names_in(code: list[str]) -> Iterator[str]:
-    """The names that a block defines: of `data` its constructors too."""
+    """Yields the names that a block defines, including the constructors of `data`."""
     first = code[0]
     if not re.match(r"^(?:\w+ )*mutual\b", first):
         inside, depth = code, ""
@@ -60,7 +60,7 @@ def names_in(code: list[str]) -> Iterator[str]:
 
 
 class File:
-    """A file of definitions: its blocks, and what its `use` lines bring in, by name."""
+    """A file of definitions: its blocks, and the names that its `use` lines import."""
 
     def __init__(self, crate: str, name: str, path: str) -> None:
         self.crate, self.name = crate, name
@@ -89,7 +89,8 @@ class File:
                 self.passed_on[new or was] = (module, was)
 
     def cut(self, text: list[str]) -> None:
-        """Cuts the text into blocks. Comments stay with what is below, but for a line of dashes over a part."""
+        """Divides the text into blocks. A comment belongs to the block below it, unless a line of dashes follows as the
+        head of a section."""
         comment: list[str] = []
         code: list[str] = []
 
@@ -129,12 +130,12 @@ class File:
 
 
 def is_open(code: list[str]) -> bool:
-    """Whether what comes after an empty line may belong to the same block."""
+    """Returns whether a block continues after an empty line."""
     return bool(code) and bool(re.match(r"^(?:\w+ )*mutual\b|^module ", code[0]))
 
 
 def begins_as(code: list[str], line: str) -> bool:
-    """Whether a line is an equation of the definition above it."""
+    """Returns whether a line continues the definition above it, as one of its equations."""
     if code[-1].startswith("unfolding"):
         return True
     if line.startswith("unfolding"):
@@ -156,7 +157,7 @@ def all_files() -> dict[tuple[str, str], File]:
 
 
 class Declared:
-    """A type of the code, as it is declared there."""
+    """A type that the code declares, with its comment and its fields."""
 
     def __init__(self, crate: str, module: list[str], name: str) -> None:
         self.crate, self.module, self.name = crate, module, name
@@ -171,14 +172,14 @@ class Declared:
         self.code = [it for it in text[first : last + 1] if not it.lstrip().startswith("#[")]
 
     def named_types(self) -> list[str]:
-        """The names of the types of its fields."""
+        """Returns the names of the types of its fields."""
         text = "\n".join(re.sub(r"//.*$", "", it) for it in self.code[1:])
         fields = re.findall(r":\s*([^,{}]+)|\(([^()]*)\)", text)
         return re.findall(r"\b[A-Z]\w*", " ".join(a or b for a, b in fields))
 
 
 def module_with(crate: str, name: str) -> list[str] | None:
-    """The module of a crate that declares a public type, if it has one of this name."""
+    """Returns the module of a crate that declares a public type with this name, or None if there is none."""
     folder = os.path.join(CRATES, crate, "src")
     for at, _, files in os.walk(folder):
         for file in sorted(it for it in files if it.endswith(".rt")):
@@ -201,7 +202,8 @@ class Sources:
         self.declared: dict[tuple[str, str], Declared] = {}
 
     def resolve(self, module: str, name: str | None) -> Item | None:
-        """What a name of a module is: a block, a declared type, or a name of the library."""
+        """Returns the block or the declared type that a name of a module refers to. Returns None for a name of the
+        standard library, after noting it."""
         parts = module.split(".")
         if parts[0] != "Rattle" or not parts[1].startswith("ob0_"):
             if name:
@@ -238,7 +240,7 @@ class Sources:
         return self.declared[key]
 
     def needs(self, block: Block) -> list[Item]:
-        """What a block names, in order."""
+        """Returns the definitions and types that a block refers to, in order."""
         if block.needs is None:
             found: list[Item] = []
             for word in words_of(block.code):
@@ -249,7 +251,7 @@ class Sources:
         return block.needs
 
     def types_in(self, declared: Declared) -> list[Declared]:
-        """The types of the same crate that are in the fields of one."""
+        """Returns the types of the same crate that occur in a type's fields."""
         modules = [(module_with(declared.crate, name), name) for name in declared.named_types() if name != declared.name]
         return [self.type_of(declared.crate, module, name) for module, name in modules if module]
 
@@ -272,7 +274,7 @@ class Sources:
         return self.resolve(module, rest.split(".")[0])
 
     def closure(self, roots: Iterable[Item], without: Iterable[Item] = ()) -> list[Item]:
-        """All that these need, what is needed before what needs it."""
+        """Returns the roots and everything that they need, each after everything that it needs itself."""
         done: set[int] = set()
         order: list[Item] = []
 
@@ -291,7 +293,8 @@ class Sources:
 
 
 def words_of(code: list[str]) -> Iterator[str]:
-    """The names in some lines, without comments and texts; an operator stands for its name with a place on each side."""
+    """Yields the names in some lines, without comments and strings. An operator also stands for the name by which it is
+    defined, such as `◌+◌`."""
     for line in code:
         line = re.sub(r'"[^"]*"', '""', re.sub(r"--.*$", "", line))
         yield from WORD.findall(line)

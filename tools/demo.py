@@ -1,9 +1,8 @@
 #!/usr/bin/env python3
-"""Plays a conversation with the server, and prints what goes each way in readable form.
-
-It plays it with bin/ob0 if that was proved and built from the present sources. Otherwise `rt try` compiles the program, which
-proves nothing and takes one to three minutes. That program gets all messages at once, because `rt try` first reads its input to
-the end."""
+"""Plays a conversation with the server, and prints the messages in both directions in readable form. It plays it with
+bin/ob0 if that was proved and built from the present sources. Otherwise `rt try` compiles the program, which proves
+nothing and takes one to three minutes. That program gets all messages at once, because `rt try` first reads its input
+to the end."""
 from __future__ import annotations
 
 import json
@@ -66,7 +65,7 @@ def is_answered(message: Message) -> bool:
 
 
 class Live:
-    """Plays a conversation with bin/ob0."""
+    """A server, bin/ob0, that answers one message at a time."""
 
     def __init__(self) -> None:
         self.server = harness.Server(silent=True)
@@ -80,7 +79,8 @@ class Live:
 
 
 class Recorded:
-    """Runs the program by `rt try` on all messages at once, and returns its answers one after another."""
+    """The answers of a program that `rt try` compiled, which gets all messages at once. They are returned one after
+    another."""
 
     def __init__(self) -> None:
         found = tried([it for _, it in steps()])
@@ -94,7 +94,7 @@ class Recorded:
 
 
 def tried(messages: list[Message]) -> tuple[bytes, int]:
-    """Returns what the unproved program writes on these messages, and its status."""
+    """Compiles the program without proving it, and runs it on these messages. Returns its output and exit status."""
     with tempfile.TemporaryFile() as given, tempfile.TemporaryFile() as out, tempfile.TemporaryFile() as err:
         given.write(harness.frames(messages))
         given.seek(0)
@@ -120,7 +120,8 @@ def tried(messages: list[Message]) -> tuple[bytes, int]:
 
 
 def lines_of(value: Any) -> list[str]:
-    """Formats JSON in readable lines: a value on one line if it fits, and a text of several lines as these lines."""
+    """Formats JSON in readable lines. A short value is on one line, and a string of several lines is printed as
+    lines."""
     flat = json.dumps(value, ensure_ascii=False)
     if isinstance(value, str) and "\n" in value:
         return ['"', *("  | " + it for it in value.rstrip("\n").split("\n")), '"']
@@ -135,7 +136,7 @@ def lines_of(value: Any) -> list[str]:
 
 
 def show(arrow: str, what: str, message: Message, parts: list[str]) -> None:
-    """Prints a message: its head, and the first of these parts that it has."""
+    """Prints a message: its header, and the first of the members `parts` that it has."""
     print(f"\n{arrow} {what}")
     print(f"    Content-Length: {len(json.dumps(message, separators=(',', ':'), ensure_ascii=False).encode())}")
     value: Any = next((message[it] for it in parts if it in message), ())
@@ -148,7 +149,7 @@ def say(text: str) -> None:
 
 
 def play(server: Live | Recorded) -> int:
-    """Plays the conversation, and returns the status that the server ended with."""
+    """Plays the conversation, and returns the server's exit status."""
     for what, message in steps():
         if what:
             say(what)

@@ -1,13 +1,12 @@
 #!/usr/bin/env python3
-"""Installs by apt-get what the tests want beside the program: the editors that editors/ has packages for, as far as
-Debian has them, the programs that read syntax files, completions and the manual page, and a C compiler, git and bash, without
-which `make test` doesn't pass.
+"""Installs the tools that the tests need with apt-get: the editors of editors/ that Debian has; the programs that read
+syntax files, completions and the manual page; and a C compiler, git and bash.
 
-  tools/editors.py          installs what is missing, for a quarter of an hour at most
-  tools/editors.py --list   says what is here and what is missing
+  tools/editors.py          installs the missing tools, for a quarter of an hour at most
+  tools/editors.py --list   lists the installed and the missing tools
 
-A package that this system doesn't have is named and passed over. `make test` leaves out the tests of an editor or a desktop tool
-that is missing, by name, and says how many; each other tool it requires."""
+If the system doesn't have a package, this prints its name and continues. `make test` leaves out the tests of a missing
+editor or desktop tool, and prints their names and their number. It requires all other tools."""
 from __future__ import annotations
 
 import functools
@@ -52,19 +51,21 @@ def folder(pattern: str) -> Callable[[], bool]:
 
 
 def tree_sitter() -> bool:
-    """Whether the command `tree-sitter` is one of the version that made parser.c."""
+    """Returns whether `tree-sitter` is installed in the version that generated parser.c."""
     if not shutil.which("tree-sitter"):
         return False
     said = subprocess.run(["tree-sitter", "--version"], stdout=subprocess.PIPE, stdin=subprocess.DEVNULL, check=False).stdout
     return said.decode(errors="replace").startswith("tree-sitter 0.22.")
 
 
-# What root runs to become another user. (What it imports later, the other user may not be able to read.)
+# The Python by which root becomes another user. (It has to import everything first: the other user may not be able to
+# read modules.)
 BECOME = "import os, sys, warnings; os.setgroups([]); os.setgid(65534); os.setuid(65534)"
 
 
 def another_user() -> bool:
-    """Whether root can become another user, which it can't in a container without that capability; other users needn't."""
+    """Returns whether commands can run as a user other than root. (A container may not let root switch to another
+    user.)"""
     return os.geteuid() != 0 or ends_well([sys.executable, "-c", BECOME])
 
 
@@ -119,14 +120,14 @@ DESKTOP = {
     "Pathogen": (folder(PATHOGEN), "vim-pathogen"),
     "tree-sitter 0.22": (tree_sitter, ""),
 }
-# What `make test` doesn't pass without.
+# Tools without which `make test` fails.
 REQUIRED = {
     "cc": (here("cc"), "gcc"),
     "bash": (here("bash"), "bash"),
     "git": (here("git"), "git"),
 }
 TOOLS = {**EDITORS, **DESKTOP, **REQUIRED}
-LONGEST = 900  # seconds that everything may take that is installed
+LONGEST = 900  # seconds that the installation may take
 
 
 @functools.lru_cache(None)
@@ -134,7 +135,7 @@ def is_here(name: str) -> bool:
     return TOOLS[name][0]()
 
 
-# How to get what no package has.
+# Advice for tools that are in no package.
 HOW_TO_GET = {
     "root": "run the tests as root",
     "another user": "run the tests as a user who isn't root, or in a container that has the capability CAP_SETUID",
@@ -142,14 +143,15 @@ HOW_TO_GET = {
 
 
 def may_lack(name: str) -> bool:
-    """Whether `make test` may leave tests out for lack of a tool: for each that isn't required, or, if the variable OB0_MAY_LACK
-    lists tools, only for those."""
+    """Returns whether `make test` may leave tests out because a tool is missing: any tool that isn't required, or only
+    the tools in the variable OB0_MAY_LACK if that is set."""
     listed = os.environ.get("OB0_MAY_LACK")
     return name not in REQUIRED and (listed is None or name in (it.strip() for it in listed.split(",")))
 
 
 def install(packages: list[str], end: float) -> str | None:
-    """Installs Debian's packages by this time of the clock, and returns why that failed, or None."""
+    """Runs apt-get with these arguments, until the time `end` at most. Returns why that failed, or None if it
+    succeeded."""
     words = [] if os.geteuid() == 0 else ["sudo", "-n"]
     environment = {**os.environ, "DEBIAN_FRONTEND": "noninteractive"}
     how: dict[str, Any] = {"stdin": subprocess.DEVNULL, "stdout": subprocess.PIPE, "stderr": subprocess.STDOUT, "env": environment}
@@ -163,7 +165,7 @@ def install(packages: list[str], end: float) -> str | None:
 
 
 def install_all(packages: list[str]) -> None:
-    """Installs packages, and says which ones it couldn't."""
+    """Installs packages with apt-get, and prints which ones couldn't be installed, and why."""
     end, plainly = time.monotonic() + LONGEST, ["install", "-y", "--no-install-recommends"]
     why = install(["update"], end)
     if why:

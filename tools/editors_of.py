@@ -51,12 +51,13 @@ NODE_PATH=/usr/share/nodejs node /repository/tests/editors/languageclient.js nod
 
 
 def inside(room: str, *words: str, **how: Any) -> subprocess.CompletedProcess[bytes]:
-    """Runs a command in the root, in the folder of this repository."""
+    """Runs a command in the separate root, with this repository as the current folder."""
     return subprocess.run(["unshare", "--mount", "--pid", "--fork", "sh", "-e", "-c", ENTER, "sh", room, common.TOP, *words], check=False, **how)
 
 
 def make_root(release: str, room: str) -> None:
-    """The root with Debian's least system, and with Python. (debootstrap takes its own folder away when it has ended.)"""
+    """Creates a root with a minimal Debian and Python, unless it exists. (debootstrap removes its own folder when it
+    ends.)"""
     if not os.path.exists(os.path.join(room, "usr", "bin", "apt-get")) or os.path.exists(os.path.join(room, "debootstrap")):
         os.makedirs(ROOTS, exist_ok=True)
         if subprocess.run(["debootstrap", "--variant=minbase", release, room], check=False).returncode:
@@ -66,7 +67,7 @@ def make_root(release: str, room: str) -> None:
 
 
 def install(release: str, room: str) -> None:
-    """Installs everything that the tests need and the release has."""
+    """Installs the tools that the tests need, and prints which ones the release doesn't have."""
     inside(room, "python3", "tools/editors.py")
     for package in MORE:
         if inside(room, "apt-get", "install", "-y", "-q", "--no-install-recommends", package, stdout=subprocess.DEVNULL).returncode:
@@ -77,7 +78,7 @@ def install(release: str, room: str) -> None:
 
 
 def versions(room: str) -> list[str]:
-    """The version of each editor that is in the root."""
+    """Returns the versions of the editors that are installed in the root."""
     found = inside(room, "dpkg-query", "-W", "-f", "${Package} ${Version}\n", *EDITORS, stdout=subprocess.PIPE, stderr=subprocess.DEVNULL)
     lines = [it for it in found.stdout.decode().splitlines() if len(it.split()) == 2]
     client = os.path.join(room, CLIENT.lstrip("/"), "package.json")

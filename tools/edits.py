@@ -1,8 +1,8 @@
-"""The mutants of the crates: files of lines 'file: PATH', 'old: TEXT' and 'new: TEXT', in must-fail/ (`rt ci` tries those) and in
-wrong-bodies/ (`make wrong-bodies` tries those, and the edits of must-fail/ too).
-
-A line '# right: TEXT' after a 'new:' line, which the kit ignores, is the right text in the form of the new one. With it the function
-has to be proved: then the wrong value is what the prover refuses, and not the form."""
+"""Reads the mutants of the crates: files with lines 'file: PATH', 'old: TEXT' and 'new: TEXT'. `rt ci` tries those in
+must-fail/; `make wrong-bodies` tries both those and the ones in wrong-bodies/. A line '# right: TEXT' after a 'new:'
+line contains a correct text that is written in the same way as the new one. The toolchain ignores it. With the correct
+text, the function has to be proved. This shows that the prover refuses the mutant because its value is wrong, and not
+because of how it is written."""
 from __future__ import annotations
 
 import os
@@ -18,7 +18,7 @@ OF_KIT, OTHERS = "must-fail", "wrong-bodies"
 PLACES = (OF_KIT, OTHERS)
 RIGHT_LINE, RIGHT = "# right:", ":right"  # how the line of a right text begins, and how the path of a right form ends
 LOOPS = r"\b(?:for|while|loop)\b"
-# What a mutant may add that makes goals without written answers.
+# The forms that add goals without written answers.
 FORMS = {
     "a branch": r"\b(?:if|match|else)\b",
     "a return": r"\breturn\b",
@@ -30,8 +30,9 @@ FIRST_LINE = re.compile(rf"# (?:.*: r|R)efused by ({CLAUSES}) of `([\w:]+)`")
 
 
 class Claim(NamedTuple):
-    """What the first line of a mutant says: the function that is refused, and the clauses that refuse it. 'The clause' and 'the
-    loop' have no name, 'the one goal' is that of several clauses at once, and 'the invariant' is that of a type."""
+    """The claim of a mutant's first line: which function is refused, and which clauses refuse it. Clauses without a
+    name are called 'the clause', 'the loop', 'the one goal' (which several clauses share) and 'the invariant' (of a
+    type)."""
 
     function: str
     clauses: Tuple[str, ...]
@@ -40,17 +41,17 @@ class Claim(NamedTuple):
         return f"::{function.path}".endswith(f"::{self.function}")
 
     def is_goal(self, goal: str) -> bool:
-        """Whether a goal, by the prover's name for it, is one of these clauses."""
+        """Returns whether a goal belongs to one of these clauses. `goal` is the prover's name for it."""
         return "-requires" not in goal and any(is_goal_of(it, goal) for it in self.clauses)
 
 
 def name_of(goal: str) -> str:
-    """A goal's name, without its place."""
+    """Returns a goal's name, without the file and line after it."""
     return re.split(r"[ ,]", goal)[0]
 
 
 def is_goal_of(clause: str, goal: str) -> bool:
-    """Whether a goal of a function is that of one of its clauses."""
+    """Returns whether a goal belongs to a clause. `goal` is the prover's name for it."""
     if clause == "the loop":
         return bool(re.search(r"(?:^|-)loop-", goal))
     if clause == "the invariant":
@@ -61,13 +62,15 @@ def is_goal_of(clause: str, goal: str) -> bool:
 
 
 def is_of_contract(goal: str) -> bool:
-    """Whether a goal of a function is that of one of its clauses, of a loop or of a type's invariant, and not what it needs to run."""
+    """Returns whether a goal belongs to a contract, a loop or a type's invariant. Other goals are requirements of
+    called functions."""
     named = "returns" in goal or "clause-" in goal or is_goal_of("the loop", goal) or is_goal_of("the invariant", goal)
     return named and "-requires" not in goal
 
 
 def clause_of(goal: str) -> str:
-    """The words for a goal's clause in a mutant's first line, or none where it is no goal of a contract."""
+    """Returns how a mutant's first line must refer to the clause of a goal. Returns "" if the goal doesn't belong to a
+    contract."""
     if not is_of_contract(goal):
         return ""
     for words in ("the loop", "the invariant", "the clause"):
@@ -78,7 +81,8 @@ def clause_of(goal: str) -> str:
 
 
 def claim_of(text: str) -> Optional[Claim]:
-    """What a mutant's first line says, where it has the form 'WHAT: refused by CLAUSE of `FUNCTION`'."""
+    """Returns the claim of a first line of the form 'WHAT: refused by CLAUSE of `FUNCTION`'. Returns None if the line
+    has another form."""
     found = FIRST_LINE.match(text)
     if not found:
         return None
@@ -86,7 +90,8 @@ def claim_of(text: str) -> Optional[Claim]:
 
 
 class Pair(NamedTuple):
-    """A text that an edit replaces: its file, the old text, the new one, and the right one in the new one's form, if the edit gives it."""
+    """One replacement of a mutant: the file, the old text, the new text, and the correct text that is written like the
+    new one (None if the mutant gives none)."""
 
     path: str
     old: str
@@ -95,8 +100,8 @@ class Pair(NamedTuple):
 
 
 class Edit:
-    """One form of a mutant, the wrong one or the right one: the lines that it changes, the functions that these belong to, and the
-    claim of the mutant's first line. `why` says why it can't be tried."""
+    """A mutant, or with `is_right` its correct variant: the lines that it changes, the functions on these lines, and
+    the claim of its first line. If it can't be applied, `why` says so."""
 
     def __init__(self, crate: str, place: str, name: str, is_right: bool = False) -> None:
         self.crate, self.name, self.is_right = crate, f"{place}/{name}", is_right
@@ -115,7 +120,7 @@ class Edit:
 
     @property
     def is_of_kit(self) -> bool:
-        """Whether `rt ci` tries it."""
+        """Returns whether `rt ci` also tries this mutant."""
         return self.name.startswith(OF_KIT)
 
     @property
@@ -128,27 +133,30 @@ class Edit:
 
     @property
     def needs_right_form(self) -> bool:
-        """Whether it adds a branch, a return, a function or a closure, so that the prover may refuse its form whatever it does."""
+        """Returns whether the mutant adds a branch, a return, a function or a closure. If so, the prover may refuse it
+        because of how it is written, whatever it computes."""
         return any(added(self.pairs, it) > 0 for it in FORMS.values())
 
     @property
     def checked_as(self) -> List[str]:
-        """What the checker calls the functions that it changes and those that it adds beside them."""
+        """Returns the checker's names for the functions that this mutant changes or adds."""
         turned = [it.checked_as for it in self.turned or ()]
         names = [name for _, old, new in self.replacements() for name in re.findall(r"\bfn (\w+)", new) if f"fn {name}" not in old]
         return turned + ["::".join([*turned[0].split("::")[:-1], it]) for it in names if turned]
 
     def replacements(self) -> List[Tuple[str, str, str]]:
-        """The texts that this form replaces: (file, old text, new text)."""
+        """Returns the replacements as triples of a file, the old text and the text to put in its place."""
         return [(it.path, it.old, it.right if self.is_right and it.right is not None else it.new) for it in self.pairs]
 
     def find_turned(self, source: reading.Source) -> None:
-        """Finds the functions that it changes: None where a line belongs to none, as a type's does."""
+        """Finds the functions that this mutant changes, and stores them in `turned`. Stores None if a line is outside
+        functions, for example in a type."""
         self.turned = turned_by(source, self.lines)
 
 
 def added(pairs: Iterable[Pair], pattern: str, of_right: bool = False) -> int:
-    """How many matches of a pattern more the new texts have than the old ones, texts in quotes apart; or the right texts."""
+    """Returns how many more matches of a pattern the new texts contain than the old ones, outside quotes. With
+    `of_right`, counts the correct texts instead of the new ones."""
 
     def count(text: str) -> int:
         return len(re.findall(pattern, re.sub(r'"[^"]*"', '""', text)))
@@ -157,7 +165,8 @@ def added(pairs: Iterable[Pair], pattern: str, of_right: bool = False) -> int:
 
 
 def why_no_right_form(pairs: Iterable[Pair]) -> Optional[str]:
-    """Why the right texts aren't the right body in the form of the new ones, if they aren't."""
+    """Returns why the correct texts don't have the same constructs (branches, returns, closures) as the new ones, so
+    that they show nothing. Returns None if they have them."""
     pairs = list(pairs)
     rights = [it.new if it.right is None else it.right for it in pairs]
     if all(right.split() == it.old.split() for right, it in zip(rights, pairs)):
@@ -169,12 +178,12 @@ def why_no_right_form(pairs: Iterable[Pair]) -> Optional[str]:
 
 
 def has(crate: str, place: str) -> bool:
-    """Whether a crate has mutants in a folder."""
+    """Returns whether a crate has a folder `place` of mutants."""
     return os.path.isdir(os.path.join(common.TOP, "crates", crate, place))
 
 
 def forms_of(crate: str, source: reading.Source | None = None) -> list[Edit]:
-    """A crate's mutants, of both places, each followed by its right form if it has one."""
+    """Returns a crate's mutants from both folders, each followed by its correct variant if it has one."""
     found = [form for it in edits_of(crate) for form in (it, right_form(it)) if form]
     if source:
         for edit in found:
@@ -183,13 +192,13 @@ def forms_of(crate: str, source: reading.Source | None = None) -> list[Edit]:
 
 
 def right_form(edit: Edit) -> Optional[Edit]:
-    """The right body in a mutant's form, if the mutant gives it."""
+    """Returns the correct variant of a mutant, or None if the mutant has none."""
     place, _, name = edit.name.partition("/")
     return Edit(edit.crate, place, name, True) if edit.has_right_form else None
 
 
 def edits_of(crate: str, source: reading.Source | None = None) -> list[Edit]:
-    """A crate's mutants, of both places."""
+    """Returns a crate's mutants from both folders."""
     found = []
     for place in PLACES:
         folder = os.path.join(common.TOP, "crates", crate, place)
@@ -202,7 +211,7 @@ def edits_of(crate: str, source: reading.Source | None = None) -> list[Edit]:
 
 
 def pairs_of(text: str) -> Tuple[List[Pair], Optional[str]]:
-    """The texts that an edit replaces, or why it can't be applied."""
+    """Parses a mutant's text. Returns its replacements, and an error message (None if the text is valid)."""
     path, old = "", ""
     found: List[Pair] = []
     for row in text.split("\n"):
@@ -223,7 +232,8 @@ def pairs_of(text: str) -> Tuple[List[Pair], Optional[str]]:
 
 
 def changed_lines(replacements: Iterable[Tuple[str, str, str]], folder: str) -> tuple[Lines, str | None]:
-    """The lines that replacements change, as {(path, number): text}, or why they can't be made."""
+    """Returns the lines that replacements change, as {(path, number): new text}, and an error message (None if they can
+    be made)."""
     texts: dict[str, str] = {}
     before: dict[str, str] = {}
     for path, old, new in replacements:
@@ -246,7 +256,8 @@ def changed_lines(replacements: Iterable[Tuple[str, str, str]], folder: str) -> 
 
 
 def turned_by(source: reading.Source, lines: Iterable[tuple[str, int]]) -> set[reading.Function] | None:
-    """The functions that are on some lines, or None where one of the lines belongs to no function."""
+    """Returns the functions that contain these lines, or that use the constants on them. Returns None if a line belongs
+    to neither."""
     found: set[reading.Function] = set()
     for path, number in lines:
         here = [it for it in source.functions if it.file == path and it.first <= number <= it.last]
@@ -258,7 +269,8 @@ def turned_by(source: reading.Source, lines: Iterable[tuple[str, int]]) -> set[r
 
 
 def users_of_constant(source: reading.Source, path: str, number: int) -> list[reading.Function]:
-    """The functions that name the constant on a line; none where something else than functions does."""
+    """Returns the functions that use the constant on this line. Returns an empty list if there is no constant there, or
+    if anything else also uses it."""
     for name, (file, first, last) in source.constants.items():
         if file == path and first <= number <= last:
             whole = sum(it.text == name for words in source.words.values() for it in words)

@@ -1,17 +1,22 @@
 #!/usr/bin/env python3
-"""Runs the tests that take longer than the end-to-end tests may: each allocation fails, one at a time, in longer conversations
-and commands, and in the tests of the crates that are made for it (`a_refused_..`); one long conversation; many
-random changes of documents; many random modules, run by the program and by the reference; one long conversation about several
-documents, each answer compared with a new server's; many changes by keys in editors.
+"""Runs the tests that take longer than the end-to-end tests may: each allocation fails, one at a time, in longer
+conversations and commands, and in the tests of the crates that are made for it (`a_refused_..`); one long conversation;
+many random changes of documents; many random modules, run by the program and by the reference; one long conversation
+about several documents, each answer compared with a new server's; many changes by keys in editors.
 
-  tools/faults.py [WORD..]   only the tests with one of these words in their names
+  tools/faults.py [WORD..]   only the tests whose name contains one of these words
 
-It runs bin/ob0 (or the program that the variable OB0 names) and the programs of tests that `make test` or `rt test` left in
-crates/NAME/out. OB0_LONG is how many messages each long conversation has (100,000), OB0_CHANGES how many random changes are
-tried (20,000), OB0_RUNS how many random modules are run (20,000), OB0_WALK about how many allocations of one test fail
-(10,000): of more, each second, third and so on. What the cases of tools/figures.txt come to, at no fewer than these counts, is written
-there; a test compares docs/ROBUSTNESS.md with it. The last line is 'N passed, M failed', and ', K skipped' if something was left out for
-a missing tool; a run of nothing fails."""
+It runs bin/ob0 (or the program in the variable OB0) and the programs of tests that `make test` or `rt test` left in
+crates/NAME/out. Four variables set how much is tried:
+
+  OB0_LONG     messages of each long conversation (100,000)
+  OB0_CHANGES  random changes (20,000)
+  OB0_RUNS     random modules (20,000)
+  OB0_WALK     about how many allocations of one test fail (10,000); if there are more, each second, third and so on
+
+If these are at least as large as given here, the results of the cases in tools/figures.txt are written there, and a
+test compares docs/ROBUSTNESS.md with them. The last line is 'N passed, M failed', and ', K skipped' if a tool was
+missing. A run of nothing fails."""
 from __future__ import annotations
 
 import functools

@@ -15,13 +15,14 @@ EQUALS = " = "
 
 
 def rows() -> dict[str, str]:
-    """Each case of the list with its phrases."""
+    """Returns the cases of the list, each with its phrases."""
     with open(LIST, encoding="utf-8") as file:
         return dict(line.rstrip("\n").split(EQUALS, 1) for line in file)
 
 
 def summed(lines: list[str]) -> str:
-    """Joins the phrases of several runs: the sum of the numbers before the same words, and the number of runs."""
+    """Adds up the phrases of several runs: returns the sum of the numbers before the same words, and the number of
+    runs."""
     counts: Counter[str] = Counter()
     for phrase in "; ".join(lines).split("; "):
         number, _, words = phrase.partition(" ")
@@ -30,8 +31,8 @@ def summed(lines: list[str]) -> str:
 
 
 def keep(found: dict[str, str], program: str) -> None:
-    """Writes the phrases of those cases that the list has, and says which changed. Figures of another program than the proved one are
-    only printed."""
+    """Writes the phrases of these cases to the list, and prints which have changed. Only prints them if the program
+    isn't the proved one."""
     known = rows()
     new = {name: phrases for name, phrases in found.items() if name in known and known[name] != phrases}
     if not new:
@@ -52,7 +53,7 @@ def has(text: str, phrase: str) -> bool:
 
 @functools.lru_cache(8)
 def tables(page: str) -> list[tuple[list[str], str]]:
-    """The rows of a page's tables, each with the heads of its columns."""
+    """Returns the rows of a page's tables, each with the heads of its columns."""
     heads: list[str] = []
     found: list[tuple[list[str], str]] = []
     for line in page.split("\n"):
@@ -67,7 +68,7 @@ def tables(page: str) -> list[tuple[list[str], str]]:
 
 
 def rows_of(page: str, phrases: str) -> list[str]:
-    """The rows of a page's tables that have each of these phrases."""
+    """Returns the rows of a page's tables that contain each of these phrases."""
     wanted = re.sub(r" \(.*", "", phrases).split("; ")
     return [line for _, line in tables(page) if all(has(line, it) for it in wanted)]
 
@@ -78,7 +79,7 @@ def has_row(page: str, words: str, phrase: str) -> bool:
 
 
 def not_on_page(page: str) -> list[str]:
-    """The lines of the list whose phrases are in no row of the page."""
+    """Returns the lines of the list whose phrases are in no row of the page."""
     return [f"{name}{EQUALS}{phrases}" for name, phrases in rows().items() if not rows_of(page, phrases)]
 
 
@@ -90,7 +91,8 @@ BY_HAND = "(by hand)"
 
 
 def not_in_list(page: str, others: dict[str, str]) -> list[str]:
-    """The rows of the page with a figure that is neither in the list, nor one of these others, nor marked as counted by hand."""
+    """Returns the rows of the page that contain a figure, except those in the list, those in `others`, and those marked
+    as counted by hand."""
     listed = {line for phrases in rows().values() for line in rows_of(page, phrases)}
     listed |= {line for what, phrase in others.items() for line in rows_of(page, phrase) if what in line}
     found = []

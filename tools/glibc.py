@@ -18,7 +18,7 @@ def text_at(content: bytes, start: int) -> str:
 
 
 def chained(content: bytes, start: int, count: int, form: str) -> Iterator[tuple[int, tuple[int, ...]]]:
-    """The records of a list, each of which ends with the distance to the next one: the place and the fields of each."""
+    """Yields the place and the fields of each record of a list. A record ends with the distance to the next one."""
     for _ in range(count):
         fields = struct.unpack_from(form, content, start)
         yield start, fields
@@ -26,7 +26,7 @@ def chained(content: bytes, start: int, count: int, form: str) -> Iterator[tuple
 
 
 def needs(path: str) -> list[tuple[str, str]]:
-    """Each version of a symbol that a program for x86-64 needs, with the library that is to have it."""
+    """Returns the symbol versions that an x86-64 program needs, each with the library that must provide it."""
     with open(path, "rb") as file:
         content = file.read()
     if content[:6] != b"\x7fELF\2\1":
@@ -44,7 +44,7 @@ def needs(path: str) -> list[tuple[str, str]]:
 
 
 def needed(path: str) -> str:
-    """The least version of glibc that has all the symbols of a program."""
+    """Returns the least version of glibc with all symbols that a program needs."""
     found = needs(path)
     others = sorted({library for library, _ in found} - LIBRARIES)
     if others or not found:

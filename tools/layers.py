@@ -14,24 +14,24 @@ def depth_of(name: str, arrows: Arrows) -> int:
 
 
 def joints(arrows: Arrows) -> dict[tuple[str, str], list[str]]:
-    """For each arrow its nodes from top to bottom: with a joint in each layer that it passes."""
+    """Returns for each arrow its nodes from top to bottom, with a joint in each layer that it crosses."""
     depth = {it: depth_of(it, arrows) for it in arrows}
     return {(a, b): [a, *(f"{a}>{b}@{at}" for at in range(depth[a] - 1, depth[b], -1)), b] for a in arrows for b in arrows[a]}
 
 
 def middle(name: str, near: dict[str, list[str]], columns: dict[str, float]) -> float:
-    """The middle of the columns of a node's neighbours, or its own column if it has none."""
+    """Returns the mean of the columns of a node's neighbours, or its own column if it has none."""
     found = [columns[it] for it in near[name]]
     return sum(found) / len(found) if found else columns[name]
 
 
 def room_of(name: str) -> float:
-    """Half of the room that a node needs; a joint needs little."""
+    """Returns half of the width that a node needs; a joint needs little."""
     return 0.15 if "@" in name else 0.5
 
 
 def spread(row: list[str], wanted: dict[str, float]) -> dict[str, float]:
-    """Columns for the nodes of a layer, in their order and without overlaps, near the wanted ones."""
+    """Returns columns for the nodes of a layer, in their order and without overlaps, near the desired ones."""
     found: dict[str, float] = {}
     for before, name in zip([None, *row], row):
         least = found[before] + room_of(before) + room_of(name) if before else wanted[name]
@@ -41,7 +41,7 @@ def spread(row: list[str], wanted: dict[str, float]) -> dict[str, float]:
 
 
 def placed(arrows: Arrows) -> dict[str, Place]:
-    """The place of each node and joint. The columns of the picture begin at 0."""
+    """Returns the layer and the column of each node and joint. The columns begin at 0."""
     paths = joints(arrows)
     layers: dict[int, list[str]] = {}
     depth = {it: depth_of(it, arrows) for it in arrows}

@@ -32,14 +32,28 @@ def inline(text: str) -> str:
 
 
 def cells_of(line: str) -> list[str]:
-    """The cells of a row of a table."""
+    """Returns the cells of a table's row."""
     return [it.strip().replace(r"\|", "|") for it in re.split(r"(?<!\\)\|", line)[1:-1]]
 
 
+def single_rows(row: list[str]) -> list[list[str]]:
+    """Returns the cells of a row as a list of one. If the first two list as many words in code, returns the cells for each
+    word: the text before the second cell's words is repeated, also the third cell, unless it is such a list."""
+    first, second, *more = row
+    begin, at, listed = second.rpartition(" at ")
+    words, places, cures = (re.split("(?<=`), (?=`)", it) for it in (first, listed, "".join(more[:1])))
+    if len(words) != len(places) or not more:
+        return [row]
+    cures = cures if len(cures) == len(words) and all(it.count("`") == 2 for it in cures) else more[:1] * len(words)
+    return [[word, begin + at + place, cure, *more[1:]] for word, place, cure in zip(words, places, cures)]
+
+
 def table(lines: list[str]) -> Iterator[str]:
-    """Yields the rows of a table as paragraphs under their first cells."""
+    """Yields the rows of a table as paragraphs under their first cells. If the second column's head has code, each of its
+    cells continues that head."""
     heads = cells_of(lines[0])
-    for first, *cells in map(cells_of, lines[2:]):
+    for first, *cells in (it for line in lines[2:] for it in single_rows(cells_of(line))):
+        cells[0] = f"{heads[1]} {cells[0]}" if "`" in heads[1] else cells[0]
         yield f".TP\n{inline(first)}\n"
         yield inline(": ".join(it for it in cells[:2] if it)) + "\n"
         more = "; ".join(f"{head.lower()}: {it}" for head, it in zip(heads[3:], cells[2:]) if it)

@@ -1,29 +1,32 @@
 #!/usr/bin/env python3
-"""Tries the mutants of the crates: the prover has to refuse each by the clause that its first line names, and to prove its right form.
+"""Tries the mutants of the crates: the prover has to refuse each by the clause in its first line, and to prove its
+right form.
 
-  tools/mutants.py [--lanes N] [--quiet] [CRATE..]  those whose row isn't of their present form, of all crates if none is named
-  tools/mutants.py CRATE/WORD..                     those of a crate with this word in their path, whatever their rows say
-  tools/mutants.py --all [CRATE..]                  all of them
-  tools/mutants.py --from N                         those that a run of `make test` has tried, by the number that it printed
-  tools/mutants.py --left [CRATE..]                 lists those whose row isn't of their present form, and tries none
-  tools/mutants.py --renamed COMMIT                 keeps the rows of a commit if nothing but names changed since
+  tools/mutants.py [--lanes N] [--quiet] [CRATE..]  the mutants of these (or all) crates whose rows are stale
+  tools/mutants.py CRATE/WORD..                     the mutants of a crate with this word in their path
+  tools/mutants.py --all [CRATE..]                  all mutants
+  tools/mutants.py --from N                         the mutants that a run of `make test` tried: it printed N
+  tools/mutants.py --left [CRATE..]                 lists the mutants whose rows are stale, and tries none
+  tools/mutants.py --renamed COMMIT                 keeps the rows of a commit if only names have changed since
 
-First the crates and those below them are proved over kept work, as `make check` does. Then up to some twenty mutants of a crate are
-in one check (`rattle check --only` the functions that they change, over a copy of the crate's kept proofs): the checker judges each
-function for itself. As many checks as processors and memory allow are made side by side (--lanes). A function that stands on one
-that isn't proved, and isn't refused by its clause, is tried again among others of which none stands on another. What isn't judged
-there, or is proved, is tried alone.
+A row of tools/mutants.txt is stale if its mutant, or something that its verdict depends on, has changed.
 
-A mutant is refused by its clause if a goal of the clause that its first line names isn't proved, or an answer doesn't prove such a
-goal any more. One that only something else refuses, as what a callee requires, is listed as refused elsewhere. A right form is in
-checks without wrong ones, and has to be proved. What each came to is written into tools/mutants.txt after each check
-(tools/verdicts.py), so a run that is ended can be resumed.
+First the crates and the crates below them are proved over kept work, as `make check` does. Then each check takes about
+twenty mutants of a crate (`rattle check --only` the changed functions, over a copy of the crate's kept proofs), because
+the checker judges each function separately. --lanes sets how many checks run at the same time; without it processors
+and memory do. If a function calls an unproved one and its clause doesn't refuse it, it is tried again in a check
+without such calls. A function that still isn't judged, or that is proved, is tried in a separate check.
 
-`make test` calls `try_some` after `rt ci`, over the libraries that it has just proved. It tries 24 mutants with their right forms,
-whatever their rows say: those from a number on that is drawn in the run, so no committer chooses which rows are tested. `rt ci` also
-tries the edits of crates/*/must-fail itself (tools/refusals.py).
+A mutant is refused by its clause if a goal of that clause isn't proved, or if an answer no longer proves such a goal.
+If only something else refuses it, such as a callee's `requires`, it is listed as refused elsewhere. Right forms are in
+checks without wrong ones, and have to be proved. Each result is written into tools/mutants.txt after its check
+(tools/verdicts.py), so an interrupted run can be resumed.
 
-The status is 1 if a form isn't as it has to be, or could not be tried; with --left, if there are any."""
+`make test` calls `try_some` after `rt ci`, over the libraries that this has just proved. It tries 24 mutants with their
+right forms, stale or not. The run draws the first one at random, so no committer chooses which rows are tested. `rt ci`
+itself also tries the edits of crates/*/must-fail (tools/refusals.py).
+
+The status is 1 if a form has a wrong result or could not be tried; with --left, if any row is stale."""
 from __future__ import annotations
 
 import argparse
@@ -33,6 +36,7 @@ import secrets
 import shutil
 import sys
 import tempfile
+import time
 from concurrent.futures import FIRST_COMPLETED, Future, ThreadPoolExecutor, wait
 from collections.abc import Callable, Iterable
 from typing import Dict, List, NamedTuple, Optional, Set, Tuple
@@ -41,6 +45,7 @@ import build
 import checks
 import common
 import edits
+import processes
 import reading
 import renaming
 import sums
@@ -50,23 +55,24 @@ from edits import Edit
 from refusals import Refusals as Refusals
 from verdicts import Mutants, is_met
 
-# Where `make check` keeps a crate's proofs, and where a run of `try_some` does.
+# The folders in which `make check` and a run of `try_some` keep a crate's proofs.
 OF_CRATE, OF_RUN = os.path.join(TOP, "crates", "{}", "out", "incremental"), os.path.join(build.ROOMS, "kept", "{}")
 DRAWN = 24  # how many mutants `make test` tries
 MOST = 24  # mutants in one check: with more it takes much memory, and the others wait for it
 REFUSED, ELSEWHERE, PROVED, NOT_JUDGED = "refused", "elsewhere", "PROVED", "not judged"
-RIGHT, RIGHT_REFUSED = "proved", "RIGHT FORM REFUSED"  # what a right form comes to
+RIGHT, RIGHT_REFUSED = "proved", "RIGHT FORM REFUSED"  # the results of right forms
 WORDS = {
     REFUSED: "refused by their clause", RIGHT: "right forms proved", ELSEWHERE: "refused elsewhere", PROVED: "proved",
     RIGHT_REFUSED: "right forms not proved", NOT_JUDGED: "not judged",
 }  # fmt: skip
 AS_IT_MUST_BE = (REFUSED, RIGHT)
-# How a mutant is tried: among others, among others of which none stands on another, alone.
+# A mutant is tried in a check with others, with others that don't depend on each other, or by itself.
 AMONG, APART, ALONE = range(3)
 
 
 class Verdict(NamedTuple):
-    """What a try of a mutant came to: a word, why, and a goal that refuses it, 'GOAL of PROOF', one of its clause if there is one."""
+    """The result of trying a mutant: a word, the reason, and a goal that refuses it, 'GOAL of PROOF', if possible one
+    of its clause."""
 
     word: str
     why: str
@@ -74,21 +80,26 @@ class Verdict(NamedTuple):
 
     @property
     def row(self) -> str:
-        """The verdict as tools/mutants.txt has it."""
+        """Returns the verdict in the form of tools/mutants.txt."""
         return self.goal if self.word == REFUSED else f"{self.word} {self.goal}".rstrip()
 
     @property
     def is_well(self) -> bool:
         return self.word in AS_IT_MUST_BE
 
+    def line(self, path: str) -> str:
+        """Returns the line that a run prints about the mutant at this path. tools/test.py finds the failures among
+        these lines."""
+        return f"  {self.word:<10}  {path}: {self.why}"
 
-# (what `rt ci` says of a crate that it has proved, or that an earlier run on the machine has)
+
+# (the line of `rt ci` about a crate that is proved, by this run or by an earlier one on the machine)
 HAS_PROVED = re.compile(r"rt: (\w+) (?:proved$|is kept: )")
 
 
 class Libraries(checks.Libraries):
-    """The libraries that `rt ci` proves, taken as it says that each is proved. (At its end it puts back what was in the crates'
-    folders before.)"""
+    """The libraries that `rt ci` proves. Each is copied when `rt ci` reports it, because at its end `rt ci` restores
+    the crates' folders."""
 
     def take(self, line: str) -> None:
         """Takes a crate's library if a line of `rt ci` says that the crate is proved."""
@@ -98,7 +109,7 @@ class Libraries(checks.Libraries):
 
 
 def judge(edit: Edit, said: Said, source: reading.Source, alone: bool) -> Optional[Verdict]:
-    """What a check says of one mutant: a word and why, or None where it has to be tried again."""
+    """Returns a check's verdict on one mutant, or None if it has to be tried again."""
     error = checks.unreadable(said, edit)
     if error:
         return Verdict(NOT_JUDGED, f"it can't be read, so no contract was tried: {error}")
@@ -109,7 +120,7 @@ def judge(edit: Edit, said: Said, source: reading.Source, alone: bool) -> Option
         return judge_right(said, {**dict.fromkeys(added, ""), **symbols}, alone)
     if refused:
         found = refusal(edit, said, refused)
-        # (of a function that stands on one that isn't proved not all goals need have been tried)
+        # (if a function calls an unproved one, some of its goals may not have been tried)
         is_whole = alone or not any(said.waits(it) for it in symbols)
         return found if found.word == REFUSED or is_whole else None
     if not alone:
@@ -117,13 +128,14 @@ def judge(edit: Edit, said: Said, source: reading.Source, alone: bool) -> Option
     if not said.ended:
         return Verdict(NOT_JUDGED, f"the check did not reach the prover: {said.text[-300:]}")
     if symbols and said.is_proved():
-        return Verdict(PROVED, "what it turns is still proved with it")
+        return Verdict(PROVED, "each function that it changes is still proved")
     others = [(it, "") for it in said.verdicts if said.own(it)]
     return refusal(edit, said, others) if others else Verdict(NOT_JUDGED, f"no function was judged: {said.text[-300:]}")
 
 
 def judge_right(said: Said, symbols: Dict[str, str], alone: bool) -> Optional[Verdict]:
-    """What a check says of a right form. (Among others one may wait for another that isn't proved.)"""
+    """Returns the verdict of a check on a right form, or None if it has to be tried again: it may call another that
+    isn't proved."""
     if symbols and all(said.verdicts[it].startswith("proved") for it in symbols) and (said.ended or not alone):
         return Verdict(RIGHT, "proved")
     if not alone:
@@ -138,7 +150,7 @@ def judge_right(said: Said, symbols: Dict[str, str], alone: bool) -> Optional[Ve
 
 
 def refusal(edit: Edit, said: Said, refused: List[Tuple[str, str]]) -> Verdict:
-    """What to say of functions that are refused for what they do themselves."""
+    """Returns the verdict on a mutant whose functions are refused, and not only the functions that they call."""
     uncovered = [it for it, _ in refused if "does not cover" in said.verdicts[it]]
     if len(uncovered) == len(refused):
         reason = said.verdicts[uncovered[0]][:200]
@@ -151,14 +163,14 @@ def refusal(edit: Edit, said: Said, refused: List[Tuple[str, str]]) -> Verdict:
 
 
 class Group(NamedTuple):
-    """Mutants of a crate that are in one check, and how they are tried."""
+    """Mutants of a crate that share a check, and how they are tried."""
 
     edits: List[Edit]
     how: int
 
 
 class Crate:
-    """The mutants of a crate that are tried in this run, and what is known of them."""
+    """The mutants of a crate that are tried in this run, and their verdicts so far."""
 
     def __init__(self, name: str, chosen: List[Edit], source: reading.Source, most: int = MOST) -> None:
         self.name, self.source, self.chosen, self.most = name, source, chosen, most
@@ -168,12 +180,13 @@ class Crate:
         self.running, self.checks = 0, 0
 
     def first(self) -> List[Group]:
-        """Right forms apart from wrong ones."""
+        """Returns the first groups; no group contains both right and wrong forms."""
         forms = [[it for it in self.chosen if not it.why and it.is_right == is_right] for is_right in (False, True)]
         return [Group(it, AMONG) for some in forms if some for it in self.groups(some, False)]
 
     def groups(self, left: List[Edit], is_apart: bool) -> List[List[Edit]]:
-        """Groups of mutants, each for one check, of which no two have one proof. In a group few stand on another, or none."""
+        """Returns groups of mutants, each for one check. No two mutants of a group share a proof, and few depend on
+        each other; none do if `is_apart`."""
         found: List[List[Edit]] = []
         if not is_apart:
             counts = [sum(proofs(it) == proofs(other) for other in left) for it in left]
@@ -189,11 +202,11 @@ class Crate:
         return [it for it in found if it]
 
     def are_joined(self, one: Edit, other: Edit) -> bool:
-        """Whether what one of two mutants turns stands on what the other turns."""
+        """Returns whether a function that one mutant changes depends on a function that the other changes."""
         return any(a in self.below[b] or b in self.below[a] for a in proofs(one) for b in proofs(other))
 
     def take(self, group: Group, said: Said) -> Tuple[Dict[Edit, Verdict], List[Group]]:
-        """Takes what a check says: what is known by it, and what is tried next."""
+        """Records the verdicts that a check's output gives. Returns them, and the groups to try next."""
         self.running -= 1
         self.checks += 1
         is_alone = len(group.edits) == 1
@@ -202,7 +215,7 @@ class Crate:
         self.found.update(settled)
         again = [it for it, verdict in judged.items() if not verdict]
         if not said.ended and again:
-            # (where the compiler doesn't say which of them it can't read, each half is tried)
+            # (if the compiler doesn't say which of them it can't read, each half is tried)
             middle = len(again) // 2 if len(again) == len(group.edits) else 0
             return settled, [Group(it, group.how) for it in (again[:middle], again[middle:]) if it]
         for edit in again:
@@ -212,7 +225,7 @@ class Crate:
         return settled, self.later() if not self.running else []
 
     def later(self) -> List[Group]:
-        """What is tried again, when all of the crate was tried once."""
+        """Returns the groups to be tried again, after each mutant of the crate was tried once."""
         apart = [it for it, how in self.next.items() if how == APART]
         alone = [it for it, how in self.next.items() if how == ALONE]
         self.next = {}
@@ -226,8 +239,9 @@ class Crate:
 
 
 def check(crate: str, chosen: List[Edit], libraries: checks.Libraries, keeps: str) -> Said:
-    """Checks the functions that some mutants of a crate change, over a copy of the kept proofs. (What a check keeps it writes into
-    new files: the links leave what is kept as it is.) If nothing is kept there yet, it leaves what it keeps itself."""
+    """Checks the functions that some mutants of a crate change, over hard links to the kept proofs. (A check writes
+    only new files, so the kept ones don't change.) A run of `try_some` keeps the proofs of its first check of a
+    crate."""
     asked: List[List[str]] = [sorted({name for edit in chosen for name in edit.checked_as}), []]
     said, kept = Said("a library that it rests on is missing", 2), keeps.format(crate)
     for only in asked:
@@ -242,14 +256,14 @@ def check(crate: str, chosen: List[Edit], libraries: checks.Libraries, keeps: st
             if keeps == OF_RUN and not os.path.isdir(kept) and os.path.isdir(os.path.join(room, "kept")):
                 os.makedirs(os.path.dirname(kept), exist_ok=True)
                 os.rename(os.path.join(room, "kept"), kept)
-        # (some functions can't be asked for by a name: then all are checked)
+        # (the checker doesn't find each function by its name: then all are checked)
         if said.ended or not re.search(r"^rattle: error: ", said.text, re.M):
             return said
     return said
 
 
 def libraries_of(crates: Iterable[str]) -> checks.Libraries:
-    """The proved libraries of some crates and of those below them."""
+    """Returns the proved libraries of these crates and of the crates below them."""
     found = checks.Libraries(os.path.join(build.ROOMS, "libraries"))
     for name in dict.fromkeys(it for crate in crates for it in common.below(crate)):
         found.add(name)
@@ -257,17 +271,17 @@ def libraries_of(crates: Iterable[str]) -> checks.Libraries:
 
 
 def proofs(edit: Edit) -> Set[str]:
-    """The proofs of the functions that a mutant changes."""
+    """Returns the proofs of the functions that a mutant changes."""
     return {it.proof for it in edit.turned or ()}
 
 
 def said_of(counts: Dict[str, int]) -> str:
-    """The counts of a run."""
+    """Describes the counts of a run in words."""
     return ", ".join(f"{count} {WORDS[word]}" for word, count in counts.items())
 
 
 class Run:
-    """A run over crates. It tells `keep` what each mutant came to, after each check."""
+    """Tries the mutants of several crates. Calls `keep` with the verdicts of each check."""
 
     def __init__(self, crates: List[Crate], lanes: int, keep: Callable[[Dict[Edit, Verdict]], object], is_quiet: bool = False) -> None:
         self.crates, self.lanes, self.keep, self.is_quiet = crates, lanes, keep, is_quiet
@@ -275,7 +289,7 @@ class Run:
         self.running: Dict[Future[Said], Tuple[Crate, Group]] = {}
 
     def try_all(self, libraries: checks.Libraries, keeps: str) -> None:
-        """Tries the mutants of all crates, those of large ones first."""
+        """Tries the mutants of all crates, and begins with the crates that take longest."""
         os.makedirs(build.ROOMS, exist_ok=True)
         with ThreadPoolExecutor(self.lanes) as pool:
 
@@ -293,12 +307,20 @@ class Run:
                         start(crate, self.take(crate, group, done.result()))
                         if not crate.running:
                             self.say(crate)
-            finally:
-                for it in self.running:
-                    it.cancel()
+            except BaseException:
+                self.end_checks()
+                raise
+
+    def end_checks(self) -> None:
+        """Ends the checks that run, and those that a lane still starts from its queue."""
+        for it in self.running:
+            it.cancel()
+        while any(it.running() for it in self.running):
+            processes.end_descendants(os.getpid())
+            time.sleep(0.05)
 
     def take(self, crate: Crate, group: Group, said: Said) -> List[Group]:
-        """Takes what a check says; returns what is tried next."""
+        """Records the verdicts that a check's output gives, and returns the groups to try next."""
         settled, groups = crate.take(group, said)
         self.left -= len(settled)
         self.keep(settled)
@@ -306,24 +328,24 @@ class Run:
         return groups
 
     def say(self, crate: Crate) -> None:
-        """Says what the mutants of a crate came to."""
+        """Prints the verdicts on the mutants of a crate."""
         for edit in crate.chosen:
             verdict = crate.found[edit]
             if not self.is_quiet or not verdict.is_well:
-                print(f"  {verdict.word:<10}  {edit.path}: {verdict.why}")
+                print(verdict.line(edit.path))
         print(f"{crate.name}: {said_of(crate.counts())}, in {crate.checks} checks", flush=True)
 
     def counts(self) -> Dict[str, int]:
-        """How many came to each word, over all crates."""
+        """Returns how many mutants of all crates have each word."""
         return {word: sum(it.counts()[word] for it in self.crates) for word in WORDS}
 
     def failed(self) -> int:
-        """How many aren't as they have to be."""
+        """Returns how many mutants don't have the verdict that they must have."""
         return sum(count for word, count in self.counts().items() if word not in AS_IT_MUST_BE)
 
 
 def crates_of(chosen: Iterable[Edit], parts: sums.Parts, most: int = MOST) -> List[Crate]:
-    """The crates of some mutants, each with its own, and at most so many in one check."""
+    """Returns the crates of these mutants, each with its mutants and with at most so many in one check."""
     found: Dict[str, List[Edit]] = {}
     for edit in chosen:
         found.setdefault(edit.crate, []).append(edit)
@@ -331,28 +353,29 @@ def crates_of(chosen: Iterable[Edit], parts: sums.Parts, most: int = MOST) -> Li
 
 
 def draw(mutants: Mutants) -> int:
-    """A number of a mutant at random, from 1. The system draws it, so nobody can choose it by a commit, an option or a variable of
-    the environment."""
+    """Draws the number of a mutant, from 1. The system's random source is used, so no commit, option or environment
+    variable can choose it."""
     return secrets.randbelow(len(mutants.mutants)) + 1
 
 
 def drawn_from(mutants: Mutants, number: int) -> List[Edit]:
-    """Some mutants, from the one with this number on, and then from the first; each with its right form. (Neighbours are of one crate
-    or two, so they need few checks.)"""
+    """Returns the first mutants with a current row, starting at this number (after the last one the first), each with its
+    right form. Neighbours belong to one or two crates, so they need few checks."""
     found = mutants.mutants
-    paths = [found[(number - 1 + it) % len(found)] for it in range(min(len(found), DRAWN))]
+    ordered = [*found[number - 1 :], *found[: number - 1]]
+    # (`make wrong-bodies` tries stale ones)
+    paths = [it for it in ordered if mutants.is_current(it)][:DRAWN]
     forms = [it for path in paths for it in (path, path + edits.RIGHT) if it in mutants.edits]
-    # (what was never tried in its present form is left to `make wrong-bodies`)
-    return [mutants.edits[it] for it in forms if mutants.is_current(it)] or [mutants.edits[it] for it in forms[:1]]
+    return [mutants.edits[it] for it in forms if mutants.is_current(it)]
 
 
 def try_some(libraries: checks.Libraries) -> Tuple[int, int]:
-    """Tries some drawn mutants over the libraries that `rt ci` proved. Returns how many forms are as they have to be, and how many
-    aren't; a mutant over a crate that isn't proved counts among these. Nothing is written."""
+    """Tries drawn mutants over the libraries that `rt ci` proved. Returns how many forms have the verdict that they
+    must have, and how many don't, including mutants over a crate that isn't proved. Writes nothing."""
     mutants = Mutants()
     number = draw(mutants)
     chosen = drawn_from(mutants, number)
-    print(f"{DRAWN} of {len(mutants.mutants)} mutants, those from number {number} on, drawn in this run, with their right forms; "
+    print(f"{DRAWN} of {len(mutants.mutants)} mutants with their right forms, from number {number}, drawn in this run; "
           f"`tools/mutants.py --from {number}` tries them again", flush=True)  # fmt: skip
     # (few in a check, so that all processors have some)
     lanes = build.lanes()
@@ -362,8 +385,8 @@ def try_some(libraries: checks.Libraries) -> Tuple[int, int]:
 
 
 def chosen_of(named: Dict[str, List[str]], mutants: Mutants, takes_all: bool) -> List[Edit]:
-    """The forms of some crates that have one of some words in their path: without a word those whose row isn't of their present form,
-    or all."""
+    """Returns the forms of these crates with one of the given words in their path. A crate without a word gives its
+    forms with a stale row, or all forms."""
     found = []
     for path, edit in sorted(mutants.edits.items()):
         wanted = named.get(edit.crate, [])
@@ -374,10 +397,11 @@ def chosen_of(named: Dict[str, List[str]], mutants: Mutants, takes_all: bool) ->
 
 
 def try_chosen(chosen: List[Edit], mutants: Mutants, options: argparse.Namespace) -> int:
-    """Tries some mutants, and keeps what they came to."""
+    """Tries these mutants, and writes their verdicts. Returns the exit status."""
     crates = crates_of(chosen, mutants.parts)
-    if crates and build.prove_libraries([it.name for it in crates]):
-        return 1
+    status = build.prove_libraries([it.name for it in crates]) if crates else 0
+    if status:
+        return status
 
     def keep(settled: Dict[Edit, Verdict]) -> None:
         for edit, verdict in settled.items():
@@ -396,7 +420,7 @@ def try_chosen(chosen: List[Edit], mutants: Mutants, options: argparse.Namespace
 
 
 def list_left(chosen: List[Edit], mutants: Mutants) -> int:
-    """Lists some forms whose row isn't of their present form, each with what it came to in another."""
+    """Prints the rows of these forms, which are stale; returns the status."""
     for edit in chosen:
         print(mutants.row(edit.path).line)
     of_right = len(mutants.edits) - len(mutants.mutants)
@@ -404,7 +428,8 @@ def list_left(chosen: List[Edit], mutants: Mutants) -> int:
     return 1 if chosen else 0
 
 
-def main(given: List[str]) -> int:
+def options_of(given: List[str]) -> argparse.Namespace:
+    """Returns the options that these words give."""
     words = argparse.ArgumentParser(description="Tries the mutants of crates: the prover has to refuse each.")
     words.add_argument("--lanes", type=int, default=build.lanes(), metavar="N")
     words.add_argument("--quiet", action="store_true")
@@ -413,7 +438,22 @@ def main(given: List[str]) -> int:
     words.add_argument("--from", type=int, dest="start", metavar="N")
     words.add_argument("--renamed", metavar="COMMIT")
     words.add_argument("crates", nargs="*", metavar="CRATE[/WORD]")
-    options = words.parse_args(given)
+    return words.parse_args(given)
+
+
+def carry_out(options: argparse.Namespace, named: Dict[str, List[str]], mutants: Mutants) -> int:
+    """Keeps the rows of a commit, or tries the chosen mutants; returns the status."""
+    if options.renamed:
+        return renaming.keep_rows(options.renamed, mutants)
+    if options.start is None:
+        return try_chosen(chosen_of(named, mutants, options.all), mutants, options)
+    if options.crates or options.start not in range(1, len(mutants.mutants) + 1):
+        common.stop(f"--from takes 1 to {len(mutants.mutants)}, and no crates")
+    return try_chosen(drawn_from(mutants, options.start), mutants, options)
+
+
+def main(given: List[str]) -> int:
+    options = options_of(given)
     common.need("rt")
     named: Dict[str, List[str]] = {}
     for it in options.crates or common.libraries():
@@ -421,22 +461,12 @@ def main(given: List[str]) -> int:
         named.setdefault(name, []).append(word)
     unknown = [it for it in named if it not in common.libraries()]
     if unknown:
-        common.stop(f"crates.txt names no crate {', '.join(unknown)}")
-    mutants = Mutants()
-    if options.renamed:
-        return renaming.keep_rows(options.renamed, mutants)
-    if options.start is not None:
-        if options.crates or options.start not in range(1, len(mutants.mutants) + 1):
-            common.stop(f"--from takes 1 to {len(mutants.mutants)}, and no crates")
-        chosen = drawn_from(mutants, options.start)
-    else:
-        chosen = chosen_of(named, mutants, options.all and not options.left)
+        common.stop(f"crates.txt doesn't list {', '.join(unknown)}")
     if options.left:
-        return list_left(chosen, mutants)
-    try:
-        return try_chosen(chosen, mutants, options)
-    except KeyboardInterrupt:
-        return 130
+        mutants = Mutants()
+        return list_left(chosen_of(named, mutants, False), mutants)
+    with common.one_at_a_time(), common.ended_by_signals(lambda: "while it tried mutants"):
+        return carry_out(options, named, Mutants())
 
 
 if __name__ == "__main__":

@@ -15,18 +15,19 @@ Notices = Dict[str, Dict[str, str]]
 
 
 def kit_folder() -> str:
-    """The folder of the toolchain, which holds the sources and the libraries of its crates."""
+    """Returns the toolchain's folder, which contains the sources and the libraries of its crates."""
     return os.path.dirname(os.path.dirname(os.path.realpath(common.need("rt"))))
 
 
 def named_by(name: str, folder: str) -> list[str]:
-    """The crates that a crate of the kit names, as its library lists them."""
+    """Returns the crates that a crate of the kit uses, according to its library."""
     with open(os.path.join(folder, "rlibs", f"{name}.rlib", "format"), encoding="utf-8") as file:
         return [line.split()[1] for line in file if line.startswith("dep ")]
 
 
 def linked(folder: str) -> list[str]:
-    """The crates of the kit below the program: those that crates.txt names, `std`, and the crates that these name."""
+    """Returns the crates of the kit that the program is linked with: those in crates.txt, `std`, and the crates that
+    these use."""
     lines = common.listed()
     waiting = ["std", *(it for name in common.below("ob0") for it in lines[name] if it not in lines)]
     found = set()
@@ -39,7 +40,8 @@ def linked(folder: str) -> list[str]:
 
 
 def texts_in(folder: str) -> dict[str, str]:
-    """The notices in the folder of a crate. If a crate may be used under the MIT licence or Apache's, it is used under the former."""
+    """Returns the notices in the folder of a crate. If it may be used under the MIT licence or Apache's, the former
+    applies."""
     names = [it for it in sorted(os.listdir(folder)) if it.startswith(("LICENSE", "NOTICE", "COPYING"))]
     found = {}
     for name in names:
@@ -50,13 +52,13 @@ def texts_in(folder: str) -> dict[str, str]:
 
 
 def collected() -> Notices:
-    """Each crate of the kit below the program, with its notices."""
+    """Returns the toolchain's crates that the program is linked with, each with its licence notices."""
     folder = kit_folder()
     return {name: texts_in(os.path.join(folder, "rattle", name)) for name in linked(folder)}
 
 
 def head() -> dict[str, str | None]:
-    """The toolchain and the sources of the program that was built, by which kept notices are known to be its own."""
+    """Returns the toolchain and the sources of the built program. Kept notices with another head aren't its own."""
     return {it: common.stamp().get(it) for it in ("kit", "sources")}
 
 
@@ -85,7 +87,7 @@ def of_program() -> Notices:
 
 
 def without(found: Notices) -> list[str]:
-    """The crates that have no notice."""
+    """Returns the names of the crates that have no licence notice."""
     return sorted(name for name, texts in found.items() if not texts)
 
 
@@ -95,6 +97,7 @@ def short_name(crate: str, file: str) -> str:
 
 
 def holders(crate: str, text: str) -> list[str]:
-    """Who holds the copyright by a notice: its own lines, or the authors of a crate whose notice has none."""
+    """Returns the copyright holders according to a notice: its own lines, or the authors of a crate whose notice has
+    none."""
     lines = re.findall(r"^\s*Copyright (?:\(c\) )?(.*\b(?:contributors|\d{4})\b.*?)\s*$", text, re.M | re.I)
     return [f"{it} ({crate})" for it in lines] or [f"the authors of {crate}"]

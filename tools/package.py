@@ -1,17 +1,18 @@
 #!/usr/bin/env python3
 """Packs and installs bin/ob0, the proved program, with its manual page, completions, editor files, pages and examples.
 
-  tools/package.py package [FOLDER]          a Debian package and a .tar.gz with the same tree, a .vsix with the extension for
-                                             VS Code if the modules that it needs are here, and their SHA256SUMS, in bin/ or
-                                             a folder; beside them TESTED, which says what was tested here and what wasn't
-  tools/package.py vsix                      that .vsix alone
+  tools/package.py package [FOLDER]          writes a Debian package, a .tar.gz with the same tree, a .vsix with the
+                                             extension for VS Code (if the modules that it needs are here), SHA256SUMS,
+                                             and TESTED, which reports what was tested; all in bin/ or FOLDER
+  tools/package.py vsix                      writes only the .vsix
   tools/package.py install PREFIX DESTDIR    copies that tree to PREFIX
+  tools/package.py place PREFIX DESTDIR      stops if PREFIX can't have its folders, and leaves none
   tools/package.py uninstall PREFIX DESTDIR  removes what was installed there, or unpacked there from the .tar.gz
-  tools/package.py notes                     prints what CHANGELOG.md says of this version
+  tools/package.py notes                     prints the part of CHANGELOG.md about this version
 
-The tree is that of a folder such as /usr: each editor's files are where that editor looks for them. The same commit, the same
-program and the same maintainer (DEBFULLNAME, DEBEMAIL) give the same bytes, if zlib and liblzma compress alike. BUILD_VERSION is the
-version of the packages; it is needed if the sources are no git repository. SOURCE_DATE_EPOCH is the time of all files."""
+The tree has the form of /usr: each file is in the folder in which an editor looks for it. The same commit, program and
+maintainer (DEBFULLNAME, DEBEMAIL) give the same bytes, if zlib and liblzma compress alike. BUILD_VERSION sets the
+version of the packages; without a git repository it is required. SOURCE_DATE_EPOCH sets the time of all files."""
 from __future__ import annotations
 
 import datetime
@@ -39,16 +40,16 @@ import vsix
 from common import TOP, match_of
 
 DOC = "share/doc/ob0"
-LIST = f"{DOC}/installed"  # what an installation put there, for its removal: files, and then folders, which end with /
+LIST = f"{DOC}/installed"  # lists what an installation made: the files, and then the folders, which end with /
 VIM = "share/vim/vimfiles/pack/ob0/start/ob0"
 NVIM = "share/nvim/site/pack/ob0/start"
 EMACS = "share/emacs/site-lisp/elpa/ob0-mode"
 EXERCISES = "share/ob0/exercises"
-# folders that a system has without ob0: they stay, also where nothing else is in them
+# folders that a system has without ob0: an empty one isn't removed either
 SHARED = {"bin", "share", "share/man"}
 # the one file that others hold the copyright of
 PARSER, PARSER_HOLDER = "editors/tree-sitter/src/tree_sitter/parser.h", "2018-2024 Max Brunsfeld"
-# the scripts beside the program, each with a manual page
+# the scripts, each with a manual page
 SCRIPTS = ("ob0-check", "ob0-format", "ob0-rename", "ob0-trace", "ob0-watch")
 DEFAULT_NAME, DEFAULT_ADDRESS = "The authors of ob0", "ob0@example.org"
 
@@ -97,7 +98,8 @@ Tree = Dict[str, Tuple[Union[bytes, Link], int]]
 
 
 def moment() -> int:
-    """The time of every packed file: SOURCE_DATE_EPOCH, or the commit's, or that of CHANGELOG.md if the sources are no repository."""
+    """Returns the time of all packed files: SOURCE_DATE_EPOCH, or the commit's, or (without a repository)
+    CHANGELOG.md's."""
     given = os.environ.get("SOURCE_DATE_EPOCH")
     if given and not given.isdigit():
         common.stop(f"SOURCE_DATE_EPOCH is a number of seconds, and not {given}")
@@ -109,7 +111,7 @@ def time_of_commit() -> str:
 
 
 def git(*words: str) -> str:
-    """What a command of git prints; nothing if the sources are no repository, or git is missing."""
+    """Returns the output of a git command, or "" outside a repository or without git."""
     if not os.path.exists(os.path.join(TOP, ".git")):
         return ""
     how: dict[str, Any] = {"cwd": TOP, "stdout": subprocess.PIPE, "stderr": subprocess.DEVNULL, "stdin": subprocess.DEVNULL}
@@ -127,13 +129,14 @@ def read(*path: str) -> bytes:
 
 
 def version() -> str:
-    """The program's version: the number in the source of its command line, from which all other places have it."""
+    """Returns the program's version, from the source of its command line."""
     return match_of(r'const VERSION: &str = "([0-9.]+)";', read("crates", "ob0_cli", "src", "line.rt").decode())[1]
 
 
 def build_version() -> str:
-    """The version of the packages: BUILD_VERSION, or the program's if the commit has its tag. Every other commit has a version that
-    grows with its time, below the program's or, after its release, above it: so a later build replaces an earlier one."""
+    """Returns the version of the packages: BUILD_VERSION, or the program's if the commit has its tag. The version of
+    any other commit grows with the commit's time, so a later build replaces an earlier one. It is below the program's
+    version before its release, and above it afterwards."""
     number, given = version(), os.environ.get("BUILD_VERSION", "")
     if given:
         if not re.fullmatch(rf"{re.escape(number)}[A-Za-z0-9.+~]*", given):
@@ -149,18 +152,18 @@ def build_version() -> str:
 
 
 def has_changes() -> bool:
-    """Whether files of the commit are changed, or the program's sources have a file that isn't in it. (Of what is packed besides, only
-    files that git knows are taken.)"""
+    """Returns whether files of the commit are changed, or the program's sources contain a file that isn't in it. (Other
+    folders can't have such a file: only files that git knows are packed.)"""
     return bool(git("status", "--porcelain", "--untracked-files=no") or git("ls-files", "--others", "--exclude-standard", "--", "crates"))
 
 
 def maintainer() -> str:
-    """Who hands the package round, named as Debian's own tools name that."""
+    """Returns the package's maintainer, from the variables that Debian's own tools use."""
     return f"{os.environ.get('DEBFULLNAME') or DEFAULT_NAME} <{os.environ.get('DEBEMAIL') or DEFAULT_ADDRESS}>"
 
 
 def squeezed(content: bytes) -> bytes:
-    """The content compressed by gzip. (`gzip.compress` writes another head in Python 3.11 than in 3.13.)"""
+    """Compresses a content by gzip. (`gzip.compress` writes different heads in Python 3.11 and 3.13.)"""
     out = io.BytesIO()
     with gzip.GzipFile(filename="", mode="wb", compresslevel=9, fileobj=out, mtime=0) as file:
         file.write(content)
@@ -168,8 +171,8 @@ def squeezed(content: bytes) -> bytes:
 
 
 def names_below(source: str) -> list[str]:
-    """The files of a folder of the repository, or the file itself: those that git knows, so that nothing else is packed that lies
-    there. Without a repository they are all files. What a page is made from (`.in.md`) isn't packed."""
+    """Returns the files of a folder of the repository, or the file itself. Files that git doesn't know are ignored,
+    unless there is no repository. So are sources of pages (`.in.md`)."""
     if git("rev-parse", "HEAD"):
         found = git("ls-files", "-z", "--", source).split("\0")
     elif os.path.isfile(os.path.join(TOP, source)):
@@ -181,8 +184,8 @@ def names_below(source: str) -> list[str]:
 
 
 def files_of(source: str) -> list[tuple[str, str]]:
-    """The files of a folder of the repository, or a file: pairs of what is below it and its path. The pages of editors stay out of
-    the folders that editors read."""
+    """Returns pairs of a path below a folder of the repository (or a file) and its path. Excludes the pages of editors,
+    because editors read these folders."""
     keeps_pages = COPIED[source].startswith((DOC, EXERCISES))
     return [(os.path.relpath(it, source), it) for it in names_below(source) if keeps_pages or not it.endswith(".md")]
 
@@ -191,8 +194,8 @@ PASSED = "`make test` has passed on this program"
 
 
 def verdict() -> str:
-    """The result of `make test` on the program that is packed. (How many tests were left out, and how many proofs were kept, depends
-    on the machine, so that is in the file TESTED and not in the package: each machine that tests a commit packs the same bytes.)"""
+    """Returns the result of `make test` on the packed program. (The numbers of tests left out and of kept proofs depend
+    on the machine. They are only in the file TESTED, so each machine packs the same bytes of a commit.)"""
     line = common.stamp().get("gate")
     if not line:
         return "NOT TESTED: each function of this program is proved, and `make test` has not ended on it"
@@ -200,13 +203,13 @@ def verdict() -> str:
 
 
 def tested() -> str:
-    """What was tested on this machine, and how much of the proofs was kept."""
+    """Returns what was tested on this machine, and how many proofs were kept."""
     found = common.stamp()
     return f"{verdict()}\n" + "".join(f"{name}: {found[name]}\n" for name in ("gate", "proofs") if found.get(name))
 
 
 def proved() -> bytes:
-    """Facts about the proofs of the packed program."""
+    """Returns the text of the file PROVED: facts about the proofs of the packed program."""
     found = common.stamp()
     changed = ", with changes that are not committed" if has_changes() else ""
     rows = {
@@ -223,7 +226,7 @@ def proved() -> bytes:
 
 
 class Version(NamedTuple):
-    """A version by CHANGELOG.md; it has no day until it is released."""
+    """A version in CHANGELOG.md. It has no day before its release."""
 
     number: str
     day: str
@@ -231,7 +234,7 @@ class Version(NamedTuple):
 
 
 def versions() -> list[Version]:
-    """The versions of CHANGELOG.md, the latest first."""
+    """Returns the versions of CHANGELOG.md, latest first."""
     found = []
     for part in re.split(r"^## ", read("CHANGELOG.md").decode(), flags=re.M)[1:]:
         heading, _, rest = part.partition("\n")
@@ -243,7 +246,8 @@ def versions() -> list[Version]:
 
 
 def known_versions() -> list[Version]:
-    """The versions of CHANGELOG.md, of which the first is the program's, with a day if that is what is packed."""
+    """Returns the versions of CHANGELOG.md. The first one is the program's; it has a day if it is packed as a
+    release."""
     found, number = versions(), version()
     if not found or found[0].number != number:
         common.stop(f"the first heading of CHANGELOG.md isn't of {number}, which is the program's version")
@@ -253,7 +257,7 @@ def known_versions() -> list[Version]:
 
 
 def changelog() -> bytes:
-    """Debian's form of CHANGELOG.md: an entry for each version, the first for this build of it."""
+    """Returns CHANGELOG.md in Debian's format, with an entry for each version. The first entry is for this build."""
     entries = []
     for at, (number, day, changes) in enumerate(known_versions()):
         noon = datetime.datetime.strptime(f"{day or '1970-01-01'} 12 +0000", "%Y-%m-%d %H %z").timestamp()
@@ -275,7 +279,7 @@ toolchain before you hand this package to others."""
 
 
 def copyright_page() -> bytes:
-    """Who holds the copyright of what is packed, and the licences, in Debian's form."""
+    """Returns the copyright holders and licences of all packed files, in Debian's form."""
     found = notices.of_program()
     named = [(notices.short_name(crate, file), crate, text) for crate, texts in found.items() for file, text in texts.items()]
     holders = dict.fromkeys(it for _, crate, text in named for it in notices.holders(crate, text))
@@ -312,19 +316,20 @@ def indented(text: str) -> str:
 
 
 def messages_page() -> bytes:
-    """The manual page ob0-messages, of the day of all packed files."""
+    """Returns the manual page ob0-messages, dated like all packed files."""
     day = datetime.datetime.fromtimestamp(moment(), datetime.timezone.utc)
     return manual_page.of_messages(read("docs", "MESSAGES.md").decode(), version(), f"{day:%Y-%m-%d}")
 
 
 def emacs_package() -> bytes:
-    """The file by which Emacs knows the installed package."""
+    """Returns the file from which Emacs learns about the installed package."""
     line = f"""(define-package "ob0-mode" "{version()}" "Major mode for Oberon-0" '((emacs "26.1")))"""
     return f";; What Emacs reads of the installed package  -*- no-byte-compile: t -*-\n{line}\n".encode()
 
 
 def help_tags() -> bytes:
-    """The tags of Vim's help pages, as `:helptags` writes them: those who use an installed page can't write there."""
+    """Returns the tags of Vim's help pages, as `:helptags` writes them. Users of an installed page can't write
+    there."""
     pages = [it for it in names_below("editors/vim/doc") if it.endswith(".txt")]
     found = [(tag, os.path.basename(it)) for it in pages for tag in re.findall(r"(?<!\S)\*([^*|\s/\\]+)\*(?!\S)", read(it).decode())]
     return "".join(f"{tag}\t{page}\t/*{tag}*\n" for tag, page in sorted(found)).encode()
@@ -338,7 +343,7 @@ ob0: copyright-file-contains-full-apache-2-license
 
 
 def tree() -> Tree:
-    """The paths below the prefix, each with its content (or its link) and its mode."""
+    """Returns the tree to install: each path below the prefix, with its content (or its link) and its mode."""
     found: Tree = {
         "bin/ob0": (read("bin", "ob0"), 0o755),
         **{f"bin/{it}": (read("share", it), 0o755) for it in SCRIPTS},
@@ -361,7 +366,7 @@ def tree() -> Tree:
 
 
 def folders_of(paths: Iterable[str]) -> list[str]:
-    """The folders that hold these paths, each before what is in it."""
+    """Returns the folders that contain these paths, each before its content."""
     found = set()
     for path in paths:
         while path := os.path.dirname(path):
@@ -379,8 +384,8 @@ def entry(
 
 
 def archive(found: Tree, top: str, with_folders: bool) -> bytes:
-    """A tar archive of a tree, below a folder. Entries of folders would change the modes of those that are there, where it is unpacked;
-    dpkg wants them, and changes none."""
+    """Returns a tar archive of a tree, below the folder `top`. dpkg requires entries of folders; in other archives they
+    would change the modes of existing folders."""
     time, out = moment(), io.BytesIO()
     with tarfile.open(fileobj=out, mode="w", format=tarfile.GNU_FORMAT) as tar:
         for folder in ["", *(f"{it}/" for it in folders_of(found))] if with_folders else []:
@@ -395,12 +400,12 @@ def archive(found: Tree, top: str, with_folders: bool) -> bytes:
 
 
 def list_of(files: Iterable[str], folders: Iterable[str]) -> str:
-    """The lines of the list: what is removed, in this order. A folder is removed if nothing else is in it."""
+    """Returns the lines of the list: everything to be removed, in this order. A folder is removed if it is empty."""
     return "".join(f"{it}\n" for it in [*files, *(f"{it}/" for it in sorted(folders, reverse=True))])
 
 
 def with_list(found: Tree) -> Tree:
-    """The tree with a list for its removal, which contains the folders that ob0 may have been the first to need."""
+    """Returns the tree with a list for its removal. The list contains the folders that ob0 may have created."""
     folders = {*folders_of([*found, LIST])} - SHARED
     return {**found, LIST: (list_of([*found, LIST], folders).encode(), 0o644)}
 
@@ -425,14 +430,14 @@ Description: language server, checker and interpreter for Oberon-0
  The package has files for Neovim, Vim, Emacs, Kate, Kakoune, nano and editors
  with GtkSourceView, completions for bash, zsh and fish, and scripts:
  ob0-check lists the errors of several files, ob0-format formats files,
- ob0-rename renames in a file, ob0-trace says where a run ended with a fault,
+ ob0-rename renames in a file, ob0-trace shows how a run came to its fault,
  and ob0-watch reports whether an editor keeps the rules under which ob0's
  promises hold.
 """.encode()
 
 
 def part(name: str, content: bytes) -> bytes:
-    """A member of an ar archive."""
+    """Returns one member of an ar archive, with its header."""
     head = f"{name:<16}{moment():<12}{0:<6}{0:<6}{'100644':<8}{len(content):<10}`\n"
     return head.encode() + content + b"\n" * (len(content) % 2)
 
@@ -447,13 +452,14 @@ def debian_package(found: Tree) -> bytes:
 
 
 def need_program() -> None:
-    """Stops where bin/ob0 is not the proved program of these sources."""
+    """Stops if bin/ob0 isn't the proved program of these sources."""
     if not common.is_current():
         common.stop("bin/ob0 is not the proved program of these sources: `make build` makes it")
 
 
 def extension() -> dict[str, bytes]:
-    """The package of the extension for VS Code by its name, or none if the modules of Node that it needs aren't here."""
+    """Returns the package of the VS Code extension by its file's name, or an empty dict if the Node modules that it
+    needs are missing."""
     found = vsix.modules()
     if not found:
         print("no .vsix is made: `make editors RELEASE=trixie` (as root) or `npm install` in editors/vscode gets the modules that it needs")
@@ -463,12 +469,13 @@ def extension() -> dict[str, bytes]:
     return {f"ob0-{build_version()}.vsix": vsix.archive(vsix.with_modules(found, files), moment())}
 
 
-# what an earlier build left beside its packages, a signature of its sums among it
+# the files of earlier builds, including a signature of the sums
 EARLIER = ["ob0_*_amd64.deb", "ob0-*-x86_64-linux.tar.gz", "ob0-*.vsix", "SHA256SUMS.asc"]
 
 
 def write_files(files: dict[str, bytes], folder: str) -> None:
-    """Writes files to a folder. Beside another run on the same sources each is there and whole at any time."""
+    """Writes files to a folder. Each is replaced at once, so that a simultaneous run on the same sources finds whole
+    files."""
     os.makedirs(folder, exist_ok=True)
     for name, content in files.items():
         path = os.path.join(folder, name)
@@ -479,7 +486,8 @@ def write_files(files: dict[str, bytes], folder: str) -> None:
 
 
 def write_packages(found: Tree, folder: str) -> None:
-    """Writes the packages of a tree to a folder, with their sums, and removes the packages of earlier builds."""
+    """Builds the packages from an installation tree, writes them and their SHA-256 checksums to a folder, and removes
+    packages of earlier builds."""
     number = build_version()
     made = {
         f"ob0_{number}_amd64.deb": debian_package(found),
@@ -500,7 +508,8 @@ def remove_earlier(folder: str, made: Iterable[str] = ()) -> None:
 
 
 def remove_untested() -> None:
-    """Removes packages from bin/ that say that their program isn't tested, with their sums."""
+    """Removes the packages in bin/ if their TESTED says that their program isn't tested, together with SHA256SUMS and
+    TESTED."""
     folder = os.path.dirname(common.BINARY)
     path = os.path.join(folder, "TESTED")
     if os.path.exists(path) and not read(path).startswith(PASSED.encode()):
@@ -518,7 +527,7 @@ def package(folder: str) -> None:
 
 
 def listed(room: str) -> tuple[list[str], list[str]]:
-    """What an earlier installation made: its files and its folders."""
+    """Returns the files and the folders that an earlier installation made."""
     try:
         with open(os.path.join(room, LIST), encoding="utf-8") as file:
             lines = file.read().splitlines()
@@ -528,7 +537,7 @@ def listed(room: str) -> tuple[list[str], list[str]]:
 
 
 def make_folders(path: str) -> list[str]:
-    """Makes a folder and those around it, and returns the ones that were not there."""
+    """Makes a folder and those around it, and returns the ones that were not there, the innermost first."""
     made = []
     while not os.path.isdir(path):
         made.append(path)
@@ -538,6 +547,12 @@ def make_folders(path: str) -> list[str]:
         # (for everybody, whatever the umask is; the bit for the group's name is the outer folder's)
         os.chmod(folder, 0o755 | os.stat(folder).st_mode & stat.S_ISGID)
     return made
+
+
+def need_place(room: str) -> None:
+    """Fails if a prefix can't have the folders of the tree. Leaves only those that were there."""
+    for folder in make_folders(os.path.join(room, os.path.dirname(LIST))):
+        os.rmdir(folder)
 
 
 def install(room: str) -> None:
@@ -585,7 +600,7 @@ def uninstall(room: str) -> None:
 
 
 def room_of(prefix: str, root: str) -> str:
-    """The folder that a prefix is: below DESTDIR, the root of another system, where one is given."""
+    """Returns the folder of a prefix. If DESTDIR (another system's root) is given, the folder is below it."""
     if not prefix:
         common.stop("PREFIX is empty: leave it out for /usr/local, or name a folder (PREFIX=~/.local, PREFIX=/)")
     # (not every shell expands a ~ after the =)
@@ -596,25 +611,31 @@ def room_of(prefix: str, root: str) -> str:
     return room
 
 
+def at_prefix(command: str, prefix: str, root: str) -> None:
+    """Does what is to be done with the folder of a prefix."""
+    room = room_of(prefix, root)
+    if command == "install":
+        need_program()
+    try:
+        {"place": need_place, "install": install, "uninstall": uninstall}[command](room)
+    except OSError as why:
+        cure = "use sudo, or a folder of your own (PREFIX=~/.local)"
+        common.stop(f"{why.filename} can't be written or removed ({why.strerror}): {cure}", 1)
+
+
 def main(words: list[str]) -> None:
     command, *places = words
     common.settle()
-    try:
-        if command == "notes":
-            return notes()
-        if command == "vsix":
-            return write_files(extension(), os.path.dirname(common.BINARY))
-        if command == "package":
-            need_program()
-            return package(*places or [os.path.dirname(common.BINARY)])
-        prefix, root, *_ = (*places, "", "")
-        room = room_of(prefix, root)
-        if command == "uninstall":
-            return uninstall(room)
+    if command == "notes":
+        notes()
+    elif command == "vsix":
+        write_files(extension(), os.path.dirname(common.BINARY))
+    elif command == "package":
         need_program()
-        return install(room)
-    except PermissionError as why:
-        common.stop(f"{why.filename} can't be written or removed: use sudo, or a folder of your own (PREFIX=~/.local)", 1)
+        package(*places or [os.path.dirname(common.BINARY)])
+    else:
+        prefix, root, *_ = (*places, "", "")
+        at_prefix(command, prefix, root)
 
 
 if __name__ == "__main__":

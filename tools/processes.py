@@ -14,12 +14,12 @@ SECONDS = 10  # how long processes are awaited that were ended
 
 
 def adopt_orphans() -> None:
-    """Has this process become the parent of each process below it whose own parent ends."""
+    """Makes this process the parent of each descendant whose own parent ends."""
     ctypes.CDLL(None).prctl(SET_CHILD_SUBREAPER, 1, 0, 0, 0)
 
 
 def parents() -> Dict[int, int]:
-    """The parent of each process that runs."""
+    """Returns the parent of each running process."""
     found = {}
     for name in os.listdir("/proc"):
         with suppress(OSError, ValueError):
@@ -31,7 +31,7 @@ def parents() -> Dict[int, int]:
 
 
 def descendants(top: int) -> List[int]:
-    """The processes below a process."""
+    """Returns all descendants of a process."""
     known, found = parents(), [top]
     for above in found:
         found += [it for it, parent in known.items() if parent == above]
@@ -39,7 +39,7 @@ def descendants(top: int) -> List[int]:
 
 
 def end_descendants(top: int) -> None:
-    """Ends the processes below a process, and waits until they have ended."""
+    """Kills all descendants of a process, and waits until they have ended."""
     end = time.monotonic() + SECONDS
     while (left := descendants(top)) and time.monotonic() < end:
         for it in left:
@@ -49,8 +49,8 @@ def end_descendants(top: int) -> None:
 
 
 def interrupt(top: int) -> None:
-    """Ends the processes below a process: its children by the signal of Ctrl-C, so that they put back what they moved, and everything
-    below these by force, so that no child waits for it."""
+    """Ends all descendants of a process. Its children get SIGINT, so that they can restore what they moved; other
+    descendants are killed, so that no child waits for them."""
     children = [it for it, parent in parents().items() if parent == top]
     for it in children:
         with suppress(OSError):
@@ -65,7 +65,8 @@ def interrupt(top: int) -> None:
 
 
 def end_tree(top: int) -> None:
-    """Ends a process that has adopted its orphans, and everything below it. (It is stopped first, so that it starts nothing more.)"""
+    """Kills a process that has adopted its orphans, and all its descendants. (The process is stopped first, so that it
+    starts no others.)"""
     with suppress(OSError):
         os.kill(top, signal.SIGSTOP)
     end_descendants(top)

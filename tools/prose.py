@@ -187,7 +187,7 @@ def lines_of(path: str) -> str:
 
 
 def first_lines(folder: str) -> Iterator[str]:
-    """Yields the first line of each mutant of a folder."""
+    """Yields the first line of each mutant in a folder."""
     for file in sorted(glob.glob(os.path.join(common.TOP, folder, "*.edit"))):
         yield read(file).partition("\n")[0].lstrip("# ")
 

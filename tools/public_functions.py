@@ -4,7 +4,8 @@
 A crate has the first paragraph of its `src/lib.rt` and the nearest crates that it rests on; a function has the first paragraph of its
 comment, the definitions that its contract cites, and the mutants that change it; a type has its variants or public fields. Methods of this repository's traits, and of std's Read and Write, are public functions if their type is public. It fails if no mutant
 changes a public function with a result, or one that writes through an argument, unless tools/surface_reasons.txt says why: lines
-'crate::path::name: reason'. With --check neither page is written."""
+'crate::path::name: reason' for a function, and 'crate::path::name, clause: reason' for one clause of its contract. With --check
+neither page is written."""
 from __future__ import annotations
 
 import os
@@ -23,7 +24,7 @@ REASONS = os.path.join(TOP, "tools", "surface_reasons.txt")
 HEAD = """# The crates, with their public functions and types
 
 Made by `make surface` from `crates.txt`, the comments of the sources and the mutants. *Contract*: the definitions that the contract
-cites. *Mutants*: `rt ci` tries those of `must-fail/`; `tools/mutants.txt` has what refused those of `wrong-bodies/` when they were last
+cites. *Mutants*: `rt ci` tries the ones in `must-fail/`; `tools/mutants.txt` lists what refused the ones in `wrong-bodies/` when they were last
 tried. A function with neither a result nor an argument that it writes is a law: its contract is everything that it states.
 """
 # Traits of std whose methods other crates call on this repository's types.
@@ -34,13 +35,13 @@ COUNTS = re.compile(
 )
 
 
-def reasons() -> dict[str, str]:
-    """Why some functions have no mutant, by their paths."""
+def reasons(are_of_clauses: bool = False) -> dict[str, str]:
+    """Returns why some functions have no mutant, by their paths; or why some clauses have none, by path and clause."""
     found = {}
     with open(REASONS, encoding="utf-8") as file:
         for line in file:
             path, _, why = line.strip().partition(": ")
-            if path and not path.startswith("#"):
+            if path and not path.startswith("#") and (", " in path) == are_of_clauses:
                 found[path] = why
     return found
 
@@ -53,7 +54,7 @@ class Row:
         self.path = f"{function.crate}::{function.path}"
 
     def lacks(self, known: "dict[str, str]") -> bool:
-        """Whether a mutant of it is wanting."""
+        """Returns whether the function needs a mutant and has none."""
         return self.function.gives and not self.turning and self.path not in known
 
     def turned_by(self, known: "dict[str, str]") -> str:
@@ -67,6 +68,11 @@ class Row:
     def line(self, known: "dict[str, str]") -> str:
         cells = (f"`{self.function.path}`", promise_of(self.function), cited_by(self.function), self.turned_by(known))
         return "| " + " | ".join(it.replace("|", "\\|") for it in cells) + " |"
+
+
+def clauses_of(source: reading.Source, function: reading.Function) -> "list[str]":
+    """Returns the names of the clauses that a function ensures. A clause without a name is '' among them."""
+    return re.findall(r"\bensures (?:(\w+) )?\{", " ".join(source.words_of(function)))
 
 
 def rows_of_file(crate: str, file: str) -> "list[str]":
@@ -111,7 +117,7 @@ def rows_of(source: reading.Source, traits: "list[str]") -> "list[Row]":
 
 
 def type_line(item: reading.TypeItem) -> str:
-    """A line of the table of a crate's public types."""
+    """Returns a line for the table of a crate's public types."""
     parts = ", ".join(f"`{it}`" for it in item.parts) or "none that is public"
     return f"| `{item.kind} {item.path}` | {parts} |"
 

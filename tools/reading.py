@@ -1,7 +1,6 @@
-"""What the scripts read of a crate's sources: its functions with their places, its constants, and what it shows.
+"""Reads a crate's sources: its functions with their places, its constants, and its public items.
 
-The words of a source come from the toolchain (`rattle fmt --tokens`), so that contracts and comments are distinguished from
-code."""
+The toolchain cuts a source into words (`rattle fmt --tokens`), and tells contracts and comments from code."""
 from __future__ import annotations
 
 import json
@@ -17,7 +16,7 @@ Module = Tuple[str, ...]  # the path of a module in its crate
 
 
 class Function:
-    """A function of a crate: where it is, what it belongs to, and its words."""
+    """A function of a crate: its place, its owner, and its words."""
 
     def __init__(self, scope: Scope, name: str, words: list[Word], is_pub: bool) -> None:
         self.crate, self.module, self.owner, self.trait = scope.crate, scope.module, scope.owner, scope.trait
@@ -31,16 +30,17 @@ class Function:
         self.opens = words[min(len(self.head), len(words) - 1)].line
         cycle = re.search(r"# \[ cycle \( (\w+)", " ".join(self.head))
         self.proof = "::".join([*self.module, f"+{cycle[1]}"]) if cycle else self.path
-        self.home = self.module  # where the checker names it: a method, in the module of its type
+        self.home = self.module  # the module in the checker's name; for a method it is the module of its type
 
     @property
     def path(self) -> str:
-        """As a reader names it: module::Owner::name."""
+        """Returns the function's name for readers, module::Owner::name."""
         return "::".join([*self.module, *([self.owner] if self.owner else []), self.name])
 
     @property
     def checked_as(self) -> str:
-        """As the checker names it below its crate: a method of a trait belongs to its type and the trait, in one word."""
+        """Returns the checker's name for it, without the crate. In the name of a trait's method, type and trait are one
+        word."""
         of_trait = "".join(it for it in self.impl_words if it != self.owner)
         owner = f"Ref{self.owner[:1].upper()}{self.owner[1:]}" if self.is_of_reference else self.owner
         inside = [owner + of_trait] if owner else []
@@ -48,19 +48,19 @@ class Function:
 
     @property
     def gives(self) -> bool:
-        """Whether it has a result, or writes through an argument."""
+        """Returns whether it has a result, or writes through an argument."""
         text = " ".join(self.head)
         result = re.search(r"- > (?!\( \)$)", text)
         return bool(result or re.search(r"& (?:'\w+ )?mut ", text))
 
     @property
     def places(self) -> list[str]:
-        """How the checker's names of it, and of closures in it, may begin."""
+        """Returns the possible beginnings of the checker's names for it and for its closures."""
         modules = [self.module] if self.trait else [self.home, self.module]
         return ["::".join([self.crate, *it, ""]) for it in modules]
 
     def is_named(self, symbol: str) -> bool:
-        """Whether the checker means this function, or a closure in it, by the name of a line of its output."""
+        """Returns whether a name in the checker's output means this function, or a closure in it."""
         at = next((it for it in self.places if symbol.startswith(it)), None)
         if at is None:
             return False
@@ -87,7 +87,7 @@ class TypeItem:
 
     @property
     def path(self) -> str:
-        """As a reader names it: module::Name."""
+        """Returns the type's name for readers, module::Name."""
         return "::".join([*self.module, self.name])
 
 
@@ -107,7 +107,7 @@ def parts_of(kind: str, texts: list[str]) -> list[str]:
 
 
 def end_of_part(texts: list[str], at: int) -> int:
-    """The place of the comma or bracket that ends a variant or field."""
+    """Returns the index of the comma or bracket that ends a variant or field."""
     depth = 0
     while at < len(texts) and (depth or texts[at] not in ",})"):
         depth += (texts[at] in "([{<") - (texts[at] in ")]}" or texts[at] == ">" and texts[at - 1] != "-")
@@ -116,14 +116,14 @@ def end_of_part(texts: list[str], at: int) -> int:
 
 
 def without_attributes(texts: list[str]) -> list[str]:
-    """The words of a variant or field after its attributes."""
+    """Returns the words of a variant or field without its attributes."""
     while texts[:1] == ["#"]:
         texts = texts[end_of_brackets(texts, 1) :]
     return texts
 
 
 def end_of_brackets(texts: list[str], at: int) -> int:
-    """The place after the brackets that open at a place."""
+    """Returns the index after the bracket that closes the one at `at`."""
     depth = 0
     for place in range(at, len(texts)):
         depth += (texts[place] in "([{") - (texts[place] in ")]}")
@@ -147,7 +147,7 @@ class Word:
 
 
 class Scope:
-    """Where the reader is in a crate."""
+    """The place in a crate at which a source is being read."""
 
     def __init__(
         self,
@@ -163,7 +163,7 @@ class Scope:
     ) -> None:
         self.crate, self.file, self.module, self.owner, self.trait = crate, file, module, owner, trait
         self.block_from = block_from  # the first line of the impl or trait
-        # (whether a trait is that of references to the owner)
+        # (is_of_reference: the trait is implemented for references to the owner)
         self.impl_words, self.is_test, self.is_of_reference = impl_words, is_test, is_of_reference
 
     def inside(self, **changed: Any) -> Scope:
@@ -172,7 +172,7 @@ class Scope:
 
 
 def heading(words: list[str]) -> list[str]:
-    """The words of a function up to its body."""
+    """Returns the words of a function before its body."""
     depth = 0
     for at, word in enumerate(words):
         depth += (word in "([") - (word in ")]")
@@ -186,7 +186,7 @@ def rattle() -> str:
 
 
 class Text:
-    """The words of a file: those of its code, and all, with those of contracts, each after its line."""
+    """The words of a file: `code` without contracts, and `all` with them, each with its line."""
 
     def __init__(self) -> None:
         self.code: list[Word] = []
@@ -199,7 +199,7 @@ def words_of(files: list[str]) -> dict[str, Text]:
         return {}
     ran = subprocess.run([rattle(), "fmt", "--tokens", *files], stdin=subprocess.DEVNULL, stdout=subprocess.PIPE)
     if ran.returncode:
-        common.stop(f"{files[0]} or a file beside it can't be read")
+        common.stop(f"{files[0]} or another file of its crate can't be read")
     found: dict[str, Text] = {}
     words = Text()
     for line in ran.stdout.decode("utf-8").split("\n"):
@@ -218,7 +218,7 @@ def words_of(files: list[str]) -> dict[str, Text]:
 
 
 def sources(crate: str) -> list[str]:
-    """The files of a crate's code."""
+    """Returns the paths of a crate's source files."""
     found = []
     for at, folders, names in os.walk(os.path.join(common.TOP, "crates", crate, "src")):
         folders.sort()
@@ -227,7 +227,7 @@ def sources(crate: str) -> list[str]:
 
 
 def after(words: list[Word], at: int) -> int:
-    """The place after a word, or after the brackets that it opens."""
+    """Returns the index after a word, or after the bracket that closes it if the word opens one."""
     depth = 0
     while at < len(words):
         depth += (words[at].text in ("(", "[", "{")) - (words[at].text in (")", "]", "}"))
@@ -254,7 +254,7 @@ def past_marks(words: list[Word], at: int) -> tuple[str, bool, int]:
 
 
 def item_end(words: list[Word], at: int) -> int:
-    """Where the item that begins with a word like `fn` ends."""
+    """Returns the end of the item that begins with a word such as `fn`."""
     while at < len(words):
         word = words[at].text
         at = after(words, at)
@@ -382,13 +382,14 @@ class Source:
         return self.all_words(*self.models[owner]) if owner in self.models else []
 
     def is_public(self, module: Module, name: str) -> bool:
-        """Whether other crates can name an item of a module."""
+        """Returns whether other crates can use an item of a module."""
         if module in self.public_modules:
             return True
         return any(brings(words, at, module, name) for at, words in self.brought_out if at in self.public_modules)
 
     def public_functions(self, traits: Iterable[str] = ()) -> list[Function]:
-        """Each function that other crates can call, tests left out; with the methods of some traits of other crates."""
+        """Returns the functions that other crates can call, without tests, and the methods of these traits of other
+        crates."""
         found, counted = [], {*traits, *self.traits}
         for function in self.functions:
             if function.is_test or not function.is_pub or not function.has_body:
@@ -405,11 +406,12 @@ class Source:
         return found
 
     def public_types(self) -> list[TypeItem]:
-        """Each type that other crates can name, tests left out."""
+        """Returns the types that other crates can use, without tests."""
         return [it for it in self.type_items if it.is_pub and not it.is_test and self.is_public(it.module, it.name)]
 
     def below(self) -> dict[str, set[str]]:
-        """Of each proof those that it may stand on: of what its functions name, and of what these name in turn."""
+        """Returns for each proof the proofs that it may depend on: it depends on each function that it can reach by
+        name."""
         named: dict[str, set[str]] = {}
         for it in self.functions:
             named.setdefault(it.name, set()).add(it.proof)
@@ -426,13 +428,13 @@ class Source:
         return found
 
     def proved_with(self, functions: Iterable[Function]) -> list[Function]:
-        """The functions that have one proof with some: functions that call each other have one."""
+        """Returns the functions that share a proof with these. Functions that call each other have one proof."""
         proofs = {it.proof for it in functions}
         return [it for it in self.functions if it.proof in proofs]
 
 
 def close_angle(words: list[str]) -> int:
-    """The place after the angle brackets that the first word opens."""
+    """Returns the index after the angle bracket that closes the first word."""
     depth = 0
     for at, word in enumerate(words):
         depth += (word == "<") - (word == ">" and words[at - 1] != "-")
@@ -442,7 +444,7 @@ def close_angle(words: list[str]) -> int:
 
 
 def parameters(generics: list[str]) -> list[str]:
-    """The names that angle brackets declare, without what bounds them."""
+    """Returns the names that angle brackets declare, without bounds."""
     found, depth = [], 0
     for at, word in enumerate(generics):
         if depth == 1 and generics[at - 1] in ("<", ",", "const"):
@@ -452,7 +454,7 @@ def parameters(generics: list[str]) -> list[str]:
 
 
 def brings(words: list[str], at: Module, module: Module, name: str) -> bool:
-    """Whether a `pub use` of a module, by its words, brings out an item of another."""
+    """Returns whether the words of a `pub use` export this item of another module."""
     words = [it for it in words if it != ":"]
     words = words[words[:1] in (["crate"], ["self"]) :]
     cut = words.index("{") if "{" in words else len(words) - 1

@@ -1,6 +1,7 @@
-"""What `rt ci` says of the edits in crates/*/must-fail: each has to be refused by the clause that its first line names.
+"""Compares what `rt ci` prints about the edits in crates/*/must-fail with their first lines.
 
-The kit counts an edit as refused whatever refuses it, and prints the first goal or error. This compares it with the first line."""
+Each edit has to be refused by the clause that its first line gives. The kit counts any refusal, and prints the first
+goal or error."""
 from __future__ import annotations
 
 import re
@@ -16,12 +17,12 @@ REFUSED = re.compile(r"refused, as it must be: (.*)")
 # A goal that isn't proved, and an answer that doesn't prove its goal any more.
 GOAL = re.compile(r"note: (src/\S+?):(\d+):\d+: .*?\(`(\S+?)`\)")
 ANSWER = re.compile(r"(?:\./)?proofs/(\S+)/Answers\.antt:\d+:\d+: error: `(\S+?)`: (.*)")
-# How a message begins that says that a name is gone. (The kit prints its first line only, and the rest of these is in the next one.)
+# The beginning of a message about a name that no longer exists. (The kit prints only the first line of such a message.)
 NAME_IS_GONE = re.compile(r"`[^`]*`: (?:module|record|namespace|data)\b")
 
 
 class Refusals:
-    """The edits of crates/*/must-fail, and what `rt ci` said of each."""
+    """The edits of crates/*/must-fail, each with the line that `rt ci` printed about it."""
 
     def __init__(self) -> None:
         self.edits: Dict[str, edits.Edit] = {}
@@ -33,13 +34,13 @@ class Refusals:
                 self.edits.update({it.path: it for it in edits.edits_of(crate, source) if it.is_of_kit})
 
     def take(self, line: str) -> None:
-        """Takes a line of `rt ci`'s output, if it is of an edit."""
+        """Stores a line of `rt ci`'s output if it is about an edit."""
         found = TRIED.match(line.rstrip())
         if found:
             self.said[f"{found[1]}/{edits.OF_KIT}/{found[2]}"] = found[3]
 
     def why_not(self, edit: edits.Edit) -> Optional[str]:
-        """Why an edit doesn't count as refused by its clause, if it doesn't."""
+        """Returns why an edit doesn't count as refused by its clause, or None if it does."""
         said = self.said.get(edit.path)
         if said is None:
             return "`rt ci` said nothing of it"
@@ -58,7 +59,8 @@ class Refusals:
         return f"refused, but not by {' or '.join(edit.claim.clauses)} of `{edit.claim.function}`: {found[1]}"
 
     def end(self) -> Tuple[int, int]:
-        """Says which edits weren't refused by their clause; returns how many were and how many weren't."""
+        """Prints the edits that weren't refused by their clause; returns how many were refused by it and how many
+        weren't."""
         found = {path: self.why_not(edit) for path, edit in self.edits.items()}
         for path in sorted(set(self.said) - set(self.edits)):
             found[path] = "there is no such edit"
@@ -70,7 +72,8 @@ class Refusals:
 
 
 def goal_of(said: str) -> Optional[Tuple[str, str]]:
-    """The place and the name of the goal that the kit prints: a line of a source, or the folder of a proof."""
+    """Returns the place and the name of the goal that the kit prints. The place is a line of a source, or the folder of
+    a proof."""
     goal = GOAL.match(said)
     if goal:
         return f"{goal[1]}:{goal[2]}", goal[3]
@@ -81,8 +84,8 @@ def goal_of(said: str) -> Optional[Tuple[str, str]]:
 
 
 def is_at(place: str, function: reading.Function) -> bool:
-    """Whether a goal's place is a line of a function, or the folder of its proof. (That of functions that call each other is beside
-    them, or below their type.)"""
+    """Returns whether a goal's place is a line of a function, or the folder of its proof. (Functions that call each
+    other share a folder, next to them or below their type.)"""
     file, _, line = place.partition(":")
     if line:
         return file == function.file and function.first <= int(line) <= function.last

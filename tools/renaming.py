@@ -93,6 +93,6 @@ def keep_rows(commit: str, mutants: verdicts.Mutants) -> int:
         kept += mutants.is_current(path)
     mutants.write()
     for was, now in sorted(broken):
-        print(f"{was} is {now}, and another name too: rows with it are not kept")
+        print(f"{was} became {now} and also another name: rows with it are not kept")
     print(f"{kept} rows are kept, {len(mutants.stale)} are not of the present sources")
     return 1 if mutants.stale else 0

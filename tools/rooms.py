@@ -46,7 +46,7 @@ def read_rooms() -> list[Room]:
 
 
 def all_below(name: str, named: dict[str, list[str]]) -> set[str]:
-    """Everything below a name, itself left out."""
+    """Returns all names below a name, without the name itself."""
     found: set[str] = set()
     waiting = list(named[name])
     while waiting:
@@ -139,7 +139,7 @@ def picture_of_message(page: str) -> str:
 
 
 def pictures() -> dict[str, str]:
-    """Each picture by its file's name."""
+    """Returns each picture as SVG by its file's name."""
     with open(PAGE, encoding="utf-8") as file:
         page = file.read()
     return {"rooms.svg": picture_of_rooms(), "message.svg": picture_of_message(page)}

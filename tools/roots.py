@@ -4,9 +4,10 @@
   tools/roots.py FOLDER [SUITE..]   makes a root of each suite (bookworm and trixie, Debian 12 and 13) in FOLDER, unless one exists,
                                     and tries what bin/ob0 is packed into in copies of it
 
-It has to run as root, and needs debootstrap and the network. The Debian package is removed and purged; the archive is removed by README's
-line and by `make uninstall`. After each removal the copy has to be as it was: each path with its mode, its owner, its group and its bytes.
-If piuparts is installed, it tries the Debian package too. The last line is 'N roots passed'."""
+It has to run as root, and needs debootstrap and the network. The Debian package is removed and purged; the archive is
+removed by README's line and by `make uninstall`. After each removal each path of the copy has to have the same mode,
+owner, group and bytes as before. If piuparts is installed, it also tries the Debian package. The last line is 'N roots
+passed'."""
 from __future__ import annotations
 
 import os
@@ -26,7 +27,7 @@ from common import TOP, match_of
 State = Dict[str, Tuple[str, int, int, Optional[str]]]
 SUITES = ["bookworm", "trixie"]
 MIRROR = "http://deb.debian.org/debian"
-# what a system keeps for itself, and what is no part of a system
+# files that the system changes by itself, and folders that aren't part of a system
 LEFT_OUT = {"dev", "proc", "run", "sys", "tmp", "var"}
 PAGE = f"{package.DOC}/README.md"
 ADDED = b"\nA second release.\n"
@@ -35,7 +36,7 @@ DROPPED, NEW = f"{package.DOC}/docs/TEACHING.md", f"{package.DOC}/docs/new/NEW.m
 
 
 def ran(words: list[str], **named: str) -> str:
-    """Runs a command, and returns what it printed; a status other than 0 ends the script."""
+    """Runs a command, and returns its output. Ends the script if the exit status isn't 0."""
     environment = {**os.environ, "DEBIAN_FRONTEND": "noninteractive", "LC_ALL": "C", **named}
     how: dict[str, Any] = {"stdin": subprocess.DEVNULL, "stdout": subprocess.PIPE, "stderr": subprocess.STDOUT, "env": environment, "cwd": TOP}
     found: subprocess.CompletedProcess[bytes] = subprocess.run(words, check=False, **how)
@@ -50,14 +51,14 @@ def inside(root: str, line: str) -> str:
 
 
 def content_of(path: str, mode: int) -> str | None:
-    """Returns a sum over a file's bytes, or a link's target; None for everything else."""
+    """Returns a file's checksum, or a link's target. Returns None for everything else."""
     if stat.S_ISLNK(mode):
         return os.readlink(path)
     return common.file_sum(path) if stat.S_ISREG(mode) else None
 
 
 def state(root: str) -> State:
-    """Each path of a root with its mode, its owner, its group and its content."""
+    """Returns each path of a root with its mode, its owner, its group and its content."""
     found: State = {}
     for at, folders, files in os.walk(root):
         if at == root:
@@ -73,7 +74,7 @@ def same_state(root: str, before: State, what: str) -> None:
     after = state(root)
     changed = [f"{it}: {before.get(it)}, and then {after.get(it)}" for it in sorted({*before, *after}) if before.get(it) != after.get(it)]
     if changed:
-        common.stop(f"{what}: not as it was:\n" + "\n".join(changed[:20]), 1)
+        common.stop(f"{what}: this has changed:\n" + "\n".join(changed[:20]), 1)
     print(f"  {what}: nothing is left, and nothing else has changed", flush=True)
 
 
@@ -124,7 +125,8 @@ def install_package(root: str, deb: str) -> str:
 
 
 def try_debian(root: str, releases: dict[str, list[str]]) -> None:
-    """The Debian package of the first release, the second over it, and its removal and its purge."""
+    """Installs the Debian package of the first release, replaces it by the second, and removes it; then does the same
+    and purges it."""
     before = state(root)
     for command in ("remove", "purge"):
         first, second = (install_package(root, deb) for deb, _ in releases.values())
@@ -159,8 +161,8 @@ def readme_lines() -> tuple[str, str]:
 
 
 def try_archive(root: str, releases: dict[str, list[str]]) -> None:
-    """The archives in /usr/local, whose folders have modes and owners of their own: the first release, the second in its place, and both
-    ways to remove it."""
+    """Tries the archives in /usr/local, with folders of unusual modes and owners: unpacks the first release, unpacks
+    the second over it, and removes that in both ways."""
     unpack, take_away = readme_lines()
     inside(root, "chgrp staff /usr/local/bin /usr/local/share; chmod 2775 /usr/local/bin /usr/local/share; mkdir -p /usr/local/share/doc/other")
     before, local = state(root), os.path.join(root, "usr", "local")
@@ -186,7 +188,7 @@ def try_archive(root: str, releases: dict[str, list[str]]) -> None:
 
 
 def try_container(root: str) -> None:
-    """The RUN line of the Containerfile in docs/CI.md."""
+    """Runs the RUN line of the Containerfile in docs/CI.md."""
     with open(os.path.join(TOP, "docs", "CI.md"), encoding="utf-8") as file:
         line = match_of(r"^RUN (.*)$", file.read(), re.M)[1]
     inside(root, line)
@@ -194,14 +196,14 @@ def try_container(root: str) -> None:
 
 
 def copied(base: str, root: str) -> str:
-    """Makes a root anew, as a copy of another."""
+    """Replaces a root by a fresh copy of another, and returns its path."""
     shutil.rmtree(root, ignore_errors=True)
     ran(["cp", "-a", base, root])
     return root
 
 
 def try_suite(suite: str, folder: str, releases: dict[str, list[str]]) -> None:
-    """Everything in one suite of Debian."""
+    """Runs all trials in one suite of Debian."""
     base, root = os.path.join(folder, suite), os.path.join(folder, "trial")
     if not os.path.isdir(base):
         print(f"making a root of {suite}", flush=True)

@@ -74,7 +74,7 @@ class Style(NamedTuple):
 
 
 def colour_of(index: int) -> str:
-    """A colour of the 256 of a terminal."""
+    """Returns one of a terminal's 256 colours."""
     if index < 16:
         return "#" + NAMED[index]
     if index >= 232:
@@ -84,7 +84,7 @@ def colour_of(index: int) -> str:
 
 
 def taken(style: Style, codes: list[int]) -> Style:
-    """The style after a sequence of codes."""
+    """Returns the style after a sequence of colour codes."""
     while codes:
         code, *codes = codes
         if code in (38, 48, 58):
@@ -205,7 +205,7 @@ class Terminal:
 
 
 def version() -> str:
-    """Neovim and its version."""
+    """Returns "Neovim" and its version."""
     said = subprocess.run(["nvim", "--version"], stdout=subprocess.PIPE, check=True).stdout.decode()
     return "Neovim " + common.match_of(r"v(\d+\.\d+\.\d+)", said)[1]
 

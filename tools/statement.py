@@ -34,23 +34,23 @@ Size = Tuple[int, int]  # how many words, and how many lines
 
 # ---- what isn't in the template
 
-# (what the second page unfolds last, though the theorem names it: what values of the code mean)
+# (the meanings of values of the code: the second page shows them last, though the theorem uses them)
 LATE: list[Key] = [("ob0_world", "ModelValues", name) for name in ("model_event_of", "played_edits", "played_publications")]
 LATE += [("ob0_session", "ServeResults", name) for name in ("IsReadInPieces", "UsesAllReads", "max_reads", "LeavesWriterFlushed")]
 LATER: list[Key] = [("ob0_scan", "LexemeClasses", name) for name in ("reserved_word_text", "symbol_text")]
 # (types of the code in them)
 LATER_TYPES = [("ob0_scan", "lexeme", "ReservedWord"), ("ob0_scan", "lexeme", "Symbol")]
-# (where the part on edits begins)
+# (the first definitions of the part on edits)
 EDITS: list[Key] = [("ob0_world_rules", "Answers", name) for name in ("AreRequestedEdits", "ServerRefusesAsk")]
-# (the parts of the second page, by the names that the template gives them)
+# (the template's names for the parts of the second page)
 KINDS = ("exchange", "texts", "wire", "language", "edits", "steps")
-# (the sections of docs/LANGUAGE.md by which the language is ordered)
+# (sections of docs/LANGUAGE.md, in the order of the page's definitions)
 SECTIONS = ["Runs", "Types", "Scopes", "Nesting and limits", "Grammar", "Lexemes"]
-# (how many words and lines of definitions are read in a minute, and how many of these by who is used to the notation)
+# (how many words, and how many lines of definitions, a reader reads in a minute)
 WORDS_A_MINUTE, LINES_A_MINUTE = 200, 6
-# (how many minutes the first page may take)
+# (the number of minutes that the first page may take)
 FIRST_TAKES = 40
-# (how long a line of code may be)
+# (the number of columns that a line of code may have)
 WIDTH = 100
 
 
@@ -69,7 +69,7 @@ CONTRACT = re.compile(r"\{law (\w+)/(\w+) (\w+)\}$")
 
 
 class Template:
-    """The prose of both pages, and what is said in words of names."""
+    """The prose of both pages, and the explanations of names."""
 
     def __init__(self, text: str) -> None:
         pages, _, tables = text.partition("<!-- words -->\n")
@@ -92,7 +92,7 @@ class Template:
         return [(at[1], at[2], at[3]) for at in found if at]
 
     def kind(self, part: Part) -> str:
-        """Which definitions of the second page a section of it has, if any."""
+        """Returns which part of the second page's definitions a section contains, or nothing."""
         found = [at[2] for at in map(DIRECTIVE.match, part.lines) if at and at[1] == "part"]
         return found[0] if found else ""
 
@@ -126,7 +126,7 @@ def source(crate: str, module: str) -> list[str]:
 
 
 def contract(crate: str, module: str, name: str) -> list[str]:
-    """The contract of a function, with the first paragraph of what is said over it, without indent."""
+    """Returns the contract of a function without indent, with the first paragraph of its comment."""
     text = source(crate, module)
     at = next(i for i, line in enumerate(text) if re.search(rf"\bfn {name}\b[(<]", line))
     first = at
@@ -138,7 +138,7 @@ def contract(crate: str, module: str, name: str) -> list[str]:
 
 
 def roots(sources: Sources, functions: Iterable[tuple[str, str, str]]) -> list[Item]:
-    """What the clauses of these functions name."""
+    """Returns the definitions and types in the clauses of these functions."""
     found: list[Item] = []
     for crate, module, name in functions:
         uses = File.__new__(File)
@@ -161,10 +161,10 @@ class Group:
 
     def __init__(self, crate: str, file: File | None, items: list[Any]) -> None:
         self.crate, self.file, self.items = crate, file, items
-        self.place: int | None = None  # its part, where an earlier one has definitions of this file
+        self.place: int | None = None  # the number of its part, if an earlier group has definitions of this file
 
     def rule(self) -> str | None:
-        """The rules of docs/LANGUAGE.md that the file states, as its first lines have them."""
+        """Returns the rules of docs/LANGUAGE.md that the file states, according to its first lines."""
         found = re.search(r"Rule: (?:.*; )?docs/LANGUAGE\.md, ([^;]*?)\.?$", self.file.title) if self.file else None
         return found[1] if found else None
 
@@ -174,7 +174,8 @@ class Group:
         return f"{self.rule()}: {name}" if by_rule and self.rule() else name
 
     def section(self) -> int:
-        """The place of its section of docs/LANGUAGE.md in the order of the page; what is of none comes first."""
+        """Returns the position of its section of docs/LANGUAGE.md. A group without a section is first, types of the
+        code are last."""
         if self.file is None:
             return len(SECTIONS)
         if not self.crate.startswith(("ob0_language", "ob0_scan", "ob0_tree")):
@@ -225,12 +226,12 @@ def by_file(items: Iterable[Item], needs: Callable[[Block], list[Item]]) -> list
 
 
 def is_derived(block: Block) -> bool:
-    """Whether a definition is anything but a type that takes no arguments: in its group it comes after these."""
+    """Returns whether a definition is anything except a type without arguments. Such types are first in their group."""
     return not re.match(r"^(?:pub )?(?:record|data) \w+ : Type", block.code[0])
 
 
 class Page:
-    """Both pages: which definitions each has, by which names, and their lines."""
+    """Both pages: their definitions, the names of these there, and their lines."""
 
     def __init__(self, template: Template) -> None:
         self.template, self.sources = template, Sources()
@@ -243,7 +244,7 @@ class Page:
         self.on_first: set[int] = set()  # the items of the first page, by identity
         self.names: dict[tuple[Item, str], str] = {}  # the name that it has on the pages
         self.give_names()
-        self.notes: dict[object, list[str]] = {}  # what is said in words under a definition or a contract
+        self.notes: dict[object, list[str]] = {}  # the explanations under a definition or a contract
         self.believed = {names: says for names, says in tables["believed"]}
         self.place_notes()
 
@@ -254,10 +255,10 @@ class Page:
         try:
             return self.sources.files[key[0], key[1]].named[key[2]]
         except KeyError:
-            common.stop(f"tools/statement.in names {key[2]} of {key[1]} of {key[0]}, which isn't there")
+            common.stop(f"tools/statement.in mentions {key[2]}, which file {key[1]} of crate {key[0]} doesn't define")
 
     def grouped(self) -> dict[str, list[Group]]:
-        """The definitions of the second page, by its parts."""
+        """Returns the definitions of each part of the second page, in groups."""
         late: list[Item] = [self.named(key) for key in [*LATE, *LATER]]
         late += [self.sources.type_of(crate, [module], name) for crate, module, name in LATER_TYPES]
         edits = [self.named(key) for key in EDITS]
@@ -278,7 +279,7 @@ class Page:
         return found
 
     def give_names(self) -> None:
-        """Each item's heading, and the name of each definition on the pages: no name is there twice."""
+        """Sets each item's heading, and a unique name for each definition on the pages."""
         taken: set[str] = set()
         headings: set[str] = set()
         for part in self.template.first:
@@ -303,7 +304,7 @@ class Page:
                 self.names[item, item.name] = f"code.{item.name}" if item.name in taken else item.name
 
     def number(self, kind: str) -> int:
-        """The number of the part of the second page that has these definitions."""
+        """Returns the number of the second page's part with these definitions."""
         title = next(part.title for part in self.template.second if self.template.kind(part) == kind)
         return int(common.match_of(r"Part (\d+)", title)[1])
 
@@ -318,7 +319,7 @@ class Page:
     # ---- names
 
     def shown(self, file: File, word: str) -> str:
-        """A word of a definition as the page has it."""
+        """Returns a word of a definition in its form on the page."""
         head, _, rest = word.partition(".")
         if word in file.named:
             return self.names.get((file.named[word], word), word)
@@ -335,7 +336,7 @@ class Page:
         return word
 
     def imported(self, module: str, name: str, word: str) -> str:
-        """A name of a module as the page has it."""
+        """Returns a module's name in its form on the page."""
         item = self.sources.resolve(module, name) if ".declared." in module else self.sources.resolve(module, name.split(".")[0])
         if isinstance(item, Declared):
             shown = self.names.get((item, item.name), item.name)
@@ -345,7 +346,7 @@ class Page:
         return word if own is None or own == first and "." not in word else own + (f".{rest}" if rest else "")
 
     def code_of(self, block: Block) -> list[str]:
-        """The lines of a definition with the names of the page; a field keeps its own."""
+        """Returns the lines of a definition with the page's names; a field keeps its own."""
         found = []
         for line in block.code:
             code, dashes, comment = line.partition("--")
@@ -361,7 +362,7 @@ class Page:
         return self.code_of(item) if isinstance(item, Block) else side_by_side(item.code)
 
     def in_words(self, file: File, code: str) -> str:
-        """Some code with the names of the page. An operator that has the name of another has a stroke."""
+        """Returns code with the page's names. An operator with another one's name gets a stroke."""
         code = WORD.sub(lambda at: self.shown(file, at[0]), code)
         for name in {f"◌{sign}◌" for sign in OPERATOR.findall(code)}:
             item = self.sources.look_up(file, name)
@@ -372,7 +373,7 @@ class Page:
     # ---- writing
 
     def counts(self, items: Sequence[Item]) -> tuple[int, int]:
-        """How many definitions there are, and how many lines they have without comments, as the sources lay them out."""
+        """Returns the number of definitions, and the number of their lines in the sources without comments."""
         lines = [line.lstrip() for item in items for line in item.code]
         return len(items), sum(bool(line) and not line.startswith(("--", "//")) for line in lines)
 
@@ -390,7 +391,8 @@ class Page:
         return ["```agda", *between(shown), "```", ""]
 
     def place_notes(self) -> None:
-        """Puts what is believed under the first that names it. It stops if a name isn't said, or isn't there."""
+        """Puts each explanation below the first definition that uses its name. Stops if a name has none, or doesn't
+        exist."""
         by_name = {shown: item for (item, _), shown in self.names.items()}
         lost = [name for names in self.believed for name in names.split(", ") if name not in by_name]
         if lost:
@@ -403,21 +405,22 @@ class Page:
             self.notes[place] = []
             for need in needs:
                 names, says = said.get(need, ("", ""))
-                # (the notation has operators, and a type of the code is said with what has it)
+                # (operators belong to the notation, and a type of the code is explained with its owner)
                 if isinstance(need, Block) and not names and need not in self.first and not need.names[0].startswith("◌"):
                     unsaid.append(f"{place.names[0] if isinstance(place, Block) else place} names {self.names[need, need.names[0]]}")
                 if names and names not in noted:
                     noted.add(names)
                     self.notes[place].append(f"{names}: {says}")
         if unsaid:
-            common.stop("\n".join(["the first page neither unfolds nor says:", *unsaid]))
+            common.stop("\n".join(["the first page neither defines nor explains:", *unsaid]))
         for name, names, says in self.template.tables["besides"]:
             self.notes[name] = [f"{names}: {says}", *self.notes[name]]
         if not noted >= {*self.believed}:
             common.stop(f"nothing of the first page names {', '.join({*self.believed} - noted)}")
 
     def first_named(self) -> list[tuple[object, list[Item]]]:
-        """The contracts, by name, and the definitions of the first page as they follow, with what each names."""
+        """Returns the contracts (by name) and the definitions of the first page in order, each with the items that it
+        uses."""
         found: list[tuple[object, list[Item]]] = []
         for part in self.template.first:
             found += [(key[2], roots(self.sources, [key])) for key in self.template.contracts([part])]
@@ -426,13 +429,13 @@ class Page:
 
     def contract_lines(self, key: Key, on_first: bool) -> list[str]:
         lines = contract(*key)
-        # (what is said over a law is said over its definition too)
+        # (a law's definition has the same comment)
         if on_first and key[1] == "laws":
             lines = [line for line in lines if not line.startswith("///")]
         return lines + (noted("//", self.notes.get(key[2], [])) if on_first else [])
 
     def elsewhere(self, items: Iterable[Block], heading: str, named: Iterable[Item] = ()) -> list[str]:
-        """Where the names are defined that these use, those of other groups, and others that are named."""
+        """Returns links to the definitions of other groups that these use, and to `named`."""
         needs = [need for item in items for need in self.needs(item)]
         found = {need: 0 for need in [*named, *needs] if self.homes.get(need, heading) != heading}
         links = []
@@ -443,7 +446,7 @@ class Page:
         return [*wrapped("Elsewhere: " + ", ".join(links) + "."), ""] if links else []
 
     def needs(self, block: Block) -> list[Item]:
-        """What a definition names, but for the names of its own parts."""
+        """Returns the items that a definition uses, without its own fields."""
         if not re.match(r"^(?:pub )?record ", block.code[0]):
             return self.sources.needs(block)
         code = [re.sub(r"^\s+(?:pub )?[\w-]+(?= :)", "", line) for line in block.code]
@@ -485,7 +488,7 @@ class Page:
         return found[:-1] if found and not found[-1] else found
 
     def homes_of_believed(self) -> list[str]:
-        """Where the definitions are that the first page names and doesn't unfold."""
+        """Returns the files of the definitions that the first page uses without showing them."""
         by_file: dict[str, list[str]] = {}
         for _, needs in self.first_named():
             for need in needs:
@@ -499,7 +502,7 @@ class Page:
         return listed(items)
 
     def named_lines(self, kind: str) -> list[str]:
-        """The names that the pages don't unfold, or only in a part that isn't counted."""
+        """Returns the table of names that the pages don't define, or define only in a part that isn't counted."""
         if kind == "later":
             says = {name.strip("`"): says for name, says in self.template.tables["later"]}
             rows = [f"| `{key[2]}` | {says[key[2]]} | part {self.number('steps')} |" for key in LATER]
@@ -511,14 +514,15 @@ class Page:
     # ---- sizes
 
     def size(self, part: Part) -> Size:
-        """How many words and how many lines of definitions and contracts are to be read in a section of the first page."""
+        """Returns how many words, and how many lines of definitions and contracts, a section of the first page
+        contains."""
         lines = self.counts(self.items_of(part))[1]
         lines += sum(read_of(["```", *contract(*key)])[1] for key in self.template.contracts([part]))
         # (any time has as many words)
         return read_of(line.replace("{first}", "at most 0 minutes") for line in self.lines(part, True))[0], lines
 
     def first_size(self) -> Size:
-        """How much is read before the notation: what is stated, and what isn't."""
+        """Returns the size of everything before the notation."""
         titles = [part.title for part in self.template.first]
         return summed(self.size(part) for part in self.template.first[: titles.index(NOTATION)])
 
@@ -527,7 +531,7 @@ class Page:
         return f"{many} definitions, {lines:,} lines"
 
     def table(self) -> list[str]:
-        """The parts with their sizes, and what some of them are together."""
+        """Returns the table of the parts with their sizes and some sums."""
         rows = ["| Part | Definitions | Lines |", "|---|---|---|"]
         named = [part for part in self.template.second if self.template.kind(part)]
 
@@ -545,7 +549,7 @@ class Page:
         return rows
 
     def left_out(self) -> str:
-        """The definitions that are in no sum."""
+        """Returns the definitions that are in no sum."""
         many, lines = self.counts(self.uncounted)
         return f"{many} definitions ({lines} lines)"
 
@@ -581,7 +585,7 @@ SUMS = {"wire": "Without the language", "language": "With the language"}
 
 
 def filled(lines: list[str]) -> list[str]:
-    """A type that the sources have one part to a line, in as few lines as hold it."""
+    """Returns a type that has one part a line in the sources, in as few lines as possible."""
     found: list[str] = []
     for line in lines:
         part = re.match(r"^\s+→ .*", line)
@@ -595,7 +599,7 @@ def filled(lines: list[str]) -> list[str]:
 
 
 def side_by_side(lines: list[str]) -> list[str]:
-    """A type of the code, with cases that are names alone beside one another."""
+    """Returns a type of the code with its cases that are only names on shared lines."""
     found: list[str] = []
     for line in lines:
         name = re.match(r"^    [A-Z]\w*,$", line)
@@ -608,8 +612,8 @@ def side_by_side(lines: list[str]) -> list[str]:
 
 
 def read_of(text: Iterable[str]) -> Size:
-    """How many words some text has, those of comments too, and how many lines of code. Headings, lists of links and what
-    divides tables aren't read."""
+    """Returns how many words a text contains, including comments, and how many lines of code. Headings, lists of links
+    and the dividing lines of tables aren't counted."""
     words = lines = 0
     fenced = skipped = False
     for line in text:
@@ -629,7 +633,7 @@ def summed(sizes: Iterable[Size]) -> Size:
 
 
 def minutes(size: Size) -> int:
-    """How long it takes to read this many words and lines."""
+    """Returns how many minutes it takes to read this many words and lines."""
     return math.ceil(size[0] / WORDS_A_MINUTE + size[1] / LINES_A_MINUTE)
 
 
@@ -638,13 +642,13 @@ def listed(items: Iterable[str]) -> list[str]:
 
 
 def noted(mark: str, notes: Iterable[str]) -> list[str]:
-    """Notes as comments, indented, which begin with this mark."""
+    """Returns notes as indented comments that begin with this mark."""
     how: dict[str, Any] = {"initial_indent": f"{mark}   ", "subsequent_indent": f"{mark}     "}
     return [line for note in notes for line in textwrap.wrap(note, WIDTH, break_on_hyphens=False, **how)]
 
 
 def between(contracts: Iterable[list[str]]) -> list[str]:
-    """Contracts or definitions one after another, with an empty line between."""
+    """Returns the lines of contracts or definitions, with an empty line between two."""
     found: list[str] = []
     for lines in contracts:
         found += ([""] if found else []) + lines
@@ -652,12 +656,12 @@ def between(contracts: Iterable[list[str]]) -> list[str]:
 
 
 def slug(heading: str) -> str:
-    """The anchor of a heading."""
+    """Returns the anchor of a heading."""
     return re.sub(r"[^\w\- ]", "", heading.lower()).replace(" ", "-")
 
 
 def wrapped(text: str, indent: str = "") -> list[str]:
-    """The lines of a text; what is between backquotes stays in one line, and so does a link."""
+    """Returns the lines of a text. Text between backquotes, and a link, isn't broken."""
     kept = re.sub(r"\[?`[^`]*`(?:\]\([^)]*\))?", lambda at: at[0].replace(" ", "\N{NO-BREAK SPACE}"), text)
     lines = textwrap.wrap(kept, 120, subsequent_indent=indent, break_on_hyphens=False, break_long_words=False)
     return [line.replace("\N{NO-BREAK SPACE}", " ") for line in lines]

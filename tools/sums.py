@@ -1,8 +1,8 @@
-"""What a row of tools/mutants.txt stands on, as words, and the sum over them.
+"""Computes the sum of a row of tools/mutants.txt, over the words of everything that its verdict depends on.
 
-The words are those of each function that the mutant changes with its contract (a trait's method has it at the trait, a method of a
-type with a model the model too), those of the mutant, and those of the definitions that the contract names, with the definitions of
-the same crate that these name in turn. Comments and layout don't count, and local variables count by their order."""
+These words are in three places: the mutant; each function that it changes, with its contract (also the trait's contract
+and the type's model); and the definitions that the contract uses, directly or through others of the same crate.
+Comments and layout don't count, and local variables are replaced by numbers."""
 from __future__ import annotations
 
 import functools
@@ -17,7 +17,7 @@ import definitions
 import reading
 from edits import Edit
 
-Part = Tuple[str, List[str]]  # what the words are of, and the words
+Part = Tuple[str, List[str]]  # the place of the words, and the words
 # The words of an edit: texts, characters, names and numbers, signs.
 EDIT_WORD = re.compile(r"\"(?:\\.|[^\"\\])*\"|'(?:\\.|[^'\\])'|\w+|[^\w\s]")
 DEFINITION_WORD = re.compile(r"\"[^\"]*\"|[\w']+|[^\w\s]")
@@ -46,7 +46,7 @@ class Definitions(definitions.Sources):
 
 
 class Parts:
-    """The words on which rows stand."""
+    """The words that rows depend on."""
 
     def __init__(self) -> None:
         self.definitions = Definitions()
@@ -59,7 +59,7 @@ class Parts:
         return self.sources[crate]
 
     def of(self, edit: Edit) -> List[Part]:
-        """The words on which the row of a form of a mutant stands."""
+        """Returns the words that the row of a form depends on."""
         source, names = self.source(edit.crate), Names()
         if edit.turned is None:
             files = sorted({path for path, _ in edit.lines})
@@ -81,14 +81,14 @@ class Parts:
         return found
 
     def at_trait(self, crate: str, function: reading.Function) -> Optional[reading.Function]:
-        """A method at its trait, if a crate declares the trait."""
+        """Returns a trait's own declaration of a method, if a crate declares the trait."""
         if function.trait not in self.source(crate).traits:
             return None
         named = (it for it in self.source(crate).functions if it.owner == function.trait and it.name == function.name)
         return next(named, None)
 
     def blocks(self, source: reading.Source, turned: Iterable[reading.Function]) -> List[definitions.Block]:
-        """The definitions that the contracts of functions name, and those of the same crate on which these stand."""
+        """Returns the definitions that the contracts of functions use, directly or through others of the same crate."""
         found: List[definitions.Block] = []
         waiting = [block for it in turned for block in self.named_by(it.crate, it.file, self.words(source, it))]
         while waiting:
@@ -101,13 +101,13 @@ class Parts:
         return found
 
     def named_by(self, crate: str, file: str, words: Iterable[str]) -> List[definitions.Block]:
-        """The definitions that words of a source name, by the file's `ghost use` lines."""
+        """Returns the definitions that words of a source mean, according to the file's `ghost use` lines."""
         uses = self.uses_of(os.path.join(common.TOP, "crates", crate, file))
         items = (self.definitions.look_up(uses, it) for it in dict.fromkeys(words))
         return [it for it in items if isinstance(it, definitions.Block)]
 
     def uses_of(self, path: str) -> definitions.File:
-        """What the `ghost use` lines of a source bring in."""
+        """Returns the imports of a source's `ghost use` lines."""
         if path not in self.uses:
             found = self.uses[path] = definitions.File.__new__(definitions.File)
             found.uses, found.passed_on, found.named = {}, {}, {}
@@ -118,7 +118,7 @@ class Parts:
 
 
 class Names:
-    """The local variables of functions, numbered as they come."""
+    """The local variables of functions, numbered in the order of their appearance."""
 
     def __init__(self) -> None:
         self.locals: set[str] = set()
@@ -128,7 +128,8 @@ class Names:
         self.locals.update(names)
 
     def numbered(self, words: List[str]) -> List[str]:
-        """Words with a number for each local variable. (A name after a dot or in a path, or before a bracket, is none.)"""
+        """Returns words with a number for each local variable. (A name after a dot, in a path, or before a bracket is
+        no variable.)"""
         found = []
         for at, word in enumerate(words):
             before, after = words[at - 1] if at else "", words[at + 1] if at + 1 < len(words) else ""
@@ -157,7 +158,7 @@ def words_of_block(block: definitions.Block) -> List[str]:
 
 
 def sum_of(parts: List[Part]) -> str:
-    """A sum over words."""
+    """Returns a short checksum of these parts."""
     return hashlib.sha256(repr(parts).encode()).hexdigest()[:16]
 
 
@@ -165,7 +166,8 @@ def sum_of(parts: List[Part]) -> str:
 
 
 def binders(words: List[str]) -> List[str]:
-    """The local variables that words of code declare: parameters, and names in the patterns of `let`, `for`, arms and closures."""
+    """Returns the local variables that code declares: parameters, and names in the patterns of `let`, `for`, arms and
+    closures."""
     found: List[str] = []
     for at, word in enumerate(words):
         if word == "fn":
@@ -210,7 +212,7 @@ def pattern_before(words: List[str], at: int) -> List[str]:
 
 
 def names_in_pattern(words: List[str]) -> List[str]:
-    """The names that a pattern binds."""
+    """Returns the names that a pattern binds."""
     found = []
     for at, word in enumerate(words):
         before, after = words[at - 1] if at else "", words[at + 1] if at + 1 < len(words) else ""

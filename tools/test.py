@@ -1,16 +1,17 @@
 #!/usr/bin/env python3
-"""The whole test: the end-to-end tests that need no program, then the gate (`rt ci`), and then the other tests on the program that the
-gate built.
+"""Runs the whole test: the end-to-end tests that need no program, the gate (`rt ci`), and the other tests on the
+program that the gate built.
 
-  tools/test.py [--anew]   with --anew nothing is taken that an earlier run on this machine passed
+  tools/test.py [--anew]   --anew ignores everything that an earlier run on this machine passed
 
-The gate is every proof, the edits that must fail, the tests of the crates, and the program as two compilers build it; what `rt ci`
-says of an edit is compared with the edit's first line, and what it says that the program's proof rests on with
-docs/PROMISES.md. Some of the other mutants are tried too (tools/mutants.py). All that `rt ci` prints goes to bin/gate.log, and a
-line for each end-to-end test to bin/results; the screen shows how far the run is. At the end it repeats each failure with its
-first lines, and says how many of the proofs this run did itself. The last line is 'N passed, M failed' over all of it, and
-', K skipped' if tests of missing editors were left out; bin/results and bin/ob0.stamp have it too. A run with fewer tests than
-LEAST fails."""
+The gate consists of every proof, the edits that must fail, the tests of the crates, and two compilations of the
+program. This compares the kit's line about each edit with the edit's first line, and the assumptions that `rt ci`
+prints with docs/PROMISES.md. It also tries some of the other mutants (tools/mutants.py).
+
+bin/gate.log gets the whole output of `rt ci`, and bin/results a line for each end-to-end test; the screen shows the
+progress. At the end each failure is repeated with its first lines, and the screen shows how many proofs were made in
+this run. The last line is 'N passed, M failed' over everything, and ', K skipped' if tests of missing editors were left
+out; bin/results and bin/ob0.stamp contain it also. A run with fewer tests than LEAST fails."""
 from __future__ import annotations
 
 import contextlib
@@ -37,21 +38,25 @@ from common import TOP
 LINE = re.compile(r"^(\d+) passed, (\d+) failed(?:, (\d+) skipped)?$")
 RESULTS = os.path.join(TOP, "bin", "results")
 GATE_LOG = os.path.join(TOP, "bin", "gate.log")
-# How many tests there are (a test compares); and how many may be left out if OB0_MAY_LACK says for lack of which tools.
-LEAST = {"the gate": 94, "end to end": 644}
+# The numbers of tests, which a test compares; and how many may be left out if OB0_MAY_LACK lists the tools that may
+# lack.
+LEAST = {"the gate": 94, "end to end": 655}
 MOST_LEFT_OUT = 15
-# The variables that a developer sets to try a part of the tests, or the kit on other terms: here they have no effect.
+# The variables OB0_.. and RT_.. that have an effect here. (By others a developer tries a part of the tests, or another
+# mode of the kit.)
 KEPT_VARIABLES = {"OB0_MAY_LACK", "OB0_MINUTES", "RT_JOBS"}
-# What the kit prints about a crate, at the end of what it printed for it.
+# The kit's last line about a crate.
 ENDED = re.compile(r"rt: (ob0\w*) (?:(proved)|is kept|NOT PROVED)\b")
 FAILED_NAMES = re.compile(r"\S+(?: \((?:tests|run)\))?")
 SHARE = re.compile(r"done in this run: .*|every proof and must-fail edit was done in this run")
 WRONG = re.compile(r"\berror\b|it is not proved|no proof:|panicked|FAILED|\bfailed\b")
+# A line of tools/refusals.py, or one of tools/mutants.py, whose word isn't `refused` or, for a right form, `proved`.
+FAILED_MUTANT = re.compile(r"^(?:FAILED: |  (?!(?:refused|proved) {2})\w[\w ]*? +)(\S+/\S+): (.*)$", re.M)
 LONGEST_LINE = 300  # characters
 
 
 class Failure(NamedTuple):
-    """What failed, and the first lines of its message."""
+    """The name of a failed test or proof, and its message."""
 
     name: str
     lines: list[str]
@@ -61,7 +66,7 @@ class Failure(NamedTuple):
 
 
 class Counts(NamedTuple):
-    """How many tests passed, failed and were left out."""
+    """The numbers of tests that passed, that failed and that were left out."""
 
     passed: int
     failed: int
@@ -71,8 +76,8 @@ class Counts(NamedTuple):
         return Counts(self.passed + other.passed, self.failed + other.failed, self.skipped + other.skipped)
 
     def at_least(self, what: str) -> Counts:
-        """The same, and one more failure if fewer tests ran than the repository has. Those that were left out, each for a missing
-        tool, count as run; if OB0_MAY_LACK lists the tools, only so many of them."""
+        """Returns these counts, with one more failure if fewer tests ran than the repository has. A test that was left
+        out for a missing tool counts as run; if OB0_MAY_LACK is set, only MOST_LEFT_OUT of them do."""
         left_out = min(self.skipped, MOST_LEFT_OUT) if "OB0_MAY_LACK" in os.environ else self.skipped
         if self.passed + self.failed + left_out >= LEAST[what]:
             return self
@@ -84,7 +89,8 @@ class Counts(NamedTuple):
 
 
 class Run:
-    """What is known of this run: the time, its failures, and what `rt ci` said of its share of the proofs."""
+    """The state of this run: its time, its failures, its present part, and the kit's line about how many proofs it
+    made."""
 
     def __init__(self) -> None:
         self.timer = common.Timer()
@@ -106,8 +112,8 @@ RUN = Run()
 
 
 class Gate:
-    """What `rt ci` prints, line by line. All of it is kept; the screen gets the lines about a crate, with how many are left, and of
-    a crate that failed the first lines that say why."""
+    """Reads the output of `rt ci` line by line. The log gets all lines. The screen gets the lines about a crate, with
+    the number of crates left, and for a failed crate the first lines with the reason."""
 
     def __init__(self, log: io.TextIOBase) -> None:
         self.log, self.all = log, common.listed()
@@ -118,7 +124,7 @@ class Gate:
         self.rests = trusted.Trusted()
 
     def take(self, line: str) -> str:
-        """Takes a line, and returns what the screen shows of it."""
+        """Handles a line of `rt ci`'s output, and returns the text for the screen."""
         self.log.write(line)
         self.libraries.take(line)
         self.refusals.take(line)
@@ -132,7 +138,8 @@ class Gate:
         return self.of_kit(line, block)
 
     def of_kit(self, line: str, block: list[str]) -> str:
-        """What the screen shows of a line of the kit's own, before which these lines came."""
+        """Returns the text for the screen of a line that begins with `rt:`. `block` are the lines since the previous
+        one."""
         text = line.rstrip("\n")
         ended, share = ENDED.match(line), SHARE.search(line)
         crate = re.match(r"rt: (?:must-fail )?(ob0\w*)", line)
@@ -150,13 +157,13 @@ class Gate:
         return "" if ": refused, as it must be" in line else f"[{RUN.timer}] {text[:LONGEST_LINE]}\n"
 
     def fail(self, names: list[str]) -> None:
-        """Takes the names of what failed, as the kit lists them at the end."""
+        """Takes the names of failures that the kit lists at the end."""
         for name in names:
             RUN.fail(name, self.told.get(re.split(r"[ /]", name)[0], ["bin/gate.log has what was printed"]))
 
 
 class Heard(io.StringIO):
-    """A standard output that is also kept."""
+    """Passes text on to the standard output, and stores it."""
 
     def write(self, text: str) -> int:
         if sys.__stdout__:
@@ -166,20 +173,21 @@ class Heard(io.StringIO):
 
 
 def environment(**named: str) -> dict[str, str]:
-    """The variables without those that leave tests out or change what the kit takes."""
+    """Returns the environment without the variables that leave tests out or change the kit's mode."""
     own = {key: it for key, it in os.environ.items() if not re.match("OB0|RT_", key) or key in KEPT_VARIABLES}
     return {**own, **named}
 
 
 def as_first_in_group() -> None:
-    """Makes a new process the first of a group, which Ctrl-C doesn't reach, and has it end by that signal."""
+    """Puts a new process in its own group, so that Ctrl-C in the terminal doesn't reach it, and restores SIGINT's
+    default action, which ends it."""
     os.setpgrp()
     signal.signal(signal.SIGINT, signal.SIG_DFL)
 
 
 def stream(words: list[str], show: Callable[[str], str], **named: str) -> Counts:
-    """Runs a command, prints what `show` makes of each line, and returns the counts of its last line that has them; a run without
-    tests has failed."""
+    """Runs a command, prints what `show` returns for each line, and returns the counts of its last verdict line. A run
+    of no test has failed."""
     counts = Counts(0, 0)
     how: dict[str, Any] = {"cwd": TOP, "stdin": subprocess.DEVNULL, "stdout": subprocess.PIPE, "stderr": subprocess.STDOUT}
     with subprocess.Popen(words, env=environment(**named), preexec_fn=as_first_in_group, **how) as process:
@@ -196,15 +204,16 @@ def stream(words: list[str], show: Callable[[str], str], **named: str) -> Counts
 
 
 def jobs() -> dict[str, str]:
-    """RT_JOBS for the gate, by which it makes that many checks side by side (left to itself `rt ci` reserves up to 5 GB for one).
-    With more than four processors it is left unset, since `rt ci` then gives what is idle to the checks that run."""
+    """Returns RT_JOBS for the gate, the number of checks that run at the same time. (By default `rt ci` reserves up to
+    5 GB for a check.) With more than four processors it is unset, because `rt ci` then gives idle processors to the
+    running checks."""
     if "RT_JOBS" in os.environ or build.processors() > 4:
         return {}
     return {"RT_JOBS": str(build.lanes())}
 
 
 def gate(flags: list[str]) -> Counts:
-    """The gate's counts, with those of the mutants. The program that it builds becomes bin/ob0: it is not proved a second time."""
+    """Runs the gate and the mutants, and returns their counts. The program that the gate builds becomes bin/ob0."""
     linked = os.path.join(TOP, "crates", "ob0", "out", "ob0")
     package.remove_untested()
     for old in (linked, common.BINARY):
@@ -225,7 +234,8 @@ def gate(flags: list[str]) -> Counts:
 
 
 def of_mutants(taken: Gate) -> Counts:
-    """The counts of the edits that the kit refused otherwise than their first lines say, and of the mutants that are tried."""
+    """Tries mutants. Returns their counts, and as failures the edits that the kit didn't refuse by the clause in their
+    first lines."""
     RUN.at = "the mutants"
     said = Heard()
     with contextlib.redirect_stdout(said):
@@ -233,47 +243,49 @@ def of_mutants(taken: Gate) -> Counts:
         refused, others = taken.refusals.end()
         tried = Counts(*mutants.try_some(taken.libraries))
     shutil.rmtree(build.ROOMS, ignore_errors=True)
-    for name, why in re.findall(r"^(?:FAILED: |  (?!refused )\w[\w ]*? +)(\S+/\S+): (.*)$", said.getvalue(), re.M):
-        RUN.failures.append(Failure(name, [why]))
+    for path, why in FAILED_MUTANT.findall(said.getvalue()):
+        RUN.failures.append(Failure(path, [why]))
     of_kit = f"{refused} refused by the kit, {others} not as they have to be"
     print(f"== mutants: {of_kit}; of the others {tried}, {RUN.timer}", flush=True)
     return Counts(0, others).with_(tried)
 
 
 def spent() -> float:
-    """The processors' time, in seconds, that what was run so far took."""
+    """Returns how many seconds of the processors this run took so far."""
     times = os.times()
     return times.children_user + times.children_system
 
 
 def say_missing() -> None:
-    """Says at once what is missing, how to get it, and which tests fail or are left out without it."""
+    """Prints which tools are missing, how to get them, and what happens to their tests."""
     missing = [it for it in editors.TOOLS if not editors.is_here(it)]
     required = [it for it in missing if not editors.may_lack(it)]
     others = [it for it in missing if it not in required]
     if required:
         print(f"missing: {', '.join(required)}. `make editors` installs what Debian has; without it tests fail, and this run doesn't pass")
     if others:
-        print(f"missing: {', '.join(others)}. The tests that want these are left out, by name; `make editors` installs what Debian has")
+        advice = "Their tests are left out, by name; `make editors` installs what Debian has"
+        print(f"missing: {', '.join(others)}. {advice}")
     for name in (it for it in missing if it in editors.HOW_TO_GET):
         print(f"{name}: {editors.HOW_TO_GET[name]}")
     sys.stdout.flush()
 
 
 def known(flags: list[str]) -> list[str]:
-    """The flags that this kit has. One that has no `--anew` keeps nothing, and proves everything each time."""
+    """Returns the flags that this kit knows. A kit without `--anew` keeps nothing, and proves everything each time."""
     said = subprocess.run(["rt", "help"], stdout=subprocess.PIPE, stderr=subprocess.STDOUT, check=False).stdout
     return [it for it in flags if it.encode() in said]
 
 
 def tests(part: str) -> Counts:
-    """The counts of a part of the end-to-end tests."""
+    """Runs a part of the end-to-end tests, and returns its counts."""
     show: Callable[[str], str] = lambda text: f"end to end: {text}" if LINE.match(text.strip()) else text
     return stream([sys.executable, os.path.join("tests", "run.py"), part], show, OB0_WHOLE="1")
 
 
 def kept_results() -> Iterator[list[str]]:
-    """The cells of each line of bin/results about a test: its outcome, time, name, how often it failed, and its message."""
+    """Yields the cells of each line of bin/results about a test: its outcome, time, name, how often it failed, and its
+    message."""
     with open(RESULTS, encoding="utf-8") as file:
         for row in (line.rstrip("\n").split("\t") for line in file):
             if len(row) > 2:
@@ -281,12 +293,13 @@ def kept_results() -> Iterator[list[str]]:
 
 
 def message_of(row: list[str]) -> list[str]:
-    """The lines of a test's message."""
+    """Returns the lines of a test's message."""
     return re.sub(r"\\(.)", lambda it: {"n": "\n", "t": "\t"}.get(it[1], it[1]), row[-1]).split("\n")
 
 
 def say_failures() -> None:
-    """Repeats each failure with its first lines, names the tests that failed only once, and says how many proofs were made."""
+    """Prints each failure again with its first lines, the tests that failed only once, and how many proofs were
+    made."""
     rows = [*kept_results()]
     failures = [Failure(row[2], message_of(row)) for row in rows if row[0] == "FAILED"]
     for it in RUN.failures + failures:
@@ -298,7 +311,7 @@ def say_failures() -> None:
 
 
 def whole(flags: list[str]) -> Counts:
-    """Runs all parts, and returns the counts of all."""
+    """Runs all parts, and returns their counts together."""
     RUN.step("tests that need no program")
     ran = tests("--first")
     print(f"== these tests: {ran}, {RUN.timer}", flush=True)
@@ -312,12 +325,12 @@ def whole(flags: list[str]) -> Counts:
 
 
 def end(counts: Counts) -> int:
-    """Ends the run with its verdict, which bin/results and the program's stamp get as well; returns the status."""
+    """Ends the run: writes its verdict to bin/results, the program's stamp and the screen; returns the status."""
     line = str(counts)
     with open(RESULTS, "a", encoding="utf-8") as file:
         file.write(f"== proofs: {RUN.share}\n{line}\n")
     common.keep_verdict(line, RUN.share)
-    # (beside other work the times say little: how many processes wanted a processor, in the last 15 minutes)
+    # (a high load, of the last 15 minutes, explains long times)
     took = f"{RUN.timer}, of the processors {common.clock(spent())}, load {os.getloadavg()[2]:.1f}"
     say_failures()
     print(f"== all of it took {took}\n{line}", flush=True)
@@ -335,11 +348,11 @@ def main(flags: list[str]) -> int:
             tempfile.tempdir = os.environ["TMPDIR"] = room
             with open(RESULTS, "w", encoding="utf-8"):
                 pass
-            # (what a build that was killed left: the gate takes no source outside crates/)
+            # (a killed build leaves rooms, and the gate refuses sources outside crates/)
             shutil.rmtree(build.ROOMS, ignore_errors=True)
             common.need("rt")
             if not editors.is_here("another user"):
-                # (it would fail at its end: as root `rt` runs programs and tests only as another user)
+                # (root's `rt ci` runs programs and tests as another user, at its end)
                 common.stop(f"root can't become another user here, as `rt ci` needs: {editors.HOW_TO_GET['another user']}")
             say_missing()
             return end(whole(flags))

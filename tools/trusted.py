@@ -1,4 +1,4 @@
-"""What the checker says at the gate that the proof of the program rests on, compared with the list in docs/PROMISES.md."""
+"""Compares the assumptions that the checker prints at the gate with the list in docs/PROMISES.md."""
 from __future__ import annotations
 
 import os
@@ -14,7 +14,7 @@ BLOCK = re.compile(r"^## What is trusted$.*?^```\n(.*?)^```$", re.MULTILINE | re
 
 
 class Trusted:
-    """The last lines that `rt ci` prints on the crate `ob0`. There are none if an earlier run has proved it."""
+    """The last lines of `rt ci` on the crate `ob0`. There are none if an earlier run proved it."""
 
     def __init__(self) -> None:
         self.lines: List[str] = []
@@ -33,12 +33,12 @@ class Trusted:
             self.lines = []
 
     def difference(self) -> List[str]:
-        """The gate's lines if the page lists others, or nothing."""
+        """Returns the gate's lines if the page lists others, otherwise nothing."""
         return [] if not self.said or listed() == self.said else self.said
 
 
 def listed() -> List[str]:
-    """The lines that the page quotes."""
+    """Returns the lines of the code block in docs/PROMISES.md, What is trusted."""
     with open(PAGE, encoding="utf-8") as file:
         found = BLOCK.search(file.read())
     return found[1].splitlines() if found else []

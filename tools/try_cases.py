@@ -49,7 +49,8 @@ class Unknown(Exception):
 
 
 class Case(NamedTuple):
-    """What a test runs: the words, with FILE in place of a file's name; what is in that file; and standard input."""
+    """A command that a test runs: its words, with FILE in place of a file's name; that file's content; and standard
+    input."""
 
     words: Tuple[str, ...]
     text: Optional[bytes]
@@ -79,7 +80,7 @@ class Cases:
     def run(
         self, words: Sequence[str], given: bytes = b"", stack: int | None = None, cwd: str | None = None
     ) -> harness.Ended:
-        """In place of `harness.run`: the words, the input and the files that they name."""
+        """Replaces `harness.run`: notes the words, the input and the files that they mention."""
         plain, text, wants_help = list(words), None, {"-h", "--help"} & {*words}
         if words[:1] and words[0] in COMMANDS and not wants_help:
             at = next((at for at, it in enumerate(words) if at and os.path.isfile(os.path.join(cwd or ".", it))), None)
@@ -99,7 +100,8 @@ class Cases:
         return self.found[case]
 
     def note(self, name: str, function: harness.Test) -> tuple[str, Exception | None]:
-        """Notes the cases of a test. If it needs something that isn't offered, none of them is run; returns the reason."""
+        """Notes the cases of a test. If `rt try` doesn't offer something that the test needs, notes no case and returns
+        the reason."""
         before = dict(self.wanted)
         why = play(function)
         if not isinstance(why, (Unknown, harness.Skipped)):
@@ -112,8 +114,7 @@ class Cases:
         return lambda *words, **named: None if self.noting else check(*words, **named)
 
     def put_together(self) -> None:
-        """Moves most modules to check and most renamings from the cases into one conversation, a
-        case by itself."""
+        """Moves most checked modules and most renamings from separate cases into one conversation."""
         checks = [it for it in self.wanted if it.words == CHECK and it.text is not None and is_text(it.text) and not it.given]
         renamings = [it for it in self.wanted if it.is_request()]
         by_command = [it for it in renamings if it.is_writable()][:RENAMED]
@@ -133,7 +134,8 @@ class Cases:
             self.wanted[Case(("serve",), None, conversation)] = None
 
     def take_conversation(self, said: bytes) -> None:
-        """Notes what `check` prints about each opened module, by its diagnostics, and `rename` by the answer to the request."""
+        """Notes the output of `check` for each opened module, from its diagnostics, and of `rename`, from the
+        answer."""
         contents, printed = [json.loads(it) for it in harness.unframed(said)], {}
         for params in (it["params"] for it in contents if "params" in it):
             at = int(params["uri"].rpartition("/")[2])
@@ -146,9 +148,9 @@ class Cases:
             self.found[case] = printed[at] if printed[at].status else renamed((case.text or b"").decode(), answers[f"rename {at}"])
 
     def write(self, room: str, lanes: int) -> tuple[dict[str, Case], list[list[str]]]:
-        """Writes the cases as files for `rt try`, dealt out to this many folders, and returns their names and for each folder the
-        flags that give it the modules to run. It copies each of these for each case: so a module is a file once, and if a
-        case reads no input, that file is the module itself."""
+        """Writes the cases as files for `rt try` into this many folders. Returns the names of the cases, and for each
+        folder the flags that pass its modules. `rt try` copies each module for each case, so a module is only one file;
+        if a case reads no input, that file is the module itself."""
         names: dict[str, Case] = {}
         modules: dict[bytes, str] = {}
         flags: list[dict[str, str]] = [{} for _ in range(lanes)]
@@ -170,7 +172,8 @@ class Cases:
         return names, [[word for pair in it.items() for word in ("--data", "=".join(pair))] for it in flags]
 
     def take(self, out: bytes, err: bytes, names: dict[str, Case]) -> None:
-        """Takes what `rt try` printed: the output of each case after a line with its name, and lines on each."""
+        """Stores the results that `rt try` printed: the output of each case after a line with its name, and a line
+        about its status."""
         cut = re.split(rb"^== (case\d{4})\n", out, flags=re.M)
         printed = dict(zip((it.decode() for it in cut[1::2]), cut[2::2]))
         before = 0
@@ -286,7 +289,7 @@ def main(words: list[str]) -> int:
 
 
 def replace_in_harness(cases: Cases) -> None:
-    """Has the tests, which take these names from the harness when they are loaded, note what they run."""
+    """Replaces functions of the harness, so that tests note what they run."""
     checks = {"same": cases.unless_noting(harness.same), "holds": cases.unless_noting(harness.holds), "ends": without_last_line_feed}
     speaking = dict.fromkeys(("Server", "serve", "serve_in_pieces"), Conversation)
     replaced: dict[str, object] = {"run": cases.run, **checks, **speaking}
@@ -295,14 +298,14 @@ def replace_in_harness(cases: Cases) -> None:
 
 
 def without_last_line_feed(found: harness.Ended, out: str | bytes, status: int, err: str | bytes = "") -> None:
-    """In place of `harness.ends`: `rt try` prints an output that lacks its last line feed with one."""
+    """Replaces `harness.ends`, because `rt try` adds a missing last line feed to outputs."""
     wanted_out, wanted_err = (it if isinstance(it, bytes) else it.encode() for it in (out, err))
     got, wanted = (found.out.rstrip(b"\n"), found.err, found.status), (wanted_out.rstrip(b"\n"), wanted_err, status)
     harness.same(got, wanted, "standard output, standard error and the status")
 
 
 class Conversation:
-    """Takes the place of `harness.Server`, and of everything else that speaks with a server."""
+    """Replaces `harness.Server`, and everything else that talks to a server."""
 
     def __init__(self, *_: object, **__: object) -> None:
         raise Unknown("a conversation")

@@ -34,7 +34,7 @@ class Row(NamedTuple):
         return f"{self.path} {self.sum} {self.verdict}"
 
     def is_well(self, edit: edits.Edit) -> bool:
-        """Whether a goal of the clause that the mutant's first line names refused it; of a right form, whether it was proved."""
+        """Returns whether a goal of the claimed clause refused the mutant, or whether the right form was proved."""
         if edit.is_right:
             return self.verdict == IS_PROVED
         found = REFUSED.match(self.verdict)
@@ -42,7 +42,7 @@ class Row(NamedTuple):
 
 
 def is_met(edit: edits.Edit, goal: str, proof: str) -> bool:
-    """Whether a goal is of the clause that a mutant's first line names."""
+    """Returns whether a goal belongs to the clause in a mutant's first line."""
     claim = edit.claim
     if not claim:
         return False
@@ -52,7 +52,7 @@ def is_met(edit: edits.Edit, goal: str, proof: str) -> bool:
 
 
 class Mutants:
-    """The forms of all mutants with their present sums, and the rows that are kept of them."""
+    """The forms of all mutants with their present sums, and their rows."""
 
     def __init__(self, path: str = PATH) -> None:
         self.path, self.parts = path, sums.Parts()
@@ -70,17 +70,17 @@ class Mutants:
             self.edits[edit.path], self.words[edit.path] = edit, self.parts.of(edit)
 
     def row(self, path: str) -> Row:
-        """The row of a form; one that was never tried if there is none."""
+        """Returns the row of a form, or a row that says that it was never tried."""
         return self.rows.get(path, Row(path, NEVER, NOT_TRIED))
 
     def is_current(self, path: str) -> bool:
-        """Whether a form came to what it has to, and its row is of the present sources."""
+        """Returns whether a form has the verdict that it must have, for the present sources."""
         row = self.row(path)
         return row.sum == self.sums[path] and row.is_well(self.edits[path])
 
     @property
     def stale(self) -> List[str]:
-        """The paths of the others, in order."""
+        """Returns the paths of the other forms, in order."""
         return [it for it in sorted(self.edits) if not self.is_current(it)]
 
     @property
@@ -89,7 +89,7 @@ class Mutants:
         return sorted(path for path, edit in self.edits.items() if not edit.is_right)
 
     def keep(self, path: str, tried_on: str, verdict: str) -> None:
-        """Keeps what a form came to, with the sum of what it was tried on."""
+        """Sets the verdict of a form, with the sum of the sources on which it was tried."""
         self.rows[path] = Row(path, tried_on, verdict)
 
     def write(self) -> None:
@@ -100,13 +100,13 @@ class Mutants:
 
 
 def row_of(line: str) -> Optional[Row]:
-    """The row that a line has, if it has the form of one."""
+    """Returns the row in a line, or None if the line has another form."""
     parts = line.rstrip("\n").split(" ", 2)
     return Row(*parts) if len(parts) == 3 else None
 
 
 def rows_of(path: str) -> List[Row]:
-    """The rows of a file; none if it doesn't exist."""
+    """Returns the rows of a file, which are none if it doesn't exist."""
     if not os.path.isfile(path):
         return []
     with open(path, encoding="utf-8") as file:

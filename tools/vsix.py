@@ -23,7 +23,7 @@ Files = Dict[str, bytes]
 
 
 class Modules(NamedTuple):
-    """Folders with modules of Node, and the root of the system of which they are."""
+    """Folders with modules of Node, and the root of the system that they belong to."""
 
     root: str
     folders: List[str]
@@ -37,7 +37,8 @@ def of_system(root: str) -> Modules:
 
 
 def modules() -> Modules | None:
-    """The modules that are here, of which one is the client: by npm, of the root of Debian 13 that `make editors` makes, of this system."""
+    """Returns the first modules that include the client: npm's, the ones in the root of Debian 13 that `make editors`
+    makes, or this system's."""
     places = [Modules("/", [os.path.join(FOLDER, "node_modules")]), of_system(os.path.join(TOP, "bin", "roots", "trixie")), of_system("/")]
     return next((it for it in places if it.folder_of(CLIENT)), None)
 
@@ -62,7 +63,7 @@ def needed(found: Modules, names: list[str]) -> list[str]:
 
 
 def files_of(folder: str) -> Files:
-    """The files of a module that run: no types, and nothing for its developers."""
+    """Returns the files of a module that are needed to run it, without types and files for developers."""
     found = {}
     for at, folders, names in os.walk(folder):
         folders[:] = sorted(it for it in folders if it not in ("node_modules", "test", "tests"))
@@ -73,7 +74,7 @@ def files_of(folder: str) -> Files:
 
 
 def package_with(found: Modules, path: str) -> str | None:
-    """The Debian package that has a file, by the lists of what is installed."""
+    """Returns the Debian package that contains a file, according to dpkg's lists."""
     lists, wanted = os.path.join(found.root, "var", "lib", "dpkg", "info"), "/" + os.path.relpath(path, found.root)
     for name in sorted(os.listdir(lists)) if os.path.isdir(lists) else []:
         if name.endswith(".list") and wanted in read(os.path.join(lists, name)).decode().splitlines():
@@ -82,7 +83,7 @@ def package_with(found: Modules, path: str) -> str | None:
 
 
 def notice_of(found: Modules, name: str) -> str:
-    """The notice of a module: its own file, or the page of its Debian package."""
+    """Returns the licence notice of a module: its own file, or the page of its Debian package."""
     folder = found.folder_of(name) or ""
     own = sorted(it for it in os.listdir(folder) if re.match("licen[cs]e", it, re.I))
     if own:
@@ -95,7 +96,7 @@ def notice_of(found: Modules, name: str) -> str:
 
 
 def with_modules(found: Modules, files: Files) -> Files:
-    """The files of the extension with the modules that it needs, and the notices of those."""
+    """Returns the extension's files, together with the Node modules that it needs and their licence notices."""
     made, notices = dict(files), []
     for name in needed(found, list(json.loads(files["package.json"])["dependencies"])):
         folder = found.folder_of(name) or ""
@@ -109,7 +110,7 @@ def with_modules(found: Modules, files: Files) -> Files:
 
 
 def manifest(about: Any) -> bytes:
-    """The list by which VS Code and its shops know an extension."""
+    """Returns the manifest by which VS Code and its marketplaces identify an extension."""
     named = {"Manifest": "package.json", "Content.Details": "README.md", "Content.Changelog": "CHANGELOG.md"}
     named["Content.License"] = "LICENSE.txt"
     places = {f"Microsoft.VisualStudio.{'Code' if it == 'Manifest' else 'Services'}.{it}": path for it, path in named.items()}
