@@ -1,17 +1,20 @@
 #!/usr/bin/env python3
-"""Runs the end-to-end tests on bin/ob0 (or on the program that the variable OB0 names).
+"""Runs the end-to-end tests on bin/ob0 (or on the program in the variable OB0).
 
-  tests/run.py [WORD..]   the tests whose names hold one of the words; with no word all of them
-  tests/run.py --first    those that need no program, as if there were none
-  tests/run.py --rest     all but those that bin/results says have been run
-  tests/run.py --list     their names
+  tests/run.py [WORD..]   all tests, or the tests with one of the words in the name
+  tests/run.py --first    the tests that need no program
+  tests/run.py --rest     the tests that have no line in bin/results
+  tests/run.py --list     prints the names of the tests
 
-A test of an editor or a tool that is missing is left out, by name. In `make test` (the variable OB0_WHOLE) every other reason fails;
-otherwise so is a test that runs the program if there is none. (If OB0_MAY_LACK lists tools, a test of another missing tool fails
-there.) A test that drives an editor and fails is run three more times, one after another, when all others have ended: at two
-failures of four it has failed, and at one its name is in the line 'N failed once: ..'. The run may take OB0_MINUTES (45) in all.
-With OB0_WHOLE bin/results gets a line for each test, and those that passed aren't printed. The last line is 'N passed, M failed',
-and ', K skipped' if tests were left out; a run of no test fails."""
+If an editor, a tool or the program is missing, its tests are left out, by name. `make test` sets the variable
+OB0_WHOLE: then only a missing tool is a reason to leave a test out (one of OB0_MAY_LACK, if that is set), and any other
+reason is a failure.
+
+If a test that drives an editor fails, it runs three more times after all others, with no test at the same time. Two
+failures in four runs are a failure; after one failure its name is in the line 'N failed once: ..'.
+
+The run may take OB0_MINUTES (45). With OB0_WHOLE, bin/results gets a line for each test, and passed tests aren't
+printed. The last line is 'N passed, M failed', and ', K skipped' if tests were left out. A run of no test fails."""
 from __future__ import annotations
 
 import glob
@@ -33,7 +36,7 @@ sys.dont_write_bytecode = True
 HERE = os.path.dirname(os.path.abspath(__file__))
 sys.path.insert(0, os.path.join(HERE, "lib"))
 
-import harness  # noqa: E402 (it says where the scripts are)
+import harness  # noqa: E402 (it puts the folders of scripts on the path)
 import common  # noqa: E402
 import editors  # noqa: E402
 import processes  # noqa: E402
@@ -55,8 +58,8 @@ def load() -> None:
 
 
 class Outcome(NamedTuple):
-    """The outcome of a test: whether it passed (None if it is left out), its message and how many seconds it took; whether it drives
-    an editor, and whether it waits for a program to run; and the tools that it wants and that are missing."""
+    """The outcome of a test: whether it passed (None if it was skipped), its message and its seconds; whether it drives
+    an editor; whether it needs a program that doesn't exist; and which tools are missing."""
 
     passed: Optional[bool]
     said: str
@@ -76,7 +79,7 @@ class Outcome(NamedTuple):
 
 
 def tried(function: harness.Test) -> Outcome:
-    """Runs a test, in this process."""
+    """Runs a test in this process, and returns its outcome."""
     start = time.monotonic()
     harness.DRIVEN.clear()
     harness.WANTED.clear()
@@ -95,8 +98,8 @@ def tried(function: harness.Test) -> Outcome:
 
 
 class Running:
-    """A test that runs in a process of its own, which sends its outcome, and with its own folder for temporary files. (The test sees
-    the locale C.UTF-8, whatever the user's is.)"""
+    """A test that is running in a separate process, which reports its outcome. It has its own folder for temporary
+    files, and the locale C.UTF-8."""
 
     def __init__(self, at: int, end: float) -> None:
         self.at, self.start = at, time.monotonic()
@@ -106,7 +109,7 @@ class Running:
         self.told, telling = FORK.Pipe(duplex=False)
 
         def tell() -> None:
-            # (under `nohup`, or in the background of a shell, what a test starts would ignore signals too)
+            # (under `nohup`, or in the background of a shell, children of the test would also ignore signals)
             signal.signal(signal.SIGHUP, signal.SIG_DFL)
             signal.signal(signal.SIGTERM, signal.SIG_DFL)
             signal.signal(signal.SIGINT, signal.default_int_handler)
@@ -122,11 +125,11 @@ class Running:
         telling.close()
 
     def has_ended(self) -> bool:
-        """Whether it has sent its outcome, or its process is gone or has taken too long."""
+        """Returns whether the test has reported its outcome, its process has ended, or its time is over."""
         return self.told.poll() or time.monotonic() > self.end
 
     def outcome(self) -> Outcome:
-        """Its outcome, once it has ended."""
+        """Returns the outcome of a test that has ended, and removes its processes and files."""
         seconds = time.monotonic() - self.start
         found = Outcome(False, f"it had not ended after {seconds:.0f} seconds", seconds)
         try:
@@ -140,7 +143,7 @@ class Running:
         return found
 
     def end_now(self) -> None:
-        """Ends its process with everything that it has started."""
+        """Kills the test's process and everything that it has started, and removes its folder."""
         if self.process.pid and self.process.is_alive():
             processes.end_tree(self.process.pid)
         self.process.join()
@@ -149,8 +152,8 @@ class Running:
 
 
 def all_tried(places: list[int], processors: int, end: float) -> Iterator[tuple[int, Outcome]]:
-    """The outcomes of the tests at these places of the table, as they end: as many side by side as there are processors, and no more
-    once this time has come."""
+    """Runs the tests with these indexes, as many at the same time as there are processors. Yields each outcome as its
+    test ends. Starts no test after the time `end`, and yields a failure for it instead."""
     left = places[::-1]
     running: List[Running] = []
     try:
@@ -171,8 +174,8 @@ def all_tried(places: list[int], processors: int, end: float) -> Iterator[tuple[
 
 
 def played(places: list[int], end: float) -> Iterator[tuple[int, Outcome, str]]:
-    """The same, and how often a test failed that was run again: one that drives an editor and failed is, when all others have ended,
-    with nothing beside it."""
+    """Yields outcomes as `all_tried` does, each with a text that says how often a repeated test failed. A failed test
+    that drives an editor runs again after all others, with no other test at the same time."""
     again: List[Tuple[int, Outcome]] = []
     for at, found in all_tried(places, len(os.sched_getaffinity(0)), end):
         if found.passed is False and found.drives:
@@ -190,7 +193,7 @@ def played(places: list[int], end: float) -> Iterator[tuple[int, Outcome, str]]:
 
 
 class Counts:
-    """How many tests passed, failed and were left out."""
+    """The numbers of tests that passed, that failed and that were skipped."""
 
     def __init__(self) -> None:
         self.passed = self.failed = self.skipped = 0
@@ -209,7 +212,7 @@ class Counts:
 
 
 def keep(name: str, found: Outcome, how: str) -> None:
-    """Keeps a line on a test in bin/results; the last cell of one that failed, if only once, is its message."""
+    """Appends a test's line to bin/results. If the test failed, even once, the last cell is its message."""
     cells = [found.word, f"{found.seconds:.1f} s", name]
     if how or found.passed is False:
         cells += [how, found.said.replace("\\", "\\\\").replace("\n", "\\n").replace("\t", "\\t")]
@@ -218,7 +221,7 @@ def keep(name: str, found: Outcome, how: str) -> None:
 
 
 def kept() -> set[str]:
-    """The names of the tests on which bin/results has a line."""
+    """Returns the names of the tests that have a line in bin/results."""
     if not os.path.exists(RESULTS):
         return set()
     with open(RESULTS, encoding="utf-8") as file:
@@ -227,7 +230,8 @@ def kept() -> set[str]:
 
 
 def counted(places: list[int], is_first: bool = False) -> Counts:
-    """Runs the tests at these places, and counts their outcomes. With `is_first` those that need a program are left for later."""
+    """Runs the tests with these indexes, and counts their outcomes. With `is_first`, tests that need a program are left
+    out of the counts."""
     is_whole, counts, later = bool(os.environ.get("OB0_WHOLE")), Counts(), 0
     missing: set[str] = set()
     again: List[str] = []
@@ -262,15 +266,15 @@ def counted(places: list[int], is_first: bool = False) -> Counts:
 
 
 def chosen_by(words: list[str]) -> list[int]:
-    """The places of the tests that these words name."""
+    """Returns the indexes of the tests that the command line selects."""
     given = [it for it in words if not it.startswith("--")]
     done = kept() if "--rest" in words else set()
     return [at for at, (name, _) in enumerate(harness.TESTS) if name not in done and (not given or any(it in name for it in given))]
 
 
 def settle() -> None:
-    """Gives each test the same surroundings, whatever the user's are. The tests' configuration of git replaces the user's,
-    which may sign commits or refuse the repository of another user. The flags of a `make` that runs tests aren't theirs."""
+    """Makes the tests independent of the user's environment. Replaces the user's Git configuration, which may sign
+    commits or refuse another user's repository, and removes the flags of a `make` that runs the tests."""
     common.settle()
     common.choose_temporary()
     for name in [it for it in os.environ if it.startswith(("MAKE", "MFLAGS"))]:
@@ -279,7 +283,7 @@ def settle() -> None:
 
 
 def end_by_signal() -> None:
-    """Has SIGTERM end the tests that run, as Ctrl-C does."""
+    """Makes SIGTERM stop the run and its tests, as Ctrl-C does."""
     signal.signal(signal.SIGTERM, lambda number, _: sys.exit(128 + number))
 
 
@@ -288,6 +292,9 @@ def main(words: list[str]) -> int:
     settle()
     if isinstance(sys.stdout, io.TextIOWrapper):
         sys.stdout.reconfigure(errors="backslashreplace")
+    if "--help" in words:
+        print(__doc__)
+        return 0
     is_first = "--first" in words
     if is_first:
         harness.BINARY = os.path.join(harness.TOP, "bin", "no program yet")

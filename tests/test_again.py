@@ -1,4 +1,5 @@
-"""How tests/run.py counts: on tables of tests made for it."""
+"""Tests how tests/run.py repeats failed tests, ends slow ones, skips tests and counts results, on made-up tables of
+tests."""
 from __future__ import annotations
 
 import contextlib
@@ -20,7 +21,7 @@ from harness import Failed, holds, same, test
 
 
 def note(path: str, line: str) -> List[str]:
-    """Adds a line to a file, and returns the lines before it."""
+    """Appends a line to a file, and returns the lines that the file had before."""
     with open(path, "a+", encoding="utf-8") as file:
         file.seek(0)
         before = file.read().splitlines()
@@ -29,7 +30,7 @@ def note(path: str, line: str) -> List[str]:
 
 
 def drives(path: str, name: str, *failing: int) -> None:
-    """A test that drives an editor and fails these times."""
+    """A made-up test that needs an editor. It fails in the runs with these numbers, counted from 1."""
     harness.want("Kate")
     time_ = note(path, name).count(name) + 1
     if time_ in failing:
@@ -37,27 +38,27 @@ def drives(path: str, name: str, *failing: int) -> None:
 
 
 def alone(path: str, name: str, *tools: str) -> None:
-    """A test that drives no editor, and fails the first time."""
+    """A made-up test that needs these tools but no editor. It fails in its first run."""
     harness.want(*tools)
     holds(note(path, name).count(name), f"{name} fails")
 
 
 def waits(path: str, name: str, first: List[str]) -> None:
-    """A test that ends after others have begun."""
+    """A made-up test that ends only when the tests in `first` have written their names to the file."""
     while not set(first) <= set(note(path, "waiting")):
         time.sleep(0.01)
     note(path, name)
 
 
 def gone(path: str, name: str) -> None:
-    """A test whose process ends at once."""
+    """A made-up test that exits its process without a result."""
     note(path, name)
     os._exit(3)
 
 
 @contextlib.contextmanager
 def whole(is_whole: bool) -> Iterator[None]:
-    """Has tests run as `make test` runs them, or not."""
+    """Sets OB0_WHOLE, as `make test` does, or removes it. OB0_MAY_LACK is removed in both cases."""
     with mock.patch.dict(os.environ):
         for name in ("OB0_WHOLE", "OB0_MAY_LACK"):
             os.environ.pop(name, None)
@@ -67,7 +68,8 @@ def whole(is_whole: bool) -> Iterator[None]:
 
 
 def counted(tests: Dict[str, harness.Test], lacks: Tuple[str, ...] = (), is_whole: bool = False, is_first: bool = False) -> Tuple[str, str, str]:
-    """Returns the counts of these tests, the output and the kept lines, on a machine that lacks some tools."""
+    """Runs these tests as if the tools in `lacks` were missing. Returns the counts, the output, and the lines written
+    to bin/results."""
     with tempfile.TemporaryDirectory() as room, whole(is_whole):
         results = os.path.join(room, "results")
         note(results, "")
@@ -78,7 +80,7 @@ def counted(tests: Dict[str, harness.Test], lacks: Tuple[str, ...] = (), is_whol
             return str(counts), said.getvalue(), file.read().strip()
 
 
-@test("again: a test that drives an editor and failed is run three more times at the end, and fails at two failures of four")
+@test("again: a failed editor test is run three more times at the end; it has failed if two of its four runs fail")
 def three_more_times() -> None:
     with tempfile.TemporaryDirectory() as room:
         path = os.path.join(room, "order")
@@ -102,22 +104,24 @@ def three_more_times() -> None:
     wanted = {"once": ("ok", "failed 1 of 4 times", "it failed 1 of 4 times; the last: once fails, time 1"), "never": ("ok",)}
     wanted["twice"] = ("FAILED", "failed 2 of 4 times", "it failed 2 of 4 times; the last: twice fails, time 4")
     wanted["last"] = ("ok",)
-    same(rows, wanted, "what is kept")
+    same(rows, wanted, "the lines of bin/results")
 
 
-@test("again: a test that drives no editor is not repeated, even if it needs a compiler, and one whose process is gone has failed")
+@test("again: a failed test that drives no editor isn't repeated; a test whose process exits has failed")
 def not_once_more() -> None:
     with tempfile.TemporaryDirectory() as room:
         path = os.path.join(room, "order")
-        tests = {"alone": lambda: alone(path, "alone"), "gone": lambda: gone(path, "gone")}
+        tests = {"plain": lambda: alone(path, "plain"), "gone": lambda: gone(path, "gone")}
         tools = {it: lambda it=it: alone(path, it, it) for it in ("cc", "mypy", "lintian", "mandoc")}
         counts, said, _ = counted({**tests, **tools})
-        same((counts, sorted(note(path, ""))), ("0 passed, 6 failed", ["alone", "cc", "gone", "lintian", "mandoc", "mypy"]), said)
-    lines = ["FAILED   gone", "    its process ended with 3", *(line for it in ("alone", *tools) for line in (f"FAILED   {it}", f"    {it} fails"))]
+        ran = ["cc", "gone", "lintian", "mandoc", "mypy", "plain"]
+        same((counts, sorted(note(path, ""))), ("0 passed, 6 failed", ran), said)
+    failed = (line for it in ("plain", *tools) for line in (f"FAILED   {it}", f"    {it} fails"))
+    lines = ["FAILED   gone", "    its process ended with 3", *failed]
     same(sorted(said.splitlines()), sorted(lines), "the output")
 
 
-@test("again: in the whole test a test is left out for a missing editor or desktop tool only, by name, and is counted")
+@test("again: `make test` skips tests only for missing editors or desktop tools, and lists and counts them")
 def left_out() -> None:
     def no_program() -> None:
         raise FileNotFoundError(2, "No such file", harness.BINARY)
@@ -147,7 +151,7 @@ def left_out() -> None:
             same([it for it in lacks if editors.may_lack(it)], lacking, f"what may lack with {listed!r}")
 
 
-@test("again: before there is a program the tests that run it wait, and are run later")
+@test("again: `--first` puts off the tests that need the program, and `--rest` runs the tests without a result")
 def first_and_rest() -> None:
     def runs() -> None:
         with mock.patch.object(harness, "BINARY", "/no/such/program"):
@@ -162,7 +166,7 @@ def first_and_rest() -> None:
             same(run.chosen_by(["--rest"]), [1, 3], "those that are left")
 
 
-@test("again: a run of no test fails")
+@test("again: tests/run.py fails if no test's name contains one of the words")
 def none_at_all() -> None:
     words = [sys.executable, os.path.join(harness.TOP, "tests", "run.py"), "no test has these words"]
     found = subprocess.run(words, stdout=subprocess.PIPE, stderr=subprocess.DEVNULL, check=False)
@@ -183,12 +187,12 @@ if os.fork() == 0:
 
 
 def leaves_a_child(path: str) -> None:
-    """A test that starts a process whose parent ends, and waits."""
+    """Starts a process that outlives its parent, and then waits ten minutes."""
     subprocess.run([sys.executable, "-c", LEAVES, path], check=True)
     time.sleep(600)
 
 
-@test("again: a test that takes too long is ended with everything that it started, and no test starts when the time for all is over")
+@test("again: a test over its time limit is killed with its child processes; over the limit for all no test starts")
 def ended_in_time() -> None:
     with tempfile.TemporaryDirectory() as room:
         path = os.path.join(room, "child")
@@ -207,7 +211,7 @@ def ended_in_time() -> None:
     same((counts, "it wasn't run: 0 minutes for all tests were over" in said), ("0 passed, 1 failed", True), said)
 
 
-@test("again: what a test has started ends with it, also when the test has ended well")
+@test("again: when a test ends, its child processes are ended, even if it passed")
 def ends_with_it() -> None:
     with tempfile.TemporaryDirectory() as room:
         path = os.path.join(room, "child")
@@ -222,7 +226,7 @@ def ends_with_it() -> None:
         holds(int(harness.text_of(path)) not in processes.parents(), "its process still runs")
 
 
-@test("again: a failed comparison shows where two texts or lists differ first")
+@test("again: a failed comparison shows the first difference between two texts or lists")
 def differing() -> None:
     long = "x" * 1000
     for got, wanted, said in (
@@ -240,7 +244,7 @@ def differing() -> None:
             raise Failed(f"{got!r:.60} and {wanted!r:.60} are the same")
 
 
-@test("again: a run that is interrupted, or ended by a signal, ends its tests")
+@test("again: if a run is interrupted or ended by a signal, its tests and their child processes are ended")
 def interrupted() -> None:
     parent = os.getpid()
 
@@ -261,5 +265,5 @@ def interrupted() -> None:
             except (KeyboardInterrupt, SystemExit):
                 pass
             else:
-                raise Failed("the run went on")
+                raise Failed("the run didn't end")
             holds(int(harness.text_of(path)) not in processes.parents(), "a process still runs")

@@ -1,8 +1,7 @@
-"""A build that is ended, or that meets a crate that isn't proved: nothing goes on beside it, and what was proved is kept. A command of
-the tests' own stands in for `rt`."""
+"""Tests builds that a signal ends and builds in which a proof fails, with a stand-in for `rt`: no process survives, and
+finished proofs are kept."""
 from __future__ import annotations
 
-import contextlib
 import os
 import signal
 import subprocess
@@ -10,10 +9,11 @@ import sys
 import time
 from typing import Any
 
-from harness import TOP, holds, same, test, text_of
+import processes
+from harness import TOP, holds, is_running, same, test, text_of, wait_until
 from homes import copy, temporary, write
 
-# what proves a crate: a process with one below it, as `rt` has its provers, for as long as it isn't ended
+# stands in for `rt`: a process with a child, as `rt` has its provers, which runs until it is ended
 PROVER = """#!/bin/sh
 [ "$1" = version ] && { echo a kit; exit; }
 echo kept > out/kept
@@ -24,35 +24,28 @@ wait
 """
 
 
-def is_running(process: int) -> bool:
-    """Whether a process runs; one that ended and that nobody has waited for doesn't."""
-    try:
-        return text_of(f"/proc/{process}/stat").rpartition(")")[2].split()[0] != "Z"
-    except OSError:
-        return False
 
-
-def waits(seconds: float, holds_now: Any, what: str) -> None:
-    end = time.monotonic() + seconds
-    while not holds_now():
-        holds(time.monotonic() < end, f"waited in vain for {what}")
-        time.sleep(0.05)
+def furnish(room: str, crates: str, rt: str) -> dict[str, str]:
+    """Fills a folder with a copy of tools/, the crates that `crates` lists, with empty sources, and the script `rt` in
+    place of the prover. Returns an environment in which PATH finds that script first."""
+    copy(os.path.join(TOP, "tools"), os.path.join(room, "tools"))
+    write(os.path.join(room, "crates.txt"), crates)
+    names = [line.partition(":")[0] for line in crates.splitlines()]
+    for it in ("HANDLES", *(f"crates/{name}/src/lib.rt" for name in names)):
+        write(os.path.join(room, it), "")
+    write(os.path.join(room, "path", "rt"), rt)
+    os.chmod(os.path.join(room, "path", "rt"), 0o755)
+    return {**os.environ, "PATH": f"{room}/path:{os.environ['PATH']}"}
 
 
 def is_ended_by(number: int, *, ignored: bool = False) -> None:
     with temporary() as room:
-        copy(os.path.join(TOP, "tools"), os.path.join(room, "tools"))
-        write(os.path.join(room, "crates.txt"), "low:\nob0: low\n")
-        for it in ("HANDLES", "crates/low/src/lib.rt", "crates/ob0/src/main.rt"):
-            write(os.path.join(room, it), "")
-        write(os.path.join(room, "path", "rt"), PROVER)
-        os.chmod(os.path.join(room, "path", "rt"), 0o755)
         pids = os.path.join(room, "pids")
-        own = {**os.environ, "PATH": f"{room}/path:{os.environ['PATH']}", "PIDS": pids}
+        own = {**furnish(room, "low:\nob0: low\n", PROVER), "PIDS": pids}
         ignore = (lambda: signal.signal(number, signal.SIG_IGN)) if ignored else None
         how: dict[str, Any] = {"cwd": room, "env": own, "stdin": subprocess.DEVNULL, "stdout": subprocess.DEVNULL}
         with subprocess.Popen([sys.executable, "-B", "tools/build.py"], preexec_fn=ignore, start_new_session=True, **how) as process:
-            waits(300, lambda: os.path.exists(pids), "the start of a prover")
+            wait_until(lambda: os.path.exists(pids), "no prover began", 300)
             running = [int(it) for it in text_of(pids).split()]
             try:
                 process.send_signal(number)
@@ -61,22 +54,20 @@ def is_ended_by(number: int, *, ignored: bool = False) -> None:
                     same([process.poll(), *map(is_running, running)], [None, True, True], "what runs, of a build that ignores the signal")
                     process.send_signal(signal.SIGTERM)
                 same(process.wait(300), 128 + (signal.SIGTERM if ignored else number), "the status")
-                waits(30, lambda: not any(map(is_running, running)), "the end of the provers")
+                wait_until(lambda: not any(map(is_running, running)), "the provers did not end")
             finally:
-                for process_id in running:
-                    with contextlib.suppress(ProcessLookupError):
-                        os.kill(process_id, signal.SIGKILL)
+                processes.end_descendants(os.getpid())
         holds(not os.path.exists(os.path.join(room, "bin", "rooms")), "rooms are left")
         same(text_of(room, "crates", "low", "out", "kept"), "kept\n", "what was proved")
 
 
-@test("build: ended by Ctrl-C, a cancelled job or a closed terminal it ends its provers, and keeps what was proved")
+@test("build: SIGINT, SIGTERM and SIGHUP end the build and its provers, and finished proofs are kept")
 def ended() -> None:
     for number in (signal.SIGINT, signal.SIGTERM, signal.SIGHUP):
         is_ended_by(number)
 
 
-@test("build: it continues after its terminal is closed if that signal is ignored, as `nohup` does")
+@test("build: if SIGHUP is ignored, as under `nohup`, a build continues after its terminal is closed")
 def ignored() -> None:
     is_ended_by(signal.SIGHUP, ignored=True)
 
@@ -91,16 +82,10 @@ echo "crate $name: modules loaded=0 checked=1"
 """
 
 
-@test("build: `make check` continues with the crates that don't rest on one that isn't proved, and names that; a build ends there")
+@test("build: if a proof fails, `make check` reports it and checks all independent crates; a build stops")
 def others_are_proved() -> None:
     with temporary() as room:
-        copy(os.path.join(TOP, "tools"), os.path.join(room, "tools"))
-        write(os.path.join(room, "crates.txt"), "bad:\nlow:\nmiddle: low\nover: bad\nob0: over middle\n")
-        for it in ("HANDLES", *(f"crates/{it}/src/lib.rt" for it in ("bad", "low", "middle", "over", "ob0"))):
-            write(os.path.join(room, it), "")
-        write(os.path.join(room, "path", "rt"), JUDGE)
-        os.chmod(os.path.join(room, "path", "rt"), 0o755)
-        own = {**os.environ, "PATH": f"{room}/path:{os.environ['PATH']}"}
+        own = furnish(room, "bad:\nlow:\nmiddle: low\nover: bad\nob0: over middle\n", JUDGE)
         how: dict[str, Any] = {"cwd": room, "env": own, "stdin": subprocess.DEVNULL, "stdout": subprocess.PIPE, "stderr": subprocess.STDOUT, "text": True}
         check = subprocess.run([sys.executable, "-B", "tools/build.py", "--check"], timeout=300, check=False, **how)
         same(check.returncode, 1, f"the status of a check that said\n{check.stdout}")

@@ -1,4 +1,4 @@
-"""Changes with a range, in both units: what the server holds is what the editor has."""
+"""Tests changes of a range, in UTF-16 and UTF-8 units: the server's text remains equal to the editor's."""
 from __future__ import annotations
 
 import random
@@ -15,13 +15,13 @@ def units(text: str, utf8: bool) -> int:
 
 
 class Edited:
-    """A text as an editor holds it. Places are counted in characters."""
+    """A text in an editor. Offsets are counted in characters."""
 
     def __init__(self, text: str, utf8: bool = False) -> None:
         self.text, self.utf8 = text, utf8
 
     def starts(self) -> list[int]:
-        """Returns the starts of the lines."""
+        """Returns the offset at which each line starts."""
         found, at = [0], 0
         while at < len(self.text):
             ending = next((it for it in ENDS if self.text.startswith(it, at)), "")
@@ -31,20 +31,21 @@ class Edited:
         return found
 
     def position(self, at: int) -> Message:
-        """The position of a place that is not between CR and LF."""
+        """Returns the LSP position of an offset, which must not be between CR and LF."""
         starts = self.starts()
         line = max(count for count, start in enumerate(starts) if start <= at)
         return {"line": line, "character": units(self.text[starts[line] : at], self.utf8)}
 
     def change(self, start: int, end: int, new: str) -> Message:
-        """Replaces, and gives the change."""
+        """Replaces the text from `start` to `end`, and returns the change as a notification contains it."""
         found = {"range": {"start": self.position(start), "end": self.position(end)}, "text": new}
         self.text = self.text[:start] + new + self.text[end:]
         return found
 
 
 def faults(edited: Edited) -> list[Message]:
-    """Returns the faults of a text of white space, letters, closed comments, and bad characters `$`, `é` and `😀`."""
+    """Returns the diagnostics that the server should report about bad characters, at most 100. Besides the bad
+    characters `$`, `é` and `😀` the text may contain white space, letters and closed comments."""
     found, depth, at, text = [], 0, 0, edited.text
     while at < len(text):
         pair = text[at : at + 2]
@@ -64,12 +65,13 @@ def is_between(text: str, at: int) -> bool:
 
 
 def scanned(diagnostics: list[Message]) -> list[Message]:
-    """Returns the faults of scanning among these diagnostics."""
+    """Returns the diagnostics that are about bad characters."""
     return [it for it in diagnostics if it["code"] == "BadChar"]
 
 
 def session(seed: int, utf8: bool, steps: int) -> None:
-    """Plays a random editing session; after each step the diagnostics show the place of each bad character in the server's text."""
+    """Sends notifications with random changes. After each one the server must report the bad characters at their
+    positions in the editor's text."""
     chance = random.Random(seed)
     offer: Message = {"capabilities": {"general": {"positionEncodings": ["utf-8", "utf-16"] if utf8 else ["utf-16"]}}}
     edited = Edited("$ a\r\n$ (* 😀 *) b\r$\n", utf8)
@@ -97,18 +99,19 @@ def session(seed: int, utf8: bool, steps: int) -> None:
         same(server.end(), 0, "the status")
 
 
-@test("changes: 1,000 random changes in UTF-16 units, with CR, CR LF and characters above U+FFFF")
+@test("changes: after each of 1,000 random steps in UTF-16 units the server has the editor's text")
 def utf16() -> None:
     session(1, False, 1000)
 
 
-@test("changes: 1,000 random changes in UTF-8 units")
+@test("changes: after each of 1,000 random steps in UTF-8 units the server has the editor's text")
 def utf8_units() -> None:
     session(2, True, 1000)
 
 
 def changed(text: str, *changes: tuple[str | None, str], encodings: list[Any] | str | None = None) -> list[Message]:
-    """Returns the diagnostics of an open text after these changes, pairs of a range and a new text."""
+    """Opens a text, makes these changes in one notification, and returns the diagnostics about bad characters. Each
+    change is a range, or None for the whole text, and the new text."""
     capabilities = {"general": {"positionEncodings": encodings}} if encodings else {}
     with Server(capabilities=capabilities) as server:
         server.notify(did_open(text))
@@ -117,14 +120,15 @@ def changed(text: str, *changes: tuple[str | None, str], encodings: list[Any] | 
 
 
 def at_end(text: str, *changes: tuple[str | None, str], encodings: list[Any] | str | None = None) -> Message:
-    """Returns the place of a bad character that is inserted at the end of the changed text."""
+    """Returns the position of the end of the changed text in the server. A bad character is inserted there, and its
+    diagnostic has the position."""
     end = ("18446744073709551615:0-18446744073709551615:0", "$")
     found = changed(text, *changes, end, encodings=encodings)
     start: Message = found[-1]["range"]["start"]
     return start
 
 
-@test("changes: lines and units")
+@test("changes: ranges over line ends and surrogate pairs are applied at the right positions")
 def lines() -> None:
     same(at_end("(* 😀 *) x := 1;"), place(0, 16), "units of UTF-16")
     same(at_end("(* 😀 *) x := 1;", ("0:9-0:10", "yz")), place(0, 17), "a name replaced after a pair")
@@ -137,7 +141,7 @@ def lines() -> None:
     same(at_end("ab", ("0:0-0:1", ""), (None, "xyz"), ("0:1-0:2", "")), place(0, 2), "a whole text between ranges")
 
 
-@test("changes: places in a text show by a bad character")
+@test("changes: a bad character is reported at the position of its insertion, and not at all in a comment")
 def places() -> None:
     bad: Callable[[str], list[Message]] = lambda where: [diagnostic("BadChar", "bad character", where)]
     same(changed("(* 😀 *) x", ("0:9-0:9", "$")), bad("0:9-0:10"), "after a pair")
@@ -149,7 +153,7 @@ def places() -> None:
 WITH_PAIR = "(* 😀 *) x := 1;"
 
 
-@test("changes: a place inside a character moves back before it, in both units")
+@test("changes: a position inside a character counts as the position before it, in both units")
 def inside() -> None:
     wanted = [diagnostic("BadChar", "bad character", "0:5-0:6")]
     for encodings, places in ((["utf-16"], [3, 4]), (["utf-8"], [3, 4, 5, 6])):
@@ -159,7 +163,7 @@ def inside() -> None:
             same(found, wanted, f"0:{at} in {encodings[0]}")
 
 
-@test("changes: a place after a line's end is that end, and one after the last line is the text's end")
+@test("changes: a position after a line's end means the line's end, and one after the last line the text's end")
 def past_the_end() -> None:
     bad: Callable[[str], list[Message]] = lambda where: [diagnostic("BadChar", "bad character", where)]
     same(changed(WITH_PAIR, ("0:99-0:99", "$")), bad("0:16-0:17"), "0:99, of one line")
@@ -171,7 +175,7 @@ def past_the_end() -> None:
         same(changed(text, ("7:0-7:0", "$")), bad("2:1-2:2"), f"7:0 after {ending!r}")
 
 
-@test("changes: places after a line's end and after the last line, in UTF-8 units")
+@test("changes: in UTF-8 units, positions after the only line's end and on later lines mean the text's end")
 def behind_utf8() -> None:
     bad = [diagnostic("BadChar", "bad character", "0:18-0:19")]
     for where in ("0:99-0:99", "7:0-7:0"):
@@ -179,12 +183,13 @@ def behind_utf8() -> None:
 
 
 def all_at_once(text: str, *changes: tuple[str, str]) -> list[str]:
-    """Returns what is published of a text, and of what these changes in one notification make of it, which are all ranged."""
+    """Returns the publications for a text when it is opened, and after one notification with these changes of a
+    range."""
     given = [{"range": extent(where), "text": new} for where, new in changes]
     return serve([initialize(), did_open(text), did_change(given, version=2)]).contents()[1:]
 
 
-@test("changes: several in one notification are published once, with its version")
+@test("changes: several changes in one notification lead to one publication, with the notification's version")
 def one_notification() -> None:
     def bad(*places: str) -> list[Message]:
         return [diagnostic("BadChar", "bad character", it) for it in places]
@@ -198,7 +203,7 @@ def one_notification() -> None:
     same(all_at_once("$", ("0:0-0:0", "\r\n"), ("1:0-1:0", "\r"))[1], published(bad("2:0-2:1"), version=2), "two changes")
 
 
-@test("changes: ranges, each of the text that the one before made; one that can't be read; the whole text")
+@test("changes: each range refers to the result of the previous change; after a malformed one the full text is needed")
 def one_after_another() -> None:
     module = "MODULE M; END M."
     given = [
@@ -211,7 +216,7 @@ def one_after_another() -> None:
     same(serve([initialize(), *given]).contents()[1:], [published([]), bad, published([], version=4)])
 
 
-@test("changes: units of UTF-8")
+@test("changes: columns are in UTF-8 bytes if the client offers utf-8, and in UTF-16 units otherwise")
 def utf8_lines() -> None:
     both = ["utf-8", "utf-16"]
     text = "(* 😀 *) x := 1;"
@@ -221,7 +226,7 @@ def utf8_lines() -> None:
     same(at_end(text, ("0:5-0:5", "!"), encodings=both), place(0, 19), "inside a character: before it")
 
 
-@test("changes: utf-8 is announced if it is offered, and UTF-16 is used otherwise")
+@test("changes: the server announces utf-8 only if the client's list contains it")
 def announced() -> None:
     for encodings, wanted in ((["utf-8"], True), ([7, "utf-8"], True), (["utf-16"], False), ([], False), ("utf-8", False)):
         with Server(capabilities={"general": {"positionEncodings": encodings}}) as server:
@@ -229,7 +234,7 @@ def announced() -> None:
         same(found.get("positionEncoding"), "utf-8" if wanted else None, repr(encodings))
 
 
-@test("changes: params that can't be read, and a document out of step")
+@test("changes: after malformed params a document ignores changes of a range until its full text is sent")
 def broken() -> None:
     module = "MODULE M; END M."
     with Server() as server:
@@ -251,7 +256,7 @@ def broken() -> None:
             same(server.notify(did_change(module, version=10 * at + 2)), [], f"after {change}")
 
 
-@test("changes: a text of many lines is edited near its end")
+@test("changes: in a text of 20,000 lines edits near the end are applied at the right line")
 def long_text() -> None:
     lines = [f"(* line {at} *)" for at in range(20000)]
     with Server() as server:

@@ -1,4 +1,5 @@
-"""`ob0 check` and the diagnostics of scopes and types: one example for each code, sizes, files that can't be read."""
+"""Tests `ob0 check` and the diagnostics about scopes and types: examples of each code, limits of size, and files that
+can't be read."""
 from __future__ import annotations
 
 import os
@@ -29,12 +30,12 @@ LONG_TOLD = """1:10: ConstFault: constant has a fault
 """
 
 
-@test("check: a module with ten faults, byte by byte")
+@test("check: the ten errors of a module are printed as expected, byte by byte")
 def ten_faults() -> None:
     ends(on_file("check", LONG), LONG_TOLD, 1)
 
 
-@test("check: two array types of one form are two types")
+@test("check: two separately written array types are different types, even with equal lengths and elements")
 def arrays() -> None:
     ends(
         on_file("check", "MODULE M; VAR a: ARRAY 3 OF INTEGER; b: ARRAY 3 OF INTEGER; BEGIN a := b END M."),
@@ -46,13 +47,13 @@ def arrays() -> None:
 
 
 def chain(count: int) -> str:
-    """Types, each an array of one of the type before."""
+    """Returns a module with `count` types, each an array of length 1 whose elements have the previous type."""
     names = ["INTEGER", *(f"A{at}" for at in range(1, count + 1))]
     types = "".join(f"\n{name} = ARRAY 1 OF {before};" for before, name in zip(names, names[1:]))
     return f"MODULE M; TYPE{types}\nEND M."
 
 
-@test("check: sizes of types")
+@test("check: types up to the limits of size, length and nesting are accepted, and larger ones reported")
 def sizes() -> None:
     of: Callable[[str], Ended] = lambda text: on_file("check", f"MODULE M; VAR a: {text}; END M.")
     ends(of("ARRAY 256 OF ARRAY 256 OF INTEGER"), "", 0)
@@ -142,7 +143,7 @@ EXAMPLES = [
 ]
 
 
-@test("check: each code of scopes and types, with its ranges, through `serve`")
+@test("check: `serve` reports the expected code and range for each example of a scope or type error")
 def examples() -> None:
     with Server() as server:
         for text, *codes in EXAMPLES:
@@ -150,7 +151,7 @@ def examples() -> None:
             same(server.notify(did_open(plain)), wanted, text)
 
 
-@test("check: each code of scopes and types, through `check`")
+@test("check: `check` prints the expected line for each example of a scope or type error")
 def examples_checked() -> None:
     for text, *codes in EXAMPLES:
         plain, wanted = marked(text, *codes)
@@ -158,7 +159,7 @@ def examples_checked() -> None:
         ends(on_file("check", plain), "".join(lines), 1 if lines else 0)
 
 
-@test("check: the first 100 faults")
+@test("check: of 1,000 errors the first 100 are reported")
 def hundred() -> None:
     with Server() as server:
         text = "MODULE M; BEGIN" + " x;" * 1000 + " END M."
@@ -166,7 +167,7 @@ def hundred() -> None:
     same([it["range"]["start"]["character"] for it in found], [16 + 3 * at for at in range(100)], "where")
 
 
-@test("check: parameters that are assigned, and bodies that see their own name")
+@test("check: assigned parameters, recursive calls, type aliases and equal field names are no errors")
 def well_typed() -> None:
     texts = [
         "MODULE M; VAR r: RECORD a: INTEGER END; s: RECORD a: BOOLEAN END; BEGIN r.a := 1; s.a := TRUE END M.",
@@ -178,7 +179,7 @@ def well_typed() -> None:
         ends(on_file("check", text), "", 0)
 
 
-@test("check: a comment that isn't closed, and numbers that are too large")
+@test("check: open comments, too large numbers and bad characters are reported at their positions")
 def scanning() -> None:
     ends(on_file("check", "12ab $"), "0:0: NumberJoinsLetter: letter after number\n0:5: BadChar: bad character\n", 1)
     ends(on_file("check", "MODULE M;\n(* 😀 *) $"), "1:9: BadChar: bad character\n", 1)
@@ -191,7 +192,7 @@ def scanning() -> None:
     )
 
 
-@test("check: scanning and syntax are reported first")
+@test("check: if a text has lexical or syntax errors, no other errors are reported")
 def earlier() -> None:
     ends(on_file("check", "MODULE M; BEGIN x := 1a END M."), "0:21: NumberJoinsLetter: letter after number\n", 1)
     ends(on_file("check", "MODULE M; BEGIN x = 1 END M."), "0:18: Syntax: expected END\n", 1)
@@ -200,7 +201,7 @@ def earlier() -> None:
     ends(on_file("check", deep), "0:137: TooDeep: nested too deep\n", 1)
 
 
-@test("check: files that can't be taken")
+@test("check: missing files, files that aren't UTF-8 and too long files are reported, with the right status")
 def files() -> None:
     good = "MODULE M; VAR x: INTEGER; END M."
     too_long = "0:0: TooLong: text too long\n"
@@ -215,14 +216,14 @@ def files() -> None:
     ends(on_file("check", good, name="a b é.mod"), "", 0)
 
 
-@test("check: command lines that are refused")
+@test("check: a command line without a file, with two files or with an unknown option is refused with status 2")
 def lines() -> None:
     for words in (["check"], ["check", "a", "b"], ["check", "--x", "a"]):
         found = run(words)
         same((found.out, bool(found.err), found.status), (b"", True, 2), " ".join(words))
 
 
-@test("check: a device that is full is a fault of writing")
+@test("check: writing to a full device ends with `fault: Write` and status 4")
 def full() -> None:
     with tempfile.TemporaryDirectory() as room:
         file = os.path.join(room, "m.mod")

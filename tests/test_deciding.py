@@ -1,4 +1,5 @@
-"""Decisions of the scripts that `make test` doesn't run: tools/editors_of.py, faults.py, roots.py, try_cases.py; and editors.py."""
+"""Tests when scripts of tools/ fail, and what they count. `make test` doesn't run editors_of.py, faults.py, roots.py
+and try_cases.py; editors.py is also tested, with stand-ins for the package manager."""
 from __future__ import annotations
 
 import contextlib
@@ -15,12 +16,13 @@ from homes import temporary, write
 
 
 def tool(name: str) -> Any:
-    """Imports a script of tools/. (It may import tests, so this happens after all of these are loaded.)"""
+    """Imports a script of tools/. A test does this when it runs, because the script may import tests, which must be
+    loaded before."""
     return importlib.import_module(name)
 
 
 def printed(function: Callable[[], object]) -> Tuple[object, List[str]]:
-    """Returns what a function returns, or the status that it ends the script with, and the lines that it prints."""
+    """Calls a function. Returns its result, or the status if it exits the script, and the lines that it prints."""
     with contextlib.redirect_stdout(io.StringIO()) as said, contextlib.redirect_stderr(said):
         try:
             found = function()
@@ -36,7 +38,7 @@ def raises(why: Exception) -> Callable[[], str]:
     return fails
 
 
-@test("deciding: make faults counts what passes, fails and is left out, and fails if a word names nothing")
+@test("deciding: `make faults` counts passed, failed and skipped cases, and fails if a word matches no case")
 def faults_count() -> None:
     faults = tool("faults")
     rows: List[Tuple[str, Callable[[], str]]] = [
@@ -57,7 +59,7 @@ def faults_count() -> None:
             same((found, said[-1]), (status, last), f"with {words}")
 
 
-@test("deciding: make try fails if a test fails or none is run, and lists the tests that are left out")
+@test("deciding: `make try` fails if a test fails or no test is run, and lists the skipped tests")
 def tries_judged() -> None:
     try_cases = tool("try_cases")
     good: Tuple[str, harness.Test] = ("good", lambda: None)
@@ -76,7 +78,7 @@ def tries_judged() -> None:
         same("left out long: it needs a long file" in said, long in chosen, "the name of the test that is left out")
 
 
-@test("deciding: make try takes what `rt try` prints of each case, and a case that didn't end has no status")
+@test("deciding: `make try` assigns the output of `rt try` to its cases; a case that was stopped has no status")
 def tries_taken() -> None:
     try_cases = tool("try_cases")
     cases = try_cases.Cases()
@@ -91,7 +93,8 @@ def tries_taken() -> None:
 
 @contextlib.contextmanager
 def commands(scripts: Dict[str, str]) -> Iterator[str]:
-    """A folder, first on PATH, with these shell scripts; each may note its words in the file `called` of the folder."""
+    """Puts these shell scripts into a temporary folder, first on PATH, and yields the folder. In a script, ROOM stands
+    for the folder."""
     with temporary() as room:
         for name, text in scripts.items():
             write(os.path.join(room, name), "#!/bin/sh\n" + text.replace("ROOM", room))
@@ -111,7 +114,7 @@ esac
 """
 
 
-@test("deciding: make editors RELEASE=.. ends with the status of the tests, says the versions, and stops if the root can't be made")
+@test("deciding: `make editors RELEASE=..` fails if a test fails or the root can't be made, and prints the versions")
 def editors_of_release() -> None:
     editors_of = tool("editors_of")
     for made, python, tests, status in ((0, 0, 0, 0), (0, 0, 1, 1), (0, 1, 0, 1), (1, 0, 0, 1)):
@@ -130,7 +133,7 @@ def editors_of_release() -> None:
         same(printed(lambda: editors_of.main("sid"))[0], 2, "the status for a user who isn't root")
 
 
-@test("deciding: a root that changed in a path, a mode or a byte stops the trial of packages; files that a system keeps for itself don't")
+@test("deciding: the trial of packages stops if a path, mode, link or byte of the root changed; logs may change")
 def roots_compared() -> None:
     roots = tool("roots")
     changes: Dict[str, Tuple[Callable[[str], object], bool]] = {
@@ -156,7 +159,7 @@ def roots_compared() -> None:
     same(roots.ran(["sh", "-c", "echo well"]), "well\n", "what a command prints")
 
 
-@test("deciding: make editors installs what it can, each package by itself if need be, and stops after a quarter of an hour")
+@test("deciding: `make editors` installs packages one at a time if installing all fails, and stops after 15 minutes")
 def installing() -> None:
     apt = """echo "$5 $6 $7 $8 $9" >> 'ROOM/called'
 case "$*" in *bad*) exit 1 ;; esac

@@ -1,4 +1,4 @@
-"""The program runs out of memory, or a reader or writer fails, at each byte of the first conversation."""
+"""Tests what the program does if memory runs out, or if a read or a write fails at any byte."""
 from __future__ import annotations
 
 import os
@@ -20,13 +20,14 @@ TALK = [initialize(), did_open(corpus.module(200000)), did_change("$"), SHUTDOWN
 
 
 def limited(kilobytes: int) -> tuple[int, bytes, bytes]:
-    """The talk by a server whose addresses are limited to this many kilobytes."""
+    """Runs TALK with a server whose address space is limited to this many kilobytes. Returns its status, standard error
+    and output."""
     words = ["sh", "-c", f'ulimit -v {kilobytes}; exec "$@"', "sh", harness.BINARY, "serve"]
     ran = subprocess.run(words, input=frames(TALK), timeout=harness.SECONDS, capture_output=True, check=False)
     return ran.returncode, ran.stderr, ran.stdout
 
 
-@test("devices: where memory runs out, what was sent before is whole")
+@test("devices: if memory runs out, `serve` ends with status 5, and each message that it sent is whole")
 def memory() -> None:
     whole = serve(TALK)
     contents = whole.contents()
@@ -54,7 +55,7 @@ def ended(found: Ended, out: bytes, status: int, err: bytes, where: str) -> None
 SERVE = [harness.BINARY, "serve"]
 
 
-@test("devices: a reader that fails at each byte of the first conversation")
+@test("devices: if a read fails at any byte of a conversation, the messages before are answered, with status 4")
 def failing_reader() -> None:
     # (the exit ends with its last byte: the call after it is never made)
     for found in failing.walk(SERVE, INPUT, None, "reads", range(1, len(INPUT) + 1)):
@@ -64,7 +65,7 @@ def failing_reader() -> None:
     ended(failing.undisturbed(SERVE, INPUT, reads=len(INPUT) + 1), OUTPUT, 0, b"", "the call after the exit")
 
 
-@test("devices: a writer that takes one byte a call and fails, or takes none, after each byte of the first conversation")
+@test("devices: if a write fails or writes nothing after any byte of a conversation, `serve` ends with status 4")
 def failing_writer() -> None:
     for ending in ("", ".."):
         for found in failing.walk(SERVE, INPUT, None, "writes", range(len(OUTPUT)), ending):
@@ -73,7 +74,7 @@ def failing_writer() -> None:
         ended(failing.undisturbed(SERVE, INPUT, writes=f"{len(OUTPUT)}{ending}"), OUTPUT, 0, b"", "room for all")
 
 
-@test("devices: a writer that fails after each byte that a command prints")
+@test("devices: if a write fails after any byte of a command's output, the command ends with status 4")
 def failing_printer() -> None:
     for name, status in (("check a text with two faults", 1), ("run a module", 0), ("rename a variable", 0)):
         words, given, text, _ = conversations.SHORT[name]
@@ -98,14 +99,14 @@ def short_calls() -> None:
     holds(any(counts), "nothing of several bytes was read or written")
 
 
-@test("devices: pieces of 8,192 bytes are read")
+@test("devices: `serve` reads its input in pieces of 8,192 bytes")
 def pieces() -> None:
     given = frame(b"[" + b" " * 99998 + b"]")
     # (a piece a call, the call that finds the end, and the two that write the answer: its head and its content)
     same(failing.undisturbed(SERVE, given).calls["calls"], -(-len(given) // 8192) + 3, "the reads and writes of a message of 100,000 bytes")
 
 
-@test("devices: an input that fails at each byte of what a run reads")
+@test("devices: if a read of its input fails at any byte, `run` ends with `fault: Input`")
 def failing_input() -> None:
     words, _, text, _ = conversations.SHORT["run a module"]
     with failing.folder_with_module(text) as room:
@@ -113,7 +114,7 @@ def failing_input() -> None:
             ended(found, b"", 4, b"fault: Input\n", f"call {found.numbers[0]} fails")
 
 
-@test("devices: a file that fails at each byte of the module in it")
+@test("devices: if a read of the module's file fails at any byte, a command ends with `fault: File`")
 def failing_file() -> None:
     text = "MODULE M; END M."
     for words in (["check", "m.mod"], ["run", "m.mod"], ["rename", "m.mod", "0", "7", "x"]):
@@ -122,7 +123,7 @@ def failing_file() -> None:
                 ended(found, b"", 4, b"fault: File\n", f"{words[0]}: call {found.numbers[0]} fails")
 
 
-@test("devices: a folder instead of an input")
+@test("devices: with a folder as standard input, `serve` ends with `fault: Read`")
 def reader() -> None:
     folder = os.open("/", os.O_RDONLY)
     try:
@@ -133,7 +134,7 @@ def reader() -> None:
     same((ran.stdout, ran.stderr, ran.returncode), (b"", b"fault: Read\n", 4))
 
 
-@test("devices: a writer that is full")
+@test("devices: with a full device as output, `serve` ends with `fault: Write`")
 def writer() -> None:
     with open("/dev/full", "wb") as device:
         how: dict[str, Any] = {"stdout": device, "stderr": subprocess.PIPE, "timeout": harness.SECONDS, "check": False}
@@ -141,7 +142,7 @@ def writer() -> None:
     same((ran.stderr, ran.returncode), (b"fault: Write\n", 4))
 
 
-@test("devices: a limit on the size of files, whose signal ends the program where nobody ignores it")
+@test("devices: at the limit on file sizes SIGXFSZ ends `serve`; if it is ignored, `serve` ends with `fault: Write`")
 def limit_of_files() -> None:
     for handler, wanted in ((signal.SIG_DFL, (b"", -signal.SIGXFSZ)), (signal.SIG_IGN, (b"fault: Write\n", 4))):
 

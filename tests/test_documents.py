@@ -1,4 +1,5 @@
-"""Documents and what is published of them: opens, changes, closes, versions, faults of scanning."""
+"""Tests what the server publishes when documents are opened, changed and closed, with their versions and lexical
+errors."""
 from __future__ import annotations
 
 import json
@@ -13,20 +14,21 @@ LIMIT = 1048576
 
 
 def of(text: str, **named: Any) -> list[Message]:
-    """Returns what is published when a text is opened."""
+    """Opens a text, and returns the diagnostics that are published."""
     with Server() as server:
         return server.notify(did_open(text, **named))
 
 
 def talk(*contents: Content) -> list[str]:
-    """Returns what is sent after the first answer."""
+    """Sends `initialize` and these messages, and ends the input. Returns the server's messages after its first
+    answer."""
     found = serve([initialize(), *contents])
     same((found.err, found.status), (b"", 1), "the end")
     same(found.contents()[0], FIRST, "the first answer")
     return found.contents()[1:]
 
 
-@test("documents: `12ab $`, byte by byte")
+@test("documents: the diagnostics of `12ab $` are published as expected, byte by byte")
 def two_faults() -> None:
     found = serve([initialize(), did_open("12ab $")])
     wanted = (
@@ -65,14 +67,14 @@ FAULTS = {
 }
 
 
-@test("documents: faults of scanning, with their ranges in UTF-16 units")
+@test("documents: each lexical error is published with its range in UTF-16 units")
 def faults() -> None:
     with Server() as server:
         for version, (text, wanted) in enumerate(FAULTS.items()):
             same(server.notify(did_open(text, version=version)), wanted, repr(text))
 
 
-@test("documents: texts that scan well")
+@test("documents: valid modules with nested comments, tabs and large numbers have no diagnostics")
 def good() -> None:
     texts = [
         MODULE,
@@ -86,7 +88,7 @@ def good() -> None:
             same(server.notify(did_open(text)), [], text)
 
 
-@test("documents: the first 100 faults are reported")
+@test("documents: of 1,001 errors the first 100 are published")
 def many_faults() -> None:
     same(len(of("$" * 100)), 100, "of 100 faults")
     found = of("$" * 1000 + "(*")
@@ -103,24 +105,24 @@ def lengths() -> None:
         same(server.notify(did_open("é" * (LIMIT // 2 + 1))), too_long, "over the limit in bytes, but not in characters")
 
 
-@test("documents: a change of the whole text")
+@test("documents: after a change of the whole text its diagnostics are published, with the change's version")
 def whole() -> None:
     found = talk(did_open("$"), did_change(MODULE, version=7), did_change("$", version=-8))
     bad = diagnostic("BadChar", "bad character", "0:0-0:1")
     same(found, [published([bad]), published([], version=7), published([bad], version=-8)])
 
 
-@test("documents: of two changes in one notification the last one counts")
+@test("documents: if a notification has two changes of the whole text, the last one counts")
 def two_changes() -> None:
     same(talk(did_open("$"), did_change([{"text": "$$"}, {"text": MODULE}]))[1:], [published([], version=2)])
 
 
-@test("documents: an empty list of changes sets the version")
+@test("documents: an empty list of changes sets the version and keeps the text")
 def no_change() -> None:
     same(talk(did_open("$"), did_change([], version=5))[1:], [published([diagnostic("BadChar", "bad character", "0:0-0:1")], version=5)])
 
 
-@test("documents: params that can't be read put a document out of step, until a whole text comes")
+@test("documents: after malformed params a document has no publications until its full text is sent")
 def out_of_step() -> None:
     broken = notice("textDocument/didChange", {"textDocument": {"uri": "file:///m", "version": 2}})
     skipped = did_change([{"range": extent("0:0-0:1"), "text": ""}], version=3)
@@ -128,7 +130,7 @@ def out_of_step() -> None:
     same(found[1:], [published([], version=5)])
 
 
-@test("documents: a change with half a surrogate pair isn't JSON, and changes nothing")
+@test("documents: a change with half a surrogate pair is answered with `not JSON`, and changes nothing")
 def half_a_pair() -> None:
     halves = [json.dumps(did_change(text, version=2)) for text in ("\ud83d", "\ude00", "\ude00\ud83d", "$\ud83dx")]
     whole = json.dumps(did_change("$\ud83d\ude00", version=4))
@@ -137,13 +139,13 @@ def half_a_pair() -> None:
     same(found[1:], [error(None, -32700, "not JSON")] * len(halves) + [published(bad[:2], version=3), published([bad[0], bad[2]], version=4)])
 
 
-@test("documents: an open that can't be read, of an open document, puts it out of step")
+@test("documents: a malformed didOpen of an open document puts it out of step until it is opened again")
 def broken_open() -> None:
     broken = notice("textDocument/didOpen", {"textDocument": {"uri": "file:///m", "version": 2}})
     same(talk(did_open("$"), broken, did_change([], version=3), did_open(MODULE, version=4))[1:], [published([], version=4)])
 
 
-@test("documents: versions are whole numbers of 64 bits")
+@test("documents: versions are signed 64-bit integers; an open with any other version publishes nothing")
 def versions() -> None:
     with Server() as server:
         for version in (-9223372036854775808, 9223372036854775807, 0):
@@ -152,7 +154,7 @@ def versions() -> None:
         same(talk(did_open(MODULE, version=other)), [], f"version {other!r}")
 
 
-@test("documents: notes that do nothing")
+@test("documents: malformed or unknown notifications, and changes of unopened documents, have no effect")
 def nothing() -> None:
     notes = [
         did_change(MODULE),
@@ -170,7 +172,7 @@ def nothing() -> None:
 AT_START = {"position": place(0, 0), "textDocument": {"uri": "file:///m"}}
 
 
-@test("documents: one out of step sends nothing and refuses hover, until a whole text comes")
+@test("documents: for a document out of step no diagnostics are sent and hover is refused, until its full text is sent")
 def hover_out_of_step() -> None:
     broken = notice("textDocument/didChange", {"textDocument": {"uri": "file:///m", "version": 2}})
     hover = request(3, "textDocument/hover", AT_START)
@@ -180,32 +182,32 @@ def hover_out_of_step() -> None:
     same(found[1], '{"error":{"code":-32803,"message":"out of step"},"id":3,"jsonrpc":"2.0"}')
 
 
-@test("documents: hover of one that was never opened")
+@test("documents: hover in a document that was never opened is refused with `unopened`")
 def hover_unopened() -> None:
     hover = request("h", "textDocument/hover", AT_START)
     same(talk(hover), [error("h", -32803, "unopened")])
     same(talk(did_open(MODULE, uri="file:///n"), hover)[1:], [error("h", -32803, "unopened")], "next to another one")
 
 
-@test("documents: a close of one out of step takes the diagnostics back")
+@test("documents: closing a document that is out of step clears its diagnostics")
 def closed_out_of_step() -> None:
     broken = notice("textDocument/didChange", {"textDocument": {"uri": "file:///m", "version": 2}})
     found = talk(did_open("$"), broken, did_close(), did_close(), did_change(MODULE, version=3))
     same(found[1:], [published([], version=None)])
 
 
-@test("documents: a close takes the diagnostics back, once, and without a version")
+@test("documents: closing a document clears its diagnostics once, without a version")
 def closed() -> None:
     found = talk(did_open("$"), did_close(), did_close(), did_change("$"), did_open(MODULE, version=3))
     same(found[1:], [published([], version=None), published([], version=3)])
 
 
-@test("documents: an open one is opened again")
+@test("documents: opening an open document again replaces its text and diagnostics")
 def opened_anew() -> None:
     same(talk(did_open("$"), did_open(MODULE, version=1)), [published([diagnostic("BadChar", "bad character", "0:0-0:1")]), published([])])
 
 
-@test("documents: several at a time, by their uri as a text")
+@test("documents: several documents can be open at once; uris are compared as plain strings")
 def several() -> None:
     found = talk(
         did_open("$", uri="a"),
@@ -227,12 +229,12 @@ def several() -> None:
     )
 
 
-@test("documents: a null member of a change counts as absent")
+@test("documents: a change with `range: null` replaces the whole text")
 def null_range() -> None:
     same(talk(did_open("$"), did_change([{"range": None, "text": MODULE}]))[1:], [published([], version=2)])
 
 
-@test("documents: a long conversation keeps each document")
+@test("documents: over 200 notifications about seven documents the texts stay separate")
 def long_talk() -> None:
     with Server() as server:
         for number in range(200):
@@ -243,7 +245,7 @@ def long_talk() -> None:
         same(server.end(), 0, "the status")
 
 
-@test("documents: questions of a document that isn't open, or is out of step")
+@test("documents: definition is refused in a document that isn't open or is out of step")
 def refused_questions() -> None:
     where = {"position": {"character": 0, "line": 0}, "textDocument": {"uri": "file:///m"}}
     broken = notice("textDocument/didChange", {"textDocument": {"uri": "file:///m", "version": 2}})

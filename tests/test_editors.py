@@ -1,9 +1,9 @@
-"""Real editors without a screen, each set up by the commands and lines of its page in editors/.
+"""Drives real editors without a screen. Each is set up by the commands and lines of its page in editors/.
 
 Neovim is driven by its own client, Emacs by eglot and by lsp-mode, Vim by ALE and by YouCompleteMe, Kate by its plugin (on a screen
 that nobody sees). Kakoune, which has no client, is in test_syntax_files.py.
 
-A test of an editor that is missing is left out, by name; `make editors` installs what Debian has."""
+If an editor is missing, its tests are skipped and listed; `make editors` installs the editors that Debian has."""
 from __future__ import annotations
 
 import functools
@@ -32,7 +32,7 @@ from modules import CALLS, FAULTY, LEAST, NESTED, RECORDS, WRITES_A_GLOBAL
 from snippets import snippets
 
 T = TypeVar("T")
-Steps = List[Tuple[str, Any]]  # pairs of a step and what was found
+Steps = List[Tuple[str, Any]]  # pairs of a step and its finding
 Client = Callable[..., Steps]  # drives an editor through some steps
 Seen = Tuple[List[int], str, List[List[int]], List[int]]
 Which = Type[keyed.Keyed]
@@ -51,8 +51,8 @@ def play(
     in_terminal: bool = False,
     more: dict[str, str] | None = None,
 ) -> Steps:
-    """What an editor found in these steps on a file with this text, with what else is given to it: pairs of a step and
-    what was found."""
+    """Starts an editor on a file with this text, and lets its script run `steps`. The environment passes `given` and
+    `more` to the script. Returns pairs of a step and its result."""
     harness.need_program()
     with temporary() as room:
         own = at_home(room, editor)
@@ -82,7 +82,7 @@ def in_neovim(steps: str, text: str, breaks: str = "", **given: Any) -> Steps:
 
 
 def in_emacs_by(client: str, steps: str, text: str, given: dict[str, Any]) -> Steps:
-    """In Emacs: the page has the lines for eglot first, and then those for lsp-mode."""
+    """Runs steps in Emacs with the client `eglot` or `lsp-mode`. The page has the lines for eglot first."""
     want("Emacs", client)
     lines = snippets("emacs", "elisp")["eglot lsp-mode".split().index(client)]
     init = os.path.join(".emacs.d", "init.el")
@@ -106,15 +106,23 @@ def in_lsp_mode(steps: str, text: str, **given: Any) -> Steps:
 def in_vim(steps: str, text: str, **given: Any) -> Steps:
     want("Vim", "ALE")
     words = ["vim.nox", "-n", "-i", "NONE", "-S", os.path.join(EDITORS, "vim.vim")]
-    set_up = lambda room: write(os.path.join(room, ".vimrc"), "\n".join(snippets("vim", "vim")))
+
+    def set_up(room: str) -> None:
+        write(os.path.join(room, ".vimrc"), "\n".join(snippets("vim", "vim")))
+        write(os.path.join(room, "breaks"), given.get("breaks", ""))
+
     return play("vim", words, steps, text, given, set_up, in_terminal=True)
 
 
-# what pages of editors say in the same words
+# the words that pages of editors share, and those that only their common page has
 ONLY_SHOWN = "**not applicable**: the server makes no edits in this editor"
-UNKNOWN = "save before each edit, and compare afterwards"
-WRONG_EDIT = "If an edit goes wrong: undo it, save, close the file and open it again."
-LONE_CR = "Remove each CR that no LF follows: edits after it may be wrong."
+ON_ALL = [
+    "**unknown**: save before each edit, and compare afterwards",
+    "**If an edit goes wrong**: undo it, save, close the file and open it again.",
+    "Every verdict assumes that the file has no lone CR",
+]
+UNKNOWN = "any other version: **unknown**"
+CONDITIONS = "[The guarantee, its conditions, and what to do after a wrong edit](../README.md#does-the-guarantee-hold-in-your-editor)"
 ASKED = (
     "In short: the editor tells the server every change, in order, with positions in the agreed unit and texts of Unicode scalar values. "
     "It makes all edits of an answer as one change. It discards an answer if its text is no longer the one that it asked about."
@@ -122,19 +130,19 @@ ASKED = (
 
 
 def verdicts(page: str) -> list[tuple[str, str]]:
-    """Of each row of the first table of a page the editor with its versions, and whether the guarantee holds."""
+    """Returns the editor with its versions, and whether the guarantee holds, in each row of the first table of a page."""
     rows = re.findall(r"^\| ([^|]+) \| ([^|]+) \|", text_of(page).partition("\n|---|")[2].partition("\n\n")[0], re.M)
     holds(len(rows) > 7, f"the table of {page} has {rows}")
     return rows
 
 
 def in_bold(cells: list[str]) -> set[str]:
-    """What is in bold in some cells."""
+    """Returns the texts that are in bold in these cells."""
     return {it for cell in cells for it in re.findall(r"\*\*([^*]+)\*\*", cell)}
 
 
 def items_of(folder: str, rows: list[tuple[str, str]]) -> list[str]:
-    """The rows of an editor as items of its page."""
+    """Returns the rows about an editor as the list items that its page must have."""
     found = []
     for which, verdict in rows:
         for name, after in re.findall(r"\]\((\w+)/README\.md\)([^\[]*)", which):
@@ -144,9 +152,11 @@ def items_of(folder: str, rows: list[tuple[str, str]]) -> list[str]:
     return found
 
 
-@test("editors: README and each editor's page say whether the guarantee holds there, in the words of the table")
+@test("editors: README and each editor's page give the same verdict on the guarantee as the table in editors/README.md")
 def held_here() -> None:
     rows = verdicts("editors/README.md")
+    shared = " ".join(text_of("editors/README.md").split())
+    same([it for it in ON_ALL if it not in shared], [], "missing on the editors' page")
     for which, verdict in verdicts("README.md"):
         named = re.findall(r"\]\(editors/(\w+)/README\.md\)", which)
         wanted_here = in_bold([said for row, said in rows if any(f"]({it}/README.md)" in row for it in named)])
@@ -158,9 +168,7 @@ def held_here() -> None:
         wanted = items_of(folder, rows)
         holds(wanted, f"the table has no row of {folder}")
         if [ONLY_SHOWN] != [it[2:] for it in wanted]:
-            wanted += [UNKNOWN, WRONG_EDIT]
-        if folder in ("neovim", "vim", "emacs", "helix"):
-            wanted.append(LONE_CR)
+            wanted += [CONDITIONS] if folder in ("vscode", "kakoune") else [CONDITIONS, UNKNOWN]
         page = " ".join(text_of("editors", folder, "README.md").split())
         same([it for it in wanted if it not in page], [], f"what editors/{folder}/README.md doesn't say")
 
@@ -175,7 +183,7 @@ GOOD = "MODULE M; BEGIN WriteLn END M.\n"
 TYPED = "MODULE M; VAR x: INTEGER; BEGIN WriteLn END M.\n"
 
 
-@test("Neovim: a bad character comes and goes, and the server ends cleanly")
+@test("Neovim: the diagnostic of a bad character appears and disappears, and the server ends cleanly")
 def neovim_scanning() -> None:
     bad = [[0, 16, 0, 17, "BadChar", "bad character"]]
     wanted_steps = [("opened", []), ("typed", bad), ("mended", []), ("undone", bad), ("redone", []), ("ended", ENDED)]
@@ -183,7 +191,7 @@ def neovim_scanning() -> None:
 
 
 def while_typing() -> Steps:
-    """What is displayed after each letter of `; x := 1`."""
+    """Returns the steps with the diagnostics that must be shown after each letter of `; x := 1`."""
     typed, at = "; x := 1", TYPED.index(" END")
     wanted_steps: Steps = [("opened", [])]
     for count, letter in enumerate(typed, 1):
@@ -199,7 +207,7 @@ def while_typing() -> Steps:
     return [*wanted_steps, ("ended", ENDED)]
 
 
-@test("Neovim: a syntax fault comes and goes while a statement is typed")
+@test("Neovim: the right syntax error is shown after each letter of a statement that is typed")
 def neovim_typing() -> None:
     same(in_neovim("typing", TYPED), while_typing())
 
@@ -244,33 +252,33 @@ def as_emacs_shows() -> list[Any]:
     return found
 
 
-@test("Neovim: the diagnostics of an invalid module, and none after it is fixed")
+@test("Neovim: an invalid module's errors are shown, and none after it is fixed")
 def neovim_types() -> None:
     same(in_neovim("mending", FAULTY, mended=MENDED), [("opened", as_neovim_shows()), ("mended", []), ("ended", ENDED)])
 
 
-@test("Emacs: the diagnostics of an invalid module, and none after it is fixed")
+@test("Emacs: an invalid module's errors are shown, and none after it is fixed")
 def emacs_types() -> None:
     same(in_emacs("mending", FAULTY, mended=MENDED), [("opened", as_emacs_shows()), ("mended", []), ("ended", 0)])
 
 
-@test("lsp-mode: the diagnostics of an invalid module, and none after it is fixed")
+@test("lsp-mode: an invalid module's errors are shown, and none after it is fixed")
 def lsp_mode_types() -> None:
     same(in_lsp_mode("mending", FAULTY, mended=MENDED), [("opened", as_neovim_shows()), ("mended", [])])
 
 
-@test("Vim: the diagnostics of an invalid module, and none after it is fixed")
+@test("Vim: an invalid module's errors are shown, and none after it is fixed")
 def vim_types() -> None:
     same(in_vim("mending", FAULTY, mended=MENDED), [("opened", as_neovim_shows()), ("mended", [])])
 
 
-@test("Emacs: a bad character comes and goes, and the server ends cleanly")
+@test("Emacs: the diagnostic of a bad character appears and disappears, and the server ends cleanly")
 def emacs_scanning() -> None:
     bad = [[16, 17, " [BadChar]: bad character"]]
     same(in_emacs("scanning", GOOD), [("opened", []), ("typed", bad), ("mended", []), ("ended", 0)])
 
 
-@test("Emacs: a diagnostic of an older text, at a place that is inside a character now, is shown")
+@test("Emacs: a late diagnostic is shown even if its position is now inside a character")
 def emacs_outdated() -> None:
     text = "MODULE M; (* \U0001f600 *)\nBEGIN\n  WriteLn\nEND M.\n"
     same(in_emacs("outdated", text), [("opened", []), ("outdated", 1), ("ended", 0)])
@@ -283,12 +291,12 @@ REFERENCES = [{"range": extent(it), "uri": "file:///m.mod"} for it in PLACES]
 ANSWERED = [("opened", []), ("hover", HOVER), ("definition", DEFINITION), ("references", REFERENCES)]
 
 
-@test("Neovim: hover, definition and references, as the server answers them")
+@test("Neovim: the server gives the expected answers to hover, definition and references")
 def neovim_questions() -> None:
     same(in_neovim("questions", CALLS), [*ANSWERED, ("ended", ENDED)])
 
 
-@test("Emacs: hover, definition and references, as the server answers them")
+@test("Emacs: the server gives the expected answers to hover, definition and references")
 def emacs_questions() -> None:
     same(in_emacs("questions", CALLS), [*ANSWERED, ("ended", 0)])
 
@@ -313,11 +321,11 @@ def looked(seen: list[Seen]) -> Steps:
 
 
 def without_declarations(seen: list[Seen]) -> list[Seen]:
-    """The same for a client that requests references without the declaration."""
+    """Returns `seen` for a client that requests references without the declaration."""
     return [(place, shown, [it for it in listed if it != declared], declared) for place, shown, listed, declared in seen]
 
 
-@test("Neovim: what its own hover, list of references and go to definition show")
+@test("Neovim: its own hover, list of references and go to definition show the server's answers")
 def neovim_looking() -> None:
     for text, seen in ((CALLS, CALLS_SEEN), (RECORDS, RECORDS_SEEN)):
         same(in_neovim("looking", text, places=[it[0] for it in seen]), [*looked(seen), ("ended", ENDED)])
@@ -334,7 +342,7 @@ def neovim_without() -> None:
     same((status, said.strip()), (0, "There is no program no-such-program: set vim.g.ob0_program to its path"))
 
 
-@test("Neovim: a text that is typed after the buffer was empty has the end of its last line in the server too")
+@test("Neovim: after text is typed into an empty buffer, the server's text ends with a line end too")
 def neovim_emptied() -> None:
     same(in_neovim("emptied", CALLS), [("opened", []), *[("left to do", [])] * 3, ("ended", ENDED)])
 
@@ -361,7 +369,7 @@ REFUSED_RENAMES = [
 ]
 
 
-@test("Neovim: a refused rename is told in words, and so is what finds nothing while the module has an error")
+@test("Neovim: refused renames, and requests that fail because the module has an error, are explained in words")
 def neovim_refused() -> None:
     steps = [(name, f"ob0: {words}") for _, name, words in REFUSED_RENAMES]
     told = [(it, f"ob0: {ILL_TYPED}") for it in ("rename", "hover", "definition", "format")]
@@ -369,11 +377,15 @@ def neovim_refused() -> None:
     same(found, [("opened", []), *steps, *told, ("ended", ENDED)])
 
 
-@test("Neovim: a text that the server can't read is closed and opened again once, and after that at the next change")
+# how an editor treats a text that the server can't read, and how it does if that isn't read again
+HOWS = ("it is opened again", "it stays closed until it is changed")
+UNREAD = [f"ob0: the server can't read m.mod: {how}" for how in HOWS]
+
+
+@test("Neovim: a text that the server can't read is reopened once, and then again at the next change")
 def neovim_unread() -> None:
     text = "MODULE M;\n\nBEGIN Write(1) END M.\n"
-    again = "ob0: the server can't read m.mod: it is opened again (not JSON)"
-    closed = "ob0: the server can't read m.mod: it stays closed until it is changed (not JSON)"
+    again, closed = (f"{it} (not JSON)" for it in UNREAD)
     steps = [
         (" a  ", ["didChange didClose didOpen didClose", f"{again} | {closed}"]),
         (" b  ", ["didOpen didClose", ""]),
@@ -381,6 +393,57 @@ def neovim_unread() -> None:
         ("read", [[1, 0, 1, 1, "BadChar", "bad character"]]),
     ]
     same(in_neovim("unread", text, breaks="readable"), [("opened", []), *steps, ("ended", ENDED)])
+
+
+# a module with two errors, of which the parser reports the first, and the hints for it and for what it becomes
+HINTED = "MODULE M;\nVAR x: INTEGER;\nBEGIN\n  x = 1;\n  Inc(x)\nEND M.\n"
+EXPECTED_END = [3, 4, 3, 5, "Syntax", "expected END"]
+NOT_DECLARED = [4, 2, 4, 5, "Undeclared", "not declared"]
+ASSIGN = "hint: an assignment is written `:=`, as in `x := 1`; `=` compares"
+NO_INC = "hint: there is no Inc: `x := x + 1`"
+
+
+@test("Neovim: a hint is shown below the line of an error, unless the user turns hints off")
+def neovim_hinted() -> None:
+    changes = [["  x := 1;", 3], ["  WriteLn", 4], ["  Inc(x)", 4]]
+    steps = [
+        ("opened", [[EXPECTED_END], [[3, f"  {ASSIGN}"]]]),
+        ("  x := 1;", [[NOT_DECLARED], [[4, f"  {NO_INC}"]]]),
+        ("  WriteLn", [[], []]),
+        ("  Inc(x)", [[NOT_DECLARED], [[4, f"  {NO_INC}"]]]),
+        ("turned off", []),
+        ("ended", ENDED),
+    ]
+    same(in_neovim("hinted", HINTED, changes=changes), steps)
+
+
+@test("Emacs: a hint is appended to a diagnostic's message, and the echo area shows both")
+def emacs_hinted() -> None:
+    start, called = HINTED.index("="), HINTED.replace("=", ":=").index("Inc")
+    expected_end, not_declared = " [Syntax]: expected END", " [Undeclared]: not declared"
+    steps = [
+        ("opened", [[start, start + 1, expected_end]]),
+        ("hinted", [[start, start + 1, f"{expected_end}\n{ASSIGN}"]]),
+        ("changed", [[called, called + 3, not_declared]]),
+        ("hinted again", [[called, called + 3, f"{not_declared}\n{NO_INC}"]]),
+        ("echo area", f"{not_declared}\n{NO_INC}"),
+        ("mended", []),
+        ("ended", 0),
+    ]
+    same(in_emacs("hinted", HINTED), steps)
+
+
+@test("lsp-mode: a hint is appended to a diagnostic's message")
+def lsp_mode_hinted() -> None:
+    with_hint: Callable[[List[Any], str], List[List[Any]]] = lambda it, hint: [[*it[:5], f"{it[5]}\n{hint}"]]
+    steps = [
+        ("opened", [EXPECTED_END]),
+        ("hinted", with_hint(EXPECTED_END, ASSIGN)),
+        ("changed", [NOT_DECLARED]),
+        ("hinted again", with_hint(NOT_DECLARED, NO_INC)),
+        ("mended", []),
+    ]
+    same(in_lsp_mode("hinted", HINTED), steps)
 
 
 # texts, whether formatting changes each, and the file that is saved then
@@ -397,7 +460,7 @@ LINES_ENDED = [
 ]
 
 
-@test("Neovim: a text with CR LF, or without the end of its last line, is formatted once and keeps its line ends")
+@test("Neovim: formatting keeps CR LF, even without a last line end, and a second formatting changes nothing")
 def neovim_line_ends() -> None:
     for text, changes, written in LINES_ENDED:
         steps = [("opened", []), ("changes", changes), ("changes", False), ("file", written), ("ended", ENDED)]
@@ -410,17 +473,17 @@ def line_ends_in_emacs(editor: Client, end: Steps) -> None:
         same(editor("formatted", text), steps, f"the steps on {text!r}")
 
 
-@test("Emacs: a text with CR LF is formatted once, and the file has its own line ends")
+@test("Emacs: formatting keeps a file's CR LF, and a second formatting changes nothing")
 def emacs_line_ends() -> None:
     line_ends_in_emacs(in_emacs, [("ended", 0)])
 
 
-@test("lsp-mode: a text with CR LF is formatted once, and the file has its own line ends")
+@test("lsp-mode: formatting keeps a file's CR LF, and a second formatting changes nothing")
 def lsp_mode_line_ends() -> None:
     line_ends_in_emacs(in_lsp_mode, [])
 
 
-@test("Emacs: a text that can't be told is closed and opened again at the next change, and so is one that isn't read")
+@test("Emacs: a text that can't be sent, or that the server can't read, is reopened at the next change")
 def emacs_unread() -> None:
     found = in_emacs("unread", "MODULE M;\n\nEND M.\n", breaks="readable")
     told = {step: it for step, it in found if step not in ("opened", "ended")}
@@ -429,11 +492,28 @@ def emacs_unread() -> None:
     wanted_told = ["didChange didClose didOpen didClose", "didOpen", "didOpen", "didClose didOpen"]
     same([told[it][0] for it in told], wanted_told, "what is told")
     again, closed = (told["half a pair"][1] + " | ").split(" | ")[:2]
-    holds(again.startswith("ob0: the server can't read m.mod: it is opened again"), again)
-    holds(closed.startswith("ob0: the server can't read m.mod: it stays closed until it is changed"), closed)
-    same([told["still"][1], told["mended"][1]], ["", ""], "what is said while it stays closed, and then")
-    at_last = "ob0: the server can't read m.mod: it is opened again (not JSON)"
-    same(told["no message"][1], at_last, "what is said at last")
+    holds(again.startswith(UNREAD[0]), again)
+    holds(closed.startswith(UNREAD[1]), closed)
+    same([told["still"][1], told["mended"][1]], ["", ""], "the messages while it stays closed, and then")
+    same(told["no message"][1], f"{UNREAD[0]} (not JSON)", "the last message")
+
+
+@test("lsp-mode: a text that can't be sent, or that the server can't read, is reopened at the next change")
+def lsp_mode_unread() -> None:
+    found = in_lsp_mode("unread", "MODULE M;\n\nEND M.\n", breaks="readable")
+    told = {step: it for step, it in found if step not in ("opened", "read")}
+    wanted_told = ["didChange didClose didOpen didClose", "didOpen", "didOpen", "didClose didOpen"]
+    same([it[0] for it in told.values()], wanted_told, "the notifications")
+    said = [re.sub(r" \(.*", "", it) for step in told for it in told[step][1].split(" | ")]
+    same(said, [*UNREAD, "", "", UNREAD[0]], "the messages")
+    same(dict(found)["read"], [[1, 0, 1, 1, "BadChar", "bad character"]], "the diagnostics once it is read")
+
+
+@test("Vim: with ALE a text that the server can't read is reopened once, and then again at the next change")
+def vim_unread() -> None:
+    said = [f"{it} (not JSON)" for it in UNREAD]
+    steps = [("opened", []), ("said", said), ("read", [[0, 9, 0, 10, "BadChar", "bad character"]])]
+    same(in_vim("unread", GOOD, breaks="readable"), steps)
 
 
 def refused_in_emacs(editor: Client, end: Steps, *more: str) -> None:
@@ -443,17 +523,17 @@ def refused_in_emacs(editor: Client, end: Steps, *more: str) -> None:
     same(found, [("opened", []), *steps, *told, *end])
 
 
-@test("Emacs: a refused rename is told in words, and so is what finds nothing while the module has an error")
+@test("Emacs: refused renames, and requests that fail because the module has an error, are explained in words")
 def emacs_refused() -> None:
     refused_in_emacs(in_emacs, [("ended", 0)])
 
 
-@test("lsp-mode: a refused rename is told in words, and so is what finds nothing while the module has an error")
+@test("lsp-mode: refused renames, and requests that fail because the module has an error, are explained in words")
 def lsp_mode_refused() -> None:
     refused_in_emacs(in_lsp_mode, [], "prompt")
 
 
-@test("Vim: by ALE a refused rename is told in words, and so is what finds nothing while the module has an error")
+@test("Vim: with ALE refused renames, and requests that fail because the module has an error, are explained in words")
 def vim_refused() -> None:
     steps = [(name, f"ob0: {words}") for _, name, words in REFUSED_RENAMES]
     told = [(it, f"ob0: {ILL_TYPED}") for it in ("rename", "hover", "definition")]
@@ -461,7 +541,7 @@ def vim_refused() -> None:
     same(found, [("opened", []), *steps, *told])
 
 
-@test("Vim: by ALE a text is formatted by ob0-format, with its own line ends, and the run is kept")
+@test("Vim: ALE formats with ob0-format, which keeps the line ends and what the module prints")
 def vim_formatted() -> None:
     for line_end in ("\n", "\r\n"):
         text, written = "MODULE M;\nBEGIN Write(1) END M.\n", "MODULE M;\nBEGIN\n  Write(1)\nEND M.\n"
@@ -470,31 +550,31 @@ def vim_formatted() -> None:
         keeps_the_run(text, written, " 1")
 
 
-@test("Neovim: the prompt of a rename begins with the name, after letters that aren't ASCII too")
+@test("Neovim: the prompt of a rename contains the old name, even after letters that aren't ASCII")
 def neovim_prompted() -> None:
     column = len("  BEGIN (* \u00e4\U0001f600 *) ".encode())
     found = in_neovim("prompted", REFUSING.replace("x", "total"), place=[3, column])
     same(found, [("opened", []), ("prompted", "total"), ("ended", ENDED)])
 
 
-@test("Neovim: if it shows no messages with diagnostics, ob0's files do, unless the user prevents it")
+@test("Neovim: if Neovim doesn't show diagnostics' messages, ob0's files do, unless the user prevents it")
 def neovim_messages() -> None:
     shown = [("by Neovim", 0), ("by the user's choice", 0), ("by ob0", 1)]
     same(in_neovim("messages", GOOD.replace("WriteLn", "x := 1")), [("opened", 1), *shown, ("ended", ENDED)])
 
 
-@test("Emacs: the index of procedures, while eglot is on")
+@test("Emacs: imenu lists the procedures while eglot is on")
 def emacs_index() -> None:
     same(in_emacs("index", CALLS), [("opened", []), ("index", ["*Rescan*", "F"]), ("ended", 0)])
 
 
-@test("Emacs: what its own hover, list of references and go to definition show")
+@test("Emacs: its own hover, list of references and go to definition show the server's answers")
 def emacs_looking() -> None:
     for text, seen in ((CALLS, CALLS_SEEN), (RECORDS, RECORDS_SEEN)):
         same(in_emacs("looking", text, places=[it[0] for it in seen]), [*looked(seen), ("ended", 0)])
 
 
-@test("lsp-mode: what its own hover, list of references and go to definition show")
+@test("lsp-mode: its own hover, list of references and go to definition show the server's answers")
 def lsp_mode_looking() -> None:
     for text, seen in ((CALLS, CALLS_SEEN), (RECORDS, RECORDS_SEEN)):
         found = in_lsp_mode("looking", text, places=[it[0] for it in seen])
@@ -502,20 +582,20 @@ def lsp_mode_looking() -> None:
         same(found, looked(seen) if found == looked(seen) else looked(without_declarations(seen)))
 
 
-@test("Vim: what ALE's hover, list of references and go to definition show")
+@test("Vim: ALE's hover, list of references and go to definition show the server's answers")
 def vim_looking() -> None:
     for text, seen in ((CALLS, CALLS_SEEN), (RECORDS, RECORDS_SEEN)):
         same(in_vim("looking", text, places=[it[0] for it in seen]), looked(without_declarations(seen)))
 
 
 def keeps_the_run(before: str, after: str, out: str, given: bytes = b"") -> None:
-    """Holds a text, and what an editor made of it, to one run: on this input each prints this and ends with status 0."""
+    """Requires a text before and after an editor's edits to print `out` on this input, and to end with status 0."""
     for text in (before, after):
         ends(on_file("run", text, given=given), out, 0)
 
 
 def example(name: str) -> tuple[str, str]:
-    """An example and what it prints."""
+    """Returns the text of an example, and the text that it prints."""
     with open(os.path.join(TOP, "examples", f"{name}.mod"), encoding="utf-8") as text, open(os.path.join(TOP, "examples", f"{name}.out"), encoding="utf-8") as out:
         return text.read(), out.read()
 
@@ -561,7 +641,7 @@ CLIENTS: List[Tuple[str, Client, Steps]] = [
 
 
 def in_each(what: str, clients: list[tuple[str, Client, Steps]], function: Callable[..., None], *more: object) -> None:
-    """A test of this name for each of these editors."""
+    """Adds a test of this name for each of these editors."""
     for name, editor, end in clients:
         test(f"{name}: {what}")(functools.partial(function, editor, end, *more))
 
@@ -640,7 +720,7 @@ def formats(editor: Client, end: Steps) -> None:
 in_each("a text is formatted, once more changes nothing, and the run is kept", CLIENTS[:2], formats)
 
 
-@test("lsp-mode: a text is formatted, and the run is kept")
+@test("lsp-mode: a module is formatted as expected, and prints the same as before")
 def lsp_mode_format() -> None:
     for size, spaces, text, wanted, given, out in FORMATTED:
         if (size, spaces) == (2, True):  # (what ob0-mode requests)
@@ -663,7 +743,8 @@ MADE_LATE = {
     "list of actions": WITH_A_LINE,
 }
 def in_vscode(folder: str, *kind: str) -> tuple[str, Any, list[Message], list[Message]]:
-    """What VS Code's extension in a folder did under Node, and the record of what its client and the server said."""
+    """Runs VS Code's extension from a folder under Node. Returns the path of the module, the results, the `initialize`
+    requests that were sent, and the answers to renames."""
     with temporary() as room:
         own = at_home(room, "vscode")
         put_between(room)
@@ -694,16 +775,17 @@ def in_vscode_by(*kind: str, folder: str = vsix.FOLDER) -> None:
     faulty: dict[str, Any] = {it: [False, [ill_typed]] for it in ("layout", "hover", "definition")}
     no_name = f"ob0: {REFUSED_RENAMES[-1][2]}"
     faulty = {**faulty, "prepare": [ill_typed, []], "unnamed": no_name}
-    same((found["faulty"], found["told"]), (faulty, []), "what is said in a module with an error, and shown over it")
+    same((found["faulty"], found["told"]), (faulty, []), "the messages in a module with an error, and shown over it")
     refused = [
         "with the new name, `Write` in line 3 would refer to another declaration",
         "`j` is declared in line 2 already",
     ]
     same(found["refused"], refused, "renames that are refused, with the lines as the editor counts them")
-    hows = ("it is opened again", "it stays closed until it is changed")
-    unread = [f"The server can't read FILE: {how} (not JSON)." for how in hows]
+    no_inc = ["not declared", ["hint: there is no inc: `x := x + 1`"]]
+    same(found["hinted"], [[no_inc], [["not declared", []]] * 2, [no_inc] * 2], "the hints, which come after the messages")
+    unread = [f"The server can't read FILE: {how} (not JSON)." for how in HOWS]
     said = None if "real" in kind else [unread, [], []]
-    same(found.get("half"), said, "what is said of a text with half a surrogate pair, and of it without that")
+    same(found.get("half"), said, "the messages about a text with half a surrogate pair, and about it without that")
     formatted = MADE_AT_ONCE["layout"].replace("\n", "\r\n")
     same(found["carriageReturns"], [True, 0, formatted], "a text with CR LF that is formatted")
     same(found["edits"]["made"], MADE_AT_ONCE, "what answers leave that come at once")
@@ -723,7 +805,7 @@ def vscode() -> None:
     in_vscode_by()
 
 
-@test("VS Code: the extension, with the real vscode-languageclient and a stand-in for the editor, does the same")
+@test("VS Code: the extension works the same with the real vscode-languageclient and a stand-in for the editor")
 def vscode_client() -> None:
     # (`npm install` in editors/vscode gets the client, and `make editors RELEASE=trixie` makes it in its root)
     want("Node", vsix.CLIENT)
@@ -731,7 +813,7 @@ def vscode_client() -> None:
     in_vscode_by("real")
 
 
-@test("VS Code: the extension as it is packed, with the real vscode-languageclient and a stand-in for the editor, does the same")
+@test("VS Code: the packed extension works the same with the real client and a stand-in for the editor")
 def vscode_packed() -> None:
     want("Node", vsix.CLIENT)
     harness.need_program()
@@ -765,7 +847,7 @@ END M.
 YCM_TYPED = [("typed", ["bad character [BadChar]"]), ("mended", [])]
 
 
-@test("Vim by YouCompleteMe: diagnostics, hover and references of a name, a rename and formatting")
+@test("Vim by YouCompleteMe: diagnostics, hover, references, a rename and formatting work")
 def ycm_names() -> None:
     steps = [("shown", "PROCEDURE F(n: INTEGER)"), ("listed", [[1, 10], [2, 30], [2, 47], [3, 6]]), ("jumped", [1, 10])]
     steps += [("renamed", edited(CALLS, PLACES, "G")), ("laid out", LAID_OUT)]
@@ -782,7 +864,7 @@ def ycm_inline() -> None:
     keeps_the_run(text, wanted, " 7")
 
 
-@test("Vim by YouCompleteMe: a text with CR LF is formatted, and keeps its line ends")
+@test("Vim by YouCompleteMe: formatting keeps a file's CR LF")
 def ycm_line_ends() -> None:
     for text, _, written in LINES_ENDED[2:4]:
         found = in_vim_by_ycm("formatted", text)
@@ -794,7 +876,8 @@ def in_kate(steps: str, text: str, **given: Any) -> Steps:
     want("Kate", "Xvfb", "xauth", "openbox", "xdotool", "D-Bus")
 
     def set_up(room: str) -> None:
-        """The server with what holds answers, and Kate's plugin switched on and allowed to start it, as its user would do once."""
+        """Puts the program that holds answers before the server, and switches on Kate's plugin with the permission to
+        start it."""
         program = put_between(room)
         write(os.path.join(room, ".config", "katerc"), f"[Kate Plugins]\nlspclientplugin=true\n\n[lspclient]\nAllowedServerCommandLines={program} serve\n")
         own["OB0_WIRE"] = room
@@ -805,7 +888,7 @@ def in_kate(steps: str, text: str, **given: Any) -> Steps:
     return play("kate", words, steps, text, given, set_up, more=own)
 
 
-@test("Kate: diagnostics, hover and references of a name, a rename and formatting, by its keys")
+@test("Kate: diagnostics, hover, references, a rename and formatting work by keyboard")
 def kate_names() -> None:
     steps = [("opened", []), ("typed", ["BadChar"]), ("undone", []), ("shown", "PROCEDURE F(n: INTEGER)")]
     steps += [("listed", [[1, 10], [2, 30], [2, 47], [3, 6]]), ("jumped", [1, 10])]
@@ -814,7 +897,7 @@ def kate_names() -> None:
     keeps_the_run(CALLS, LAID_OUT, " 2 1")
 
 
-@test("Kate: a constant is inlined, by its keys")
+@test("Kate: a constant can be inlined by keyboard")
 def kate_inline() -> None:
     text = "MODULE M;\nCONST k = 7;\nBEGIN Write(k) END M.\n"
     wanted = text.replace("Write(k)", "Write(7)")
@@ -823,7 +906,15 @@ def kate_inline() -> None:
     keeps_the_run(text, wanted, " 7")
 
 
-@test("Kate: a late answer is made at places that move along, as its page says")
+@test("Kate: formatting keeps a file's CR LF, and a second formatting changes nothing")
+def kate_line_ends() -> None:
+    text, _, written = LINES_ENDED[2]
+    formatted = written.replace("\r\n", "\n")
+    steps = [("opened", []), ("formatted", []), ("text", formatted), ("file", written), ("left to do", [])]
+    same(in_kate("formatted", text, place=[0, 0]), steps)
+
+
+@test("Kate: a late answer's edits are made at positions that moved with the text, as Kate's page warns")
 def kate_late() -> None:
     renamed = NEW_LINE + re.sub(r"\bn\b", "tot", LATE)
     laid_out = f"{2 * NEW_LINE}MODULE M;\nCONST\n  k = 7;\nVAR\n  tot: INTEGER;\nBEGIN\n  tot := 1;\n  Write(tot);\n  Write(k);\n"
@@ -851,8 +942,8 @@ WHEN = ["in the first version", "in a later version", "closed and opened again"]
 
 
 def is_late(editor: keyed.Keyed, asked: str, when: str) -> None:
-    """An answer comes after a line was typed above, or after the file was closed, has another text, and was opened again: nothing
-    comes of it. An editor that waits for the answer makes its edits first."""
+    """Requires an answer to have no effect if it comes after a line was typed above, or after the file was closed,
+    changed and opened again. An editor that waits for the answer makes its edits first."""
     keys, method, waits = editor.asks[asked]
     write(editor.file, LATE)
     editor.keys(editor.reopening())
@@ -884,7 +975,7 @@ def is_late(editor: keyed.Keyed, asked: str, when: str) -> None:
 
 
 def by_keys(does: Callable[[Any], T], which: Which, text: str, *names: str) -> T:
-    """Does something with an editor, in a separate folder, on a file with this text."""
+    """Starts an editor in a temporary folder on a file with this text. Returns the result of `does` on the editor."""
     want(*names)
     harness.need_program()
     with temporary() as folder, which(folder, text) as editor:
@@ -907,7 +998,7 @@ class Deaf(keyed.Keyed):
         return bool(holds())
 
 
-@test("editors: a server that never gets the editor's text is a failure, and no test tries again by itself")
+@test("editors: a test fails if the server never gets the editor's text, and doesn't try again by itself")
 def not_again() -> None:
     played = mock.Mock(side_effect=Failed("no key was taken"))
     Deaf.opened = 0
@@ -947,13 +1038,14 @@ CHANGED = LATE.replace("VAR", "VAR (* N and n *)").rstrip("\n").replace("\n", "\
 
 
 def lines_of(text: str | None) -> str:
-    """A text with LF at the end of each line, and of the last one."""
+    """Returns a text with LF at the end of each line, including the last one."""
     plain = (text or "").replace("\r\n", "\n")
     return plain if plain.endswith("\n") else plain + "\n"
 
 
 def every_change(which: Which, count: int, seed: int, text: str, *names: str) -> str:
-    """After each ten of many changes by chance the server has the editor's text."""
+    """Makes random changes by keys. After every ten of them the server must have the editor's text. Returns a
+    phrase such as "40 changes"."""
 
     def compared(editor: keyed.Keyed) -> str:
         chance, made = random.Random(seed), []
@@ -974,14 +1066,16 @@ for name, which in KEYED.items():
 
 
 def changes_by_keys() -> Iterator[tuple[Any, str, str]]:
-    """What `make faults` tries besides: an editor, a text and a name for each editor and kind of file."""
+    """Yields the cases that only `make faults` tries: for each editor and kind of line ends, the editor, a text and a
+    name."""
     for name, which in KEYED.items():
         for kind, text in (("LF", LATE), ("CR LF", LATE.replace("\n", "\r\n")), ("no end of the last line", LATE.rstrip("\n"))):
             yield which, text, f"changes by keys: {name}, {kind}"
 
 
 def replaced_in_other_cases(which: Which, *names: str) -> None:
-    """The server has the editor's text after a name was replaced in a text that also contains it in the other case."""
+    """Replaces a name in a text that also contains it in the other case. The server must have the editor's text
+    afterwards."""
 
     def replaced(editor: keyed.Keyed) -> None:
         new = editor.letters[-1]
@@ -1012,7 +1106,7 @@ def neovim_chosen_late() -> None:
     by_keys(chosen, keyed.Neovim, LATE, "Neovim")
 
 
-@test("Neovim: two copies of the files start one server")
+@test("Neovim: if ob0's files are installed twice, only one server starts")
 def neovim_copied_twice() -> None:
     class Twice(keyed.Neovim):
         def settings(self) -> dict[str, str]:

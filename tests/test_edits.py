@@ -1,4 +1,4 @@
-"""Rename, inlining and formatting, through `serve` and through the commands."""
+"""Tests rename, inlining and formatting through `serve`, and rename also through `ob0 rename`."""
 from __future__ import annotations
 
 import json
@@ -87,14 +87,14 @@ BEGIN r.r.⟦r⟧ := 7; r.s := r.r.⟦r⟧ + 1; P(r.r.⟦r⟧); Write(r.s) END M
 
 
 def unmarked(text: str) -> tuple[str, list[str]]:
-    """A text without its marks, and the places that were marked."""
+    """Returns a text without the marks ⟦ and ⟧, and the ranges that they marked."""
     plain, diagnostics = marked(text, *["Undeclared"] * text.count("⟦"))
     spell: Callable[[Message], str] = lambda it: f"{it['line']}:{it['character']}"
     return plain, [f"{spell(it['range']['start'])}-{spell(it['range']['end'])}" for it in diagnostics]
 
 
 def patched(text: str, edits: list[Message]) -> str:
-    """A text with the edits of an answer, which are in text order."""
+    """Returns a text after the edits of an answer, which must be in text order."""
     starts = [0]
     for at, it in enumerate(text):
         if it == "\n" or it == "\r" and text[at + 1 : at + 2] != "\n":
@@ -130,27 +130,27 @@ def through_command(rows: Sequence[Row]) -> None:
             ends(found, edited(text, wanted, new), 0)
 
 
-@test("rename: edits and refusals, through `serve`")
+@test("rename: `serve` answers with the expected edits or refusals")
 def renames() -> None:
     through_serve(RENAMES)
 
 
-@test("rename: edits and refusals, through the command")
+@test("rename: `ob0 rename` prints the renamed text or the expected refusal")
 def renamed() -> None:
     through_command(RENAMES)
 
 
-@test("rename: a field of a record, through `serve`")
+@test("rename: `serve` answers with the expected edits or refusals for a record's field")
 def field_renamed() -> None:
     through_serve(FIELD_RENAMES)
 
 
-@test("rename: a field of a record, through the command")
+@test("rename: `ob0 rename` prints the text with a renamed field, or the expected refusal")
 def field_renamed_by_command() -> None:
     through_command(FIELD_RENAMES)
 
 
-@test("rename: a field at each of its places, and the run is kept")
+@test("rename: a field can be renamed at each of its uses, and the module still prints the same")
 def field_places() -> None:
     for text, names in FIELDS_MARKED:
         plain, places = unmarked(text)
@@ -166,7 +166,7 @@ def field_places() -> None:
             ends(on_file("run", edited(plain, places, new)), out, 0)
 
 
-@test("rename: a field, byte by byte")
+@test("rename: a field's edits and refusal are sent as expected, byte by byte")
 def field_bytes() -> None:
     queries = [request(3, "textDocument/rename", where(3, 8, newName="b")), request(4, "textDocument/rename", where(1, 19, newName="c"))]
     found = serve(frames([initialize(), did_open(RECORDS, URI), *queries])).contents()[2:]
@@ -178,7 +178,7 @@ def field_bytes() -> None:
     )
 
 
-@test("rename: a field, with the version and in both units")
+@test("rename: a field's edits have the document's version, and positions in the agreed units")
 def field_units() -> None:
     text = "MODULE M; VAR r: RECORD a: INTEGER END; BEGIN (* 😀é *) r.a := 1; Write(r.a) END M."
     support = {"workspace": {"workspaceEdit": {"documentChanges": True}}}
@@ -192,14 +192,14 @@ def field_units() -> None:
                 same(found, {"documentChanges": [{"edits": edits, "textDocument": {"uri": URI, "version": 7}}]})
 
 
-@test("rename: a field, up to the longest text")
+@test("rename: renaming a field may make the longest text, and is refused with TooLong above that")
 def field_longest() -> None:
     text = "MODULE M; VAR r: RECORD x: INTEGER END; END M.".ljust(1048576)
     ends(on_file("rename", text, "0", "24", "y"), text.replace("x", "y"), 0)
     ends(on_file("rename", text, "0", "24", "xy"), "", 1, "refused: TooLong\n")
 
 
-@test("rename: a refusal and an edit, byte by byte")
+@test("rename: a refusal and an answer without edits are sent as expected, byte by byte")
 def rename_bytes() -> None:
     queries = [request(3, "textDocument/rename", where(1, 4, newName="y")), request(4, "textDocument/rename", where(1, 4, newName="x"))]
     found = serve(frames([initialize(), did_open(NESTED, URI), *queries])).contents()[2:]
@@ -207,7 +207,7 @@ def rename_bytes() -> None:
     same(found[1], '{"id":4,"jsonrpc":"2.0","result":{"changes":{"file:///m":[]}}}')
 
 
-@test("rename: as a list of document changes, with the version")
+@test("rename: if the client supports documentChanges, the answer has them, with the version")
 def document_changes() -> None:
     with Server(capabilities={"workspace": {"workspaceEdit": {"documentChanges": True}}}) as server:
         server.notify(did_open(NESTED, URI, 7))
@@ -224,7 +224,7 @@ def announced() -> None:
             same(server.first["result"]["capabilities"]["renameProvider"], wanted)
 
 
-@test("rename: of texts that aren't well-typed")
+@test("rename: in a module with an error `serve` refuses, and `ob0 rename` prints the error")
 def ill_typed() -> None:
     with Server() as server:
         server.notify(did_open("MODULE M", URI))
@@ -235,20 +235,20 @@ def ill_typed() -> None:
     ends(on_file("rename", b"MODULE \xff", "0", "7", "x"), "", 4, "fault: Utf8\n")
 
 
-@test("rename: up to the longest text")
+@test("rename: `ob0 rename` makes texts up to the longest, and refuses longer ones with TooLong")
 def longest() -> None:
     text = "MODULE M; VAR x: INTEGER; END M.".ljust(1048576)
     ends(on_file("rename", text, "0", "14", "y"), text.replace("x", "y"), 0)
     ends(on_file("rename", text, "0", "14", "xy"), "", 1, "refused: TooLong\n")
 
 
-@test("rename: up to the longest text, through `serve`")
+@test("rename: `serve` renames up to the longest text, and refuses above that with TooLong")
 def longest_served() -> None:
     text, places = "MODULE M; VAR x: INTEGER; END M.".ljust(1048576), ["0:14-0:15"]
     through_serve([(text, 0, 14, "y", places), (text, 0, 14, "xy", "TooLong"), (text[:-1], 0, 14, "xy", places)])
 
 
-@test("rename: keeps the run")
+@test("rename: a renamed module prints the same and ends with the same status")
 def same_run() -> None:
     for text, _, _, new, wanted in [*RENAMES, *FIELD_RENAMES]:
         if not isinstance(wanted, str):
@@ -256,13 +256,13 @@ def same_run() -> None:
             ends(on_file("run", edited(text, wanted, new)), before.out, before.status, before.err)
 
 
-@test("rename: a field under each new name prints the same")
+@test("rename: a module whose field was renamed prints the same")
 def field_runs() -> None:
     for new in ("c", "r"):
         ends(on_file("run", on_file("rename", RECORDS, "3", "8", new).out), " 3", 0)
 
 
-@test("rename: command lines, and places far off")
+@test("rename: bad command lines are refused with status 2, and a position outside the text with NoName")
 def lines() -> None:
     for words in (["0"], ["0", "0"], ["-1", "0", "x"], ["0", "18446744073709551616", "x"], ["18446744073709551616", "0", "x"], ["0", "x", "y"], ["0", "0", "x", "y"]):
         same(on_file("rename", NESTED, *words).status, 2, " ".join(words))
@@ -274,7 +274,7 @@ LITERALS: Message = {"textDocument": {"codeAction": {"codeActionLiteralSupport":
 
 
 def acting(line: int, character: int, context: object = None, end: Message | None = None) -> Message:
-    """The params of a code action at a place, or at a range from there."""
+    """Returns the params of a code action request at a position, or for the range from there to `end`."""
     at = {"end": end or place(line, character), "start": place(line, character)}
     return {"context": {} if context is None else context, "range": at, "textDocument": {"uri": URI}}
 
@@ -287,7 +287,8 @@ def actions(
     capabilities: Message | None = None,
     end: Message | None = None,
 ) -> dict[str, Any]:
-    """The titles of what is offered, each with its edits."""
+    """Requests the code actions at a position. Returns the edits of each action by its title, or the error if the
+    request is refused."""
     with Server(capabilities=LITERALS if capabilities is None else capabilities) as server:
         server.notify(did_open(text, URI))
         found = server.query("textDocument/codeAction", acting(line, character, context, end))
@@ -298,7 +299,7 @@ def actions(
         return {it["title"]: [(e["range"], e["newText"]) for e in it["edit"]["changes"][URI]] for it in found["result"]}
 
 
-@test("inline: a constant's edit, byte by byte")
+@test("inline: at a constant's declaration one action is offered, with the expected bytes")
 def inline_bytes() -> None:
     query = request(4, "textDocument/codeAction", acting(1, 6))
     found = serve(frames([initialize(**LITERALS), did_open(LEAST, URI), query])).contents()[2]
@@ -311,7 +312,7 @@ def inline_bytes() -> None:
     )
 
 
-@test("inline: both actions at a use, byte by byte")
+@test("inline: at a use of a constant both actions are offered, with the expected bytes")
 def actions_bytes() -> None:
     query = request(5, "textDocument/codeAction", acting(3, 15))
     found = serve(frames([initialize(**LITERALS), did_open(LEAST, URI), query])).contents()[2]
@@ -325,7 +326,7 @@ def actions_bytes() -> None:
     same(found, f'{{"id":5,"jsonrpc":"2.0","result":{both}}}')
 
 
-@test("inline: at a use, at the declaration, under `only`")
+@test("inline: `only` filters the actions; a variable, or a client without literals, gets no actions")
 def inlined() -> None:
     use, gone = (extent("3:15-3:16"), "(-2147483647 - 1)"), (extent("1:6-1:26"), "")
     both = {"Inline here": [use], "Inline everywhere": [gone, use]}
@@ -341,7 +342,7 @@ def inlined() -> None:
     same(actions(LEAST, 2, 4), {}, "at a variable")
 
 
-@test("inline: negative values, truth values, and refusals")
+@test("inline: negative and Boolean values are written out; shadowed or too deep uses get no action")
 def inline_values() -> None:
     text = "MODULE M; CONST c = -5; t = 1 = 1; VAR a: INTEGER; BEGIN a := a - c; Write(c DIV 3); IF t THEN END END M."
     uses = [at for at in range(len(text)) if text.startswith("c;", at) or text.startswith("c DIV", at)]
@@ -357,7 +358,7 @@ def inline_values() -> None:
         same([*actions(deep, 0, deep.index("c)"))], offered, f"{value} below {levels} levels")
 
 
-@test("inline: both actions at a use as document changes, byte by byte")
+@test("inline: if the client supports documentChanges, both actions have them, with the expected bytes")
 def inline_changes() -> None:
     support: Message = {**LITERALS, "workspace": {"workspaceEdit": {"documentChanges": True}}}
     query = request(4, "textDocument/codeAction", acting(3, 15))
@@ -374,7 +375,7 @@ def inline_changes() -> None:
     same(found, f'{{"id":4,"jsonrpc":"2.0","result":[{action(use, "Inline here")},{action(gone + "," + use, "Inline everywhere")}]}}')
 
 
-@test("inline: positions in both units")
+@test("inline: edits have positions in the agreed units, at both ends of a name")
 def inline_units() -> None:
     text = "MODULE M; CONST (* é *) c = 5; BEGIN (* 😀 *) Write(c) END M."
     for encodings, gone, use in ((["utf-16"], "0:24-0:30", "0:52-0:53"), (["utf-8"], "0:25-0:31", "0:55-0:56")):
@@ -385,7 +386,7 @@ def inline_units() -> None:
         same(actions(text, 0, extent(gone)["start"]["character"], capabilities=support), {"Inline everywhere": both["Inline everywhere"]})
 
 
-@test("inline: a range works at its start, and a swapped one at the lesser position")
+@test("inline: a range counts as its first position, even if its start and end are swapped")
 def inline_ranges() -> None:
     both = actions(LEAST, 3, 15)
     same([*both], ["Inline here", "Inline everywhere"])
@@ -411,7 +412,7 @@ INLINED: List[Tuple[str, Optional[str], List[str]]] = [
 ]
 
 
-@test("inline: here and everywhere, and both keep the run")
+@test("inline: both actions make the expected edits, and the module prints the same")
 def inline_runs() -> None:
     for text, written, refused in INLINED:
         plain, uses = unmarked(text)
@@ -431,12 +432,12 @@ def inline_runs() -> None:
 
 
 def inlinings(text: str, line: int, character: int) -> dict[str, str]:
-    """The texts that the actions at a place make."""
+    """Returns for each action offered at a position, by its title, the text after its edits."""
     found = actions(text, line, character)
     return {title: patched(text, [{"newText": new, "range": it} for it, new in edits]) for title, edits in found.items()}
 
 
-@test("inline: negative values print the same before, after `here` and after `everywhere`")
+@test("inline: a module with a negative constant prints the same after either action")
 def inline_negative() -> None:
     rows = [
         (LEAST, 3, 15, "0 + c", "0 + (-2147483647 - 1)", "c = -2147483647 - 1;", " -2147483648"),
@@ -456,7 +457,7 @@ def inline_unused() -> None:
     same(actions(text, 0, 16), {"Inline everywhere": [(extent("0:16-0:22"), "")]})
 
 
-@test("inline: places at which nothing is offered")
+@test("inline: nothing is offered at other names, numbers, keywords, in an invalid module or after the text")
 def inline_nowhere() -> None:
     text = "MODULE M; TYPE R = RECORD c: INTEGER END; VAR x: R; PROCEDURE P; BEGIN IF TRUE THEN x.c := 1 END END P; BEGIN P; Write(x.c) END M."
     for what in ("M", "R", "c", "INTEGER", "x", "P", "TRUE", "1", "Write", "IF", "; VAR"):
@@ -465,7 +466,7 @@ def inline_nowhere() -> None:
     same(actions(LEAST, 99, 0), {}, "after the text")
 
 
-@test("inline: up to the longest text")
+@test("inline: an action that would make the text too long isn't offered")
 def inline_longest() -> None:
     text = "MODULE M; CONST c = 10; d = c + c; END M."
     whole: Callable[[int], dict[str, Any]] = lambda size: actions(text.ljust(size), 0, text.index("c +"))
@@ -473,7 +474,7 @@ def inline_longest() -> None:
     same([*whole(1048576)], ["Inline everywhere"], "the text would be too long by one use")
 
 
-@test("inline: refusals that come before anything is examined")
+@test("inline: requests with malformed params, or in an unopened document or one out of step, are refused")
 def inline_refused() -> None:
     bad = {"code": -32602, "message": "bad params"}
     for support in (LITERALS, {}):
@@ -525,7 +526,7 @@ LAYOUTS = [
 
 
 def formatted(text: str, size: int, spaces: bool) -> tuple[list[Message], str]:
-    """The edits of a text, and the text with them."""
+    """Formats a text through `serve`. Returns the edits, and the text after them."""
     with Server() as server:
         server.notify(did_open(text, URI))
         options = {"insertSpaces": spaces, "tabSize": size}
@@ -533,7 +534,7 @@ def formatted(text: str, size: int, spaces: bool) -> tuple[list[Message], str]:
     return found, patched(text, found)
 
 
-@test("format: worked texts, and once more changes nothing")
+@test("format: each text is formatted as expected, and formatting it again changes nothing")
 def formats() -> None:
     for size, spaces, text, wanted in LAYOUTS:
         _, found = formatted(text, size, spaces)
@@ -541,7 +542,7 @@ def formats() -> None:
         same(formatted(wanted, size, spaces)[0], [], "formatted again")
 
 
-@test("format: the edits of the gaps, byte by byte")
+@test("format: the edits change only the gaps between tokens, and are sent as expected, byte by byte")
 def gaps() -> None:
     options = {"insertSpaces": True, "tabSize": 2}
     query = request(2, "textDocument/formatting", {"options": options, "textDocument": {"uri": URI}})
@@ -555,7 +556,7 @@ def gaps() -> None:
     )
 
 
-@test("format: options")
+@test("format: malformed options are refused with `bad params`, and a module with an error with `ill-typed`")
 def options() -> None:
     with Server() as server:
         server.notify(did_open("MODULE M; END M.", URI))
@@ -568,19 +569,20 @@ def options() -> None:
 
 
 def short_statements(longer: int) -> str:
-    """A module on one line whose layout by 16 spaces has 1,048,573 bytes, and one more for each of the longer statements."""
+    """Returns a module on one line. Formatted with 16 spaces it has 1,048,573 bytes, and one more for each of the
+    `longer` calls of Write."""
     return "MODULE M;BEGIN " + "Write(1);" * longer + "WriteLn;" * (41942 - longer) + "END M."
 
 
 def length_after(text: str, edits: list[Message]) -> int:
-    """Returns how many bytes a text on one line, of one byte each character, has with these edits."""
+    """Returns the length in bytes of an ASCII text on one line after these edits."""
     ranges: list[tuple[str, int, int]] = [
         (it["newText"], it["range"]["start"]["character"], it["range"]["end"]["character"]) for it in edits
     ]
     return len(text) + sum(len(new) - (end - start) for new, start, end in ranges)
 
 
-@test("format: up to the longest layout")
+@test("format: a result of the greatest length is sent, and a longer one is refused with TooLong")
 def longest_layout() -> None:
     params = {"options": {"insertSpaces": True, "tabSize": 16}, "textDocument": {"uri": URI}}
     with Server() as server:

@@ -1,7 +1,5 @@
-"""The modules of examples/: checks, runs and layouts.
-
-Each is checked without a fault, prints what its file .out has on the numbers of its file .in, ends as its file .err says where it
-has one, and is formatted as the server does it. (What they print was written down by other means than this program.)"""
+"""Tests the modules of examples/: each is valid and formatted. On the numbers of its file .in it prints the text of its
+file .out, and it ends with the fault of its file .err, if it has one. (The outputs weren't made with ob0.)"""
 from __future__ import annotations
 
 import os
@@ -14,7 +12,7 @@ def bytes_of(*path: str) -> bytes:
         return file.read()
 
 
-@test("examples: there are a dozen, each with its input and its output")
+@test("examples: there are at least twelve, each with its input and its output")
 def dozen() -> None:
     holds(len(examples()) >= 12, f"there are {len(examples())}")
     faults = [f"{it[:-4]}.err" for it in examples() if os.path.basename(it).startswith("Fault")]
@@ -22,7 +20,7 @@ def dozen() -> None:
     same(sorted(os.path.join("examples", it) for it in names_in("examples") if it not in ("README.md", "exercises")), wanted)
 
 
-@test("examples: each is checked and run")
+@test("examples: each has no errors, and prints its expected output")
 def run_each() -> None:
     for path in examples():
         ends(run(["check", os.path.join(TOP, path)]), "", 0)
@@ -30,7 +28,7 @@ def run_each() -> None:
         ends(run(["run", os.path.join(TOP, path)], bytes_of(f"{path[:-4]}.in")), bytes_of(f"{path[:-4]}.out"), 1 if fault else 0, fault)
 
 
-@test("examples: a layout changes nothing in any of them")
+@test("examples: formatting changes no example")
 def laid_out() -> None:
     with Server() as server:
         for path in examples():

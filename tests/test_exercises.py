@@ -1,4 +1,4 @@
-"""The exercises of examples/exercises: their page, their files and the script that marks, over right and wrong answers.
+"""Tests the exercises of examples/exercises: their page, their files, and mark.py on right and wrong answers.
 
 The right answers are in tests/answers; each wrong one is a right one with one change."""
 from __future__ import annotations
@@ -27,7 +27,8 @@ NAMES = re.findall(r"^## \d+\. (\w+)$", PAGE, re.M)
 
 
 def cases(exercise: str) -> list[tuple[list[int], list[list[int]]]]:
-    """The inputs of an exercise, and what is to be printed: lists of numbers, without empty lines at the end."""
+    """Returns the cases of an exercise: the numbers of the input, and for each line to be printed its numbers. There
+    are no lines if nothing is to be printed."""
     found = []
     for part in text_of(FOLDER, f"{exercise}.txt").rstrip("\n").split("\n\n"):
         first, *rest = part.split("\n")
@@ -41,7 +42,7 @@ def answer(exercise: str) -> str:
     return text_of("tests", "answers", f"{exercise}.mod")
 
 
-# What each exercise wants, computed in another way than by the answers
+# The right result of each exercise, computed in another way than by the answers
 
 
 def until_zero(numbers: list[int]) -> list[int]:
@@ -96,7 +97,7 @@ LONGEST = ["--seconds", "300"]
 
 
 def mark(*words: str) -> tuple[int, str]:
-    """Marks modules by the script, with the program that is tested: its status and what it says."""
+    """Runs mark.py with the tested program. Returns its exit status and its output."""
     need_program()
     program = os.path.abspath(harness.BINARY)
     script = os.path.join(TOP, FOLDER, "mark.py")
@@ -104,7 +105,7 @@ def mark(*words: str) -> tuple[int, str]:
 
 
 def marked(exercise: str, text: str, *words: str, encoding: str = "utf-8") -> tuple[int, str]:
-    """What is said of one module, and the status."""
+    """Marks one module with mark.py. Returns the exit status, and the line that mark.py prints about the module."""
     with tempfile.TemporaryDirectory() as room:
         file = os.path.join(room, f"{exercise}.mod")
         with open(file, "wb") as it:
@@ -124,7 +125,7 @@ def twelve() -> None:
         same(example.strip(), text_of(FOLDER, f"{name}.txt").partition("\n\n")[0], f"the example of {name}")
 
 
-@test("exercises: what is to be printed is what the exercise asks for, by another computation")
+@test("exercises: the expected outputs equal the results of a separate computation in Python")
 def computed() -> None:
     same(sorted(WANTED), sorted(NAMES), "the exercises")
     for name in NAMES:
@@ -133,7 +134,7 @@ def computed() -> None:
             same(WANTED[name](given), wanted, f"what {name} prints for {given}")
 
 
-@test("exercises: every answer is marked right, has no fault and is formatted as the server does it")
+@test("exercises: every answer in tests/answers is marked right, has no errors and is formatted")
 def right() -> None:
     status, said = mark(os.path.join(TOP, "tests", "answers"))
     same((status, said.count(" right\n"), said.splitlines()[-1]), (0, 13, "  12 of 12 right"), said)
@@ -171,7 +172,7 @@ WRONG = [
 ]
 
 
-@test("exercises: each wrong answer is marked wrong, with a line that helps")
+@test("exercises: each wrong answer is marked wrong, with a line that says why")
 def wrong() -> None:
     same({it[0] for it in WRONG}, {*NAMES}, "the exercises")
     for exercise, old, new, wanted in WRONG:
@@ -184,12 +185,12 @@ LOOPS = "MODULE Clock; VAR i: INTEGER; BEGIN WHILE TRUE DO i := 0; WHILE i < 500
 LONG = "MODULE Clock; VAR i: INTEGER; BEGIN WHILE i < 100000 DO Write(2147483647); i := i + 1 END END Clock."
 
 
-@test("exercises: a module that doesn't end, prints without end, isn't there or isn't one of them is marked so")
+@test("exercises: mark.py says if a module doesn't end, prints without end, doesn't exist or is no exercise")
 def bounded() -> None:
     same(marked("Clock", LOOPS.format(""), "--seconds", "5"), (1, "Clock.mod   wrong: for the input 3661: it had not ended after 5 seconds: does each loop end?"))
     same(marked("Clock", LONG), (1, "Clock.mod   wrong: for the input 3661: it prints too much: does each loop end?"))
     status, said = marked("Clock", LOOPS.format("Write(i); "), "--seconds", "5")
-    # (by the machine it is stopped by its time, or has taken all memory for what it is to print)
+    # (depending on the machine it is stopped by the time limit, or its output has used all memory)
     holds(status == 1 and "does each loop" in said, said)
     status, said = marked("Gcd", text_of("examples", "Gcd.mod"))
     holds(status == 2 and "is not the module of an exercise: Clock, " in said, said)
@@ -200,14 +201,15 @@ def bounded() -> None:
         lines = said.splitlines()
         same((status, lines[0], lines[4][:26]), (1, f"{room}:", "  3 of 12 right; missing: "), said)
         same(lines[5], f"there is no {room}/Votes.mod", said)
-        same(mark("/nosuch"), (2, "there is no /nosuch\n"), "a folder that isn't there")
+        same(mark("/nosuch"), (2, "there is no /nosuch\n"), "a missing folder")
     script = os.path.join(TOP, FOLDER, "mark.py")
     found = run_plainly(["python3", "-B", script, "--program", "no-such-program", "x.mod"], dict(os.environ), TOP)
     same(found, (2, "there is no program no-such-program: give its path with --program\n"), "without the program")
 
 
 def handed_in(files: dict[str, str], *words: str) -> tuple[int, list[str]]:
-    """Marks folders below a new one, which holds these files and is the one that the script runs in: the status, and the lines."""
+    """Writes files into a temporary folder, and runs mark.py there with these words. Returns the exit status and the
+    printed lines."""
     need_program()
     script = os.path.join(TOP, FOLDER, "mark.py")
     with tempfile.TemporaryDirectory() as room:
@@ -230,7 +232,7 @@ UNMARKED = {
 }
 
 
-@test("exercises: each entry of a folder that isn't marked is named, but for hidden ones")
+@test("exercises: mark.py lists each entry of a folder that it doesn't mark, with the reason, except hidden files")
 def unmarked() -> None:
     files = {f"anna/{it}": answer("Clock") for it in [*UNMARKED, "Clock.mod", ".hidden"] if "folder" not in UNMARKED.get(it, "")}
     status, lines = handed_in({**files, "anna/more/Clock.mod": "", "anna/Leap.mod/x": ""}, "anna")
@@ -238,7 +240,7 @@ def unmarked() -> None:
     same(sorted(lines[2:-1]), sorted(f"  {it} {why}" for it, why in UNMARKED.items()), "the lines of what isn't marked")
 
 
-@test("exercises: a link in a folder isn't marked, but a path may be a link")
+@test("exercises: a link inside a folder isn't marked, but a path on the command line may be a link")
 def linked() -> None:
     script = os.path.join(TOP, FOLDER, "mark.py")
     need_program()
@@ -256,7 +258,7 @@ def linked() -> None:
     holds("carla:\n  Clock.mod   right\n" in said and "bob/Clock.mod:\n  Clock.mod   right\n" in said, said)
 
 
-@test("exercises: several folders have a last line, and the status is 0 only if each has something to mark and all of it is right")
+@test("exercises: a last line counts right modules per folder; the status is 0 if each has some and all are right")
 def folders() -> None:
     right_one, wrong_one = answer("Clock"), answer("Clock").replace("DIV", "MOD", 1)
     files = {"anna/Clock.mod": right_one, "anna/Leap.ob0": answer("Leap"), "ben/Clock.mod": wrong_one, "carl/x.txt": "", "-xaver/Clock.Mod": right_one}
@@ -275,7 +277,7 @@ def folders() -> None:
         holds(it in listed, f"the page has no {it}")
 
 
-@test("exercises: two files of one exercise are told apart, and the name after MODULE and a last WriteLn don't count")
+@test("exercises: Clock.mod and Clock.Mod are told apart; the name after MODULE and a last WriteLn don't matter")
 def told_apart() -> None:
     wrong_one = answer("Clock").replace("DIV", "MOD", 1)
     status, lines = handed_in({"anna/Clock.mod": answer("Clock"), "anna/Clock.Mod": wrong_one}, "anna")
@@ -288,7 +290,7 @@ def told_apart() -> None:
         holds(it in listed, f"the page has no {it}")
 
 
-@test("exercises: a byte order mark and a recursion that takes all memory are marked with what to do")
+@test("exercises: for a byte order mark, UTF-16 or exhausted memory mark.py says what to do")
 def explained() -> None:
     said = "Clock.mod   wrong: line 1, column 1: save it without a byte order mark"
     same(marked("Clock", "\ufeff" + answer("Clock")), (1, said))
@@ -302,7 +304,8 @@ def explained() -> None:
 
 
 def marking(room: str, words: list[str], given: Any = None, **more: str) -> tuple[int | None, bytes, bytes]:
-    """Marks in a folder by the script: its status, and what it wrote to standard output (or nothing, if that is `given`) and error."""
+    """Runs mark.py in a folder. Returns its exit status, its output (None if it is written to the file `given`) and its
+    standard error."""
     need_program()
     script = os.path.join(TOP, FOLDER, "mark.py")
     line = ["python3", "-B", script, "--program", os.path.abspath(harness.BINARY), *LONGEST, *words]
@@ -314,7 +317,7 @@ def marking(room: str, words: list[str], given: Any = None, **more: str) -> tupl
 LOCALES: list[dict[str, str]] = [{"PYTHONIOENCODING": "utf-8:strict"}, {"LC_ALL": "C", "PYTHONCOERCECLOCALE": "0", "PYTHONUTF8": "0"}]
 
 
-@test("exercises: names of any bytes are marked and printed in any locale, each on one line, and no folder is left out")
+@test("exercises: folders and files with names of any bytes are printed on one line each, in any locale")
 def any_names() -> None:
     with temporary() as room:
         for name in ("a", "n\udce4me", "two\nlines", "z"):
@@ -334,7 +337,7 @@ def any_names() -> None:
             same(lines[-2], b"a 1, n\xe4me 1, two\\nlines 1, z 1", "the last line")
 
 
-@test("exercises: a folder or a file that can't be read is said, and the others are marked")
+@test("exercises: a folder or a file that can't be read is reported, and the others are marked")
 def unreadable() -> None:
     with temporary() as room:
         # (another user than root may not enter the checkout, so the script and the program are copied)
@@ -355,7 +358,7 @@ def unreadable() -> None:
     same((status, said.splitlines()), (1, wanted))
 
 
-@test("exercises: an output that is closed or full is said in a line, with status 4")
+@test("exercises: if the output is closed or full, mark.py says so in one line and ends with status 4")
 def unprinted() -> None:
     with temporary() as room:
         write(os.path.join(room, "Clock.mod"), answer("Clock"))
@@ -380,7 +383,7 @@ runpy.run_path(sys.argv[0], run_name="__main__")
 """
 
 
-@test("exercises: a signal ends the script, and the module that it runs")
+@test("exercises: a signal ends mark.py and the module that it runs")
 def signalled() -> None:
     with temporary() as room:
         write(os.path.join(room, "Clock.mod"), answer("Clock"))
@@ -395,13 +398,14 @@ def signalled() -> None:
                 process.send_signal(number)
                 _, err = process.communicate(timeout=harness.SECONDS)
             same((process.returncode, err), (-number, b""), "how the script ends")
-            holds(not is_running(int(text_of(pid))), f"the module goes on after signal {number}")
+            holds(not is_running(int(text_of(pid))), f"the module still runs after signal {number}")
             os.unlink(pid)
             words = ["python3", "-B", "-c", SIGNALLED, str(int(number)), *words[2:]]
             ran = subprocess.run(words, cwd=room, stdout=subprocess.DEVNULL, stderr=subprocess.PIPE, check=False)
             same((ran.returncode, ran.stderr), (-number, b""), "how the script ends, if the signal comes while a module is started")
             time.sleep(0.5)
-            holds(not os.path.exists(pid) or not is_running(int(text_of(pid))), f"the module that was started goes on after signal {number}")
+            survives = os.path.exists(pid) and is_running(int(text_of(pid)))
+            holds(not survives, f"the module that was started still runs after signal {number}")
             if os.path.exists(pid):
                 os.unlink(pid)
 
@@ -420,7 +424,7 @@ runpy.run_path(sys.argv[0], run_name="__main__")
 
 
 def working_in(folder: str) -> list[str]:
-    """The processes that work in a folder."""
+    """Returns the numbers of the processes that have this working directory."""
     found = []
     for it in filter(str.isdigit, os.listdir("/proc")):
         with contextlib.suppress(OSError):
@@ -428,7 +432,7 @@ def working_in(folder: str) -> list[str]:
     return found
 
 
-@test("exercises: a signal that comes while a module is started ends it too")
+@test("exercises: a signal that comes while mark.py starts a module also ends the module")
 def signalled_at_start() -> None:
     script = os.path.join(TOP, FOLDER, "mark.py")
     with temporary() as room:
@@ -441,10 +445,10 @@ def signalled_at_start() -> None:
             left = working_in(os.path.realpath(room))
             for it in left:
                 os.kill(int(it), signal.SIGKILL)
-            same((ended.returncode, ended.stderr, left), (-number, b"", []), f"how the script ends after signal {number}, and what goes on")
+            same((ended.returncode, ended.stderr, left), (-number, b"", []), f"after signal {number}, with survivors")
 
 
-@test("exercises: a number of seconds is one above 0")
+@test("exercises: `--seconds` is refused with status 2 unless it is a positive number that isn't huge")
 def seconds() -> None:
     with temporary() as room:
         write(os.path.join(room, "Clock.mod"), answer("Clock"))
@@ -454,7 +458,7 @@ def seconds() -> None:
             same((status, out, said in err, b"Traceback" in err), (2, b"", True, False), f"--seconds {word}: {err!r}")
 
 
-@test("exercises: a table has a row for each path and a column for each exercise, and no cell is a formula or breaks a row")
+@test("exercises: `--table` prints a row for each path and a column for each exercise, and no cell is a formula")
 def table() -> None:
     names = ["anna", "=1+1", "two\nlines", "n\udce4me, \"x\"", "\uff1d1+1"]
     wrong_one = answer("Clock").replace("DIV", "MOD", 1)
@@ -483,7 +487,7 @@ def table() -> None:
     )
 
 
-@test("exercises: a teacher's own inputs are those of another folder, whose files are the exercises")
+@test("exercises: with `--inputs` the files of another folder are the exercises")
 def own_inputs() -> None:
     by_table = "MODULE Leap; VAR y: INTEGER; BEGIN Read(y); IF (y = 2024) OR (y = 4) THEN Write(1) ELSE Write(0) END END Leap."
     with temporary() as room:
@@ -505,7 +509,7 @@ def own_inputs() -> None:
         same(marking(room, ["--inputs", "nosuch", "anna"]), (2, b"", b"nosuch: No such file or directory\n"), "no folder")
 
 
-@test("exercises: the bounds and ends that the script speaks of are the program's")
+@test("exercises: the limits and the ways a run can end that mark.py names match the program's")
 def spoken_of() -> None:
     script = text_of(FOLDER, "mark.py")
     named = {*re.findall(r'^    "(\w+)": "', script, re.M)}

@@ -1,5 +1,5 @@
-"""The hints beside messages: each wrong module of inputs/slips.txt gets one that leads to its cure, and so do those of
-inputs/judged_slips.txt, except the ones that are listed here."""
+"""Tests the hints that are added to messages: each wrong module of inputs/slips.txt and inputs/judged_slips.txt gets a
+hint that leads to its fix, except the modules that are listed here."""
 from __future__ import annotations
 
 import re
@@ -13,7 +13,8 @@ from hinted import Found, first_error
 
 
 class Slip(NamedTuple):
-    """A wrong module: what was written, the text that the cure replaces and the new one, and what a hint has to say."""
+    """A wrong module. Its fix replaces `old` by `new`, and its hint has to match the pattern `says` (`-` if there is no
+    hint)."""
 
     name: str
     old: str
@@ -28,7 +29,7 @@ NONE = ["a slip in the closing name"]
 
 
 def slips(file: str) -> Iterator[Slip]:
-    """Yields the modules of a file in inputs/."""
+    """Yields the wrong modules of a file in tests/inputs/."""
     parts = re.split(r"^== (.*)\n", text_of("tests", "inputs", file), flags=re.M)[1:]
     for name, part in zip(parts[::2], parts[1::2]):
         cure, says, text = part.split("\n", 2)
@@ -37,7 +38,7 @@ def slips(file: str) -> Iterator[Slip]:
 
 
 def cured(server: Server, it: Slip) -> Found:
-    """Returns the first error of a module, after a test that its cure leaves no error there or before."""
+    """Returns the first error of a module. Fails if the module's fix leaves an error there or before."""
     found = first_error(server, it.text)
     holds(found and it.old in it.text, f"{it.name} has no error, or no place for the cure")
     assert found
@@ -46,7 +47,7 @@ def cured(server: Server, it: Slip) -> Found:
     return found
 
 
-@test("hints: each of the beginners' modules gets a hint that leads to its cure, and the cure leaves no error there or before")
+@test("hints: each mistake in slips.txt gets a hint that leads to its fix, and the fix leaves no error there or before")
 def lead_to_cures() -> None:
     need_program()
     count = 0
@@ -58,7 +59,7 @@ def lead_to_cures() -> None:
     holds(count >= 25, f"{count} of them begin with `expected END`")
 
 
-@test("hints: of the modules that judge them, only the listed ones get a hint that doesn't lead to the cure, or none")
+@test("hints: of the modules in judged_slips.txt, all but the listed ones get a hint that leads to the fix")
 def judged() -> None:
     need_program()
     right: list[str] = []
@@ -71,7 +72,7 @@ def judged() -> None:
     same((len(right), wrong, none), (60 - len(WRONG) - len(NONE), WRONG, NONE), "right hints, wrong ones and none")
 
 
-@test("hints: tokens are found in any text, and a place without a token has a rule only for the end of the text")
+@test("hints: hints have no unfilled placeholders at any offset of any text, and the end of a text has its own hint")
 def any_text() -> None:
     for text in ("", "(*", "*)", "(* (* *)", "MODULE", "\u00e4", "\r\r\n(*)", "x *) y"):
         hints = ob0_hints.Hints(text.encode(), ob0_scripts.line_starts(text.encode()))

@@ -1,5 +1,5 @@
-"""The indentation of editors/, which goes by the heading above a line, against a walk over the whole text; and how much it evaluates,
-which is counted and not timed."""
+"""Compares the indentation of editors/, which starts at the heading above a line, with one computed from the whole
+text. Also bounds how much code the editors evaluate for it, by counts instead of times."""
 from __future__ import annotations
 
 import json
@@ -22,7 +22,7 @@ COMMENTS = [
 
 
 def with_comments(text: str, chance: random.Random) -> str:
-    """A text with comments between some of its lines, and at the ends of others."""
+    """Returns a text with comments inserted before some lines, and at the ends of others."""
     found = []
     for line in text.split("\n"):
         if line.strip() and chance.random() < 0.1:
@@ -32,14 +32,14 @@ def with_comments(text: str, chance: random.Random) -> str:
 
 
 def texts() -> list[str]:
-    """Modules of many forms, with and without more comments."""
+    """Returns varied modules, each as it is and with inserted comments."""
     found = [text_of(it) for it in examples()[::3]] + [corpus.module(3000), *(aliasing_modules.module(seed) for seed in range(3))]
     chance = random.Random(1)
     return found + [with_comments(it, chance) for it in found]
 
 
 def files_in(room: str, made: list[str]) -> str:
-    """Writes texts into files, some with CR LF: the files' names, as JSON."""
+    """Writes each text to a file, every fourth one with CR LF. Returns the files' paths as JSON."""
     names = [os.path.join(room, f"{at}.ob0") for at in range(len(made))]
     for at, name in enumerate(names):
         write(name, made[at].replace("\n", "\r\n") if at % 4 == 1 else made[at])
@@ -47,7 +47,8 @@ def files_in(room: str, made: list[str]) -> str:
 
 
 def compared(room: str, made: list[str], are_comments_left: bool) -> None:
-    """Holds each file to its text as the walk indents it."""
+    """Requires each file, which an editor has indented, to equal its text as the reference implementation indents
+    it."""
     for at, text in enumerate(made):
         with open(os.path.join(room, f"{at}.ob0"), encoding="utf-8", newline="") as file:
             found = file.read()
@@ -71,19 +72,19 @@ def by_vim(editor: str, words: list[str]) -> None:
         compared(room, made, False)
 
 
-@test("indentation: Vim's, by the heading above, is the same as by the whole text, all at once and line by line")
+@test("indentation: Vim indents lines as a walk over the whole text would, all at once and line by line")
 def in_vim() -> None:
     want("Vim")
     by_vim("vim", ["vim.nox", "-n", "-i", "NONE", "-u", "RC"])
 
 
-@test("indentation: Neovim's, by the heading above, is the same as by the whole text, all at once and line by line")
+@test("indentation: Neovim indents lines as a walk over the whole text would, all at once and line by line")
 def in_neovim() -> None:
     want("Neovim")
     by_vim("neovim", ["nvim", "-n", "-i", "NONE", "-u", "RC"])
 
 
-@test("indentation: Emacs's, by the heading above, is the same as by the whole text, all at once and line by line")
+@test("indentation: Emacs indents lines as a walk over the whole text would, all at once and line by line")
 def in_emacs() -> None:
     want("Emacs")
     made = texts()
@@ -111,7 +112,7 @@ SIZES = (5, 20)
 
 
 def costly_files(room: str) -> list[str]:
-    """Files of two modules, of which the second has four times as many procedures."""
+    """Writes two modules, the second with four times as many procedures. Returns the files' paths."""
     names = [os.path.join(room, f"{size}.ob0") for size in SIZES]
     for size, name in zip(SIZES, names):
         procedures = "".join(PROCEDURE.replace("{}", str(at)) for at in range(size))
@@ -120,7 +121,8 @@ def costly_files(room: str) -> list[str]:
 
 
 def bounded(counts: list[list[int]]) -> None:
-    """Holds what a line near the end costs, and what all lines do, in both files."""
+    """Requires that in a file four times as long, one line near the end costs at most 1.1 times as much, and all lines
+    at most 5 times as much."""
     (line, every), (later, all_later) = counts
     holds(0 < later <= 1.1 * line, f"a line near the end costs {line}, and {later} in a text four times as long")
     holds(0 < all_later <= 5 * every, f"all lines cost {every}, and {all_later} in a text four times as long")
@@ -140,19 +142,19 @@ def costs_by_vim(editor: str, words: list[str]) -> None:
         bounded([[sum(map(int, re.findall(r"^ *(\d+) ", it, re.M))) for it in pair] for pair in counted])
 
 
-@test("indentation: in Vim a line near the end costs what it costs in a short text, and all lines cost in proportion")
+@test("indentation: in Vim one line costs as much in a long text as in a short one; all lines cost in proportion")
 def costs_in_vim() -> None:
     want("Vim")
     costs_by_vim("vim", ["vim.nox"])
 
 
-@test("indentation: in Neovim a line near the end costs what it costs in a short text, and all lines cost in proportion")
+@test("indentation: in Neovim one line costs as much in a long text as in a short one; all lines cost in proportion")
 def costs_in_neovim() -> None:
     want("Neovim")
     costs_by_vim("neovim", ["nvim"])
 
 
-@test("indentation: in Emacs a line near the end costs what it costs in a short text, and all lines cost in proportion")
+@test("indentation: in Emacs one line costs as much in a long text as in a short one; all lines cost in proportion")
 def costs_in_emacs() -> None:
     want("Emacs")
     with temporary() as room:

@@ -1,4 +1,4 @@
-"""Which crates `make check` leaves as they are: tools/build.py on a folder of kept files."""
+"""Tests which crates `make check` proves again and which it skips, with tools/build.py on a made-up repository."""
 from __future__ import annotations
 
 import contextlib
@@ -26,13 +26,14 @@ def write(path: str, text: str) -> None:
 
 
 def module(name: str, says: str, *seen: str) -> str:
-    """A module as the checker keeps it: a sum over what it says, and what it saw of others, are at its head."""
+    """Returns a module as the checker stores it. Its head contains a checksum of its statements, and the modules that
+    it has read (`seen`)."""
     saw = "".join(f"--@ saw {it} part part\n" for it in seen)
     return f"--@ module {name}\n--@ content sha256:{says.replace(' ', '-')}\n--@ exports sha256:names\n{saw}--@ axioms []\nwhat else is kept\n--@ saw Rattle-other-specs.Lib\n"
 
 
 def library(name: str, stamp: str, body: str = "a body", contract: str = "a contract", unseen: str = "a definition") -> None:
-    """A library, as `rt lib` leaves it: with each module that the checker made."""
+    """Writes a crate's library as `rt lib` does, with the modules that the checker stored."""
     folder = f"crates/{name}/out/rlib/{name}.rlib"
     says = {f"Rattle-{name}-proofs.f.Lts": body, f"Rattle-{name}-specs.contracts.f": contract, f"Rattle-{name}-specs.Unseen": unseen}
     modules = {it: module(it, says[it]) for it in says}
@@ -60,7 +61,7 @@ def current() -> List[str]:
 
 
 def plan() -> build.Plan:
-    """Returns what `make check` begins with."""
+    """Returns the plan with which `make check` begins."""
     found = build.Plan(True)
     found.ready([])
     return found
@@ -68,7 +69,8 @@ def plan() -> build.Plan:
 
 @contextlib.contextmanager
 def repository() -> Iterator[str]:
-    """A folder in place of the repository, with three crates and their libraries."""
+    """Makes a folder with the crates of CRATES and their libraries, uses it in place of the repository, and yields its
+    path."""
     with tempfile.TemporaryDirectory() as top, mock.patch.object(common, "TOP", top), mock.patch.object(build, "TOP", top):
         with mock.patch.object(common, "kit", lambda: "a kit"), mock.patch.object(build, "command", lambda *given: ["rt", "lib"]):
             write("HANDLES", "Handles allowed: none.\n")
@@ -81,7 +83,7 @@ def repository() -> Iterator[str]:
             yield top
 
 
-@test("kept: a crate that was proved is left until something that it rests on changes, or its library does")
+@test("kept: a proved crate is skipped until its sources, a crate that it depends on or its library changes")
 def left_as_it_is() -> None:
     with repository() as top:
         same(current(), [], "before anything was proved")
@@ -101,7 +103,7 @@ def left_as_it_is() -> None:
         same(current(), [], "after a change of what programs may use")
 
 
-@test("kept: a file that was written while its crate was proved doesn't count as proved")
+@test("kept: if a source changes while its crate is proved, the crate doesn't count as proved")
 def written_meanwhile() -> None:
     with repository():
         before = kept()
@@ -111,7 +113,7 @@ def written_meanwhile() -> None:
         same(current(), ["other"], "what rests on no source that was written")
 
 
-@test("kept: if only bodies changed, the crates above are skipped, and their libraries are built again for one that is proved again")
+@test("kept: if only bodies changed, dependent crates aren't proved again; their libraries are rebuilt when needed")
 def bodies_alone() -> None:
     with mock.patch.dict(CRATES, CHAIN), repository():
         keep_all(kept())
@@ -135,18 +137,18 @@ def bodies_alone() -> None:
         same(second.is_done, True, "and nothing else is")
 
 
-@test("kept: if a contract changed that the proofs of a crate have read, or if that isn't known, the crate is proved again")
+@test("kept: a crate is proved again if a contract that its proofs read changed, or if that is unknown")
 def contracts_too() -> None:
     with repository():
         keep_all(kept())
         path = "crates/low/out/rlib/low.rlib/"
         changes: Dict[str, Callable[[], None]] = {
             "a contract": lambda: library("low", "second", contract="another contract"),
-            "what the compiler reads": lambda: write(f"{path}interface/lang/src/lib.rt", "pub fn g();"),
+            "a file of the interface": lambda: write(f"{path}interface/lang/src/lib.rt", "pub fn g();"),
             "a module less": lambda: write(f"{path}toolchain/checked.json", ""),
             "an unknown form": lambda: write(f"{path}toolchain/checked.json", "modules\n"),
             "no library": lambda: shutil.rmtree(os.path.join(common.TOP, path)),
-            "not known what was read": lambda: os.remove(os.path.join(common.TOP, "crates/high/out/seen")),
+            "no list of read modules": lambda: os.remove(os.path.join(common.TOP, "crates/high/out/seen")),
         }
         for what, change in changes.items():
             library("low", "first")
@@ -155,9 +157,9 @@ def contracts_too() -> None:
             holds(not plan().kept["high"].has_read(build.Sums(CRATES).of_read("high")), what)
 
 
-@test("kept: if a definition changed that no proof of a crate has read, the crate is skipped")
+@test("kept: a crate is skipped if the only changed definitions are ones that its proofs don't read")
 def definitions_of_others() -> None:
     with repository():
         keep_all(kept())
         library("low", "second", unseen="another definition")
-        holds(plan().kept["high"].has_read(build.Sums(CRATES).of_read("high")), "high has read none of it")
+        holds(plan().kept["high"].has_read(build.Sums(CRATES).of_read("high")), "high hasn't read the definition")

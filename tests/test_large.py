@@ -1,4 +1,5 @@
-"""The largest accepted inputs, in `serve` and, if they are texts, in `check`: the answers are right, and nothing is refused."""
+"""Tests `serve` on the largest accepted inputs, and `check` on those that are texts: the results are correct, and
+nothing is refused."""
 from __future__ import annotations
 
 from collections.abc import Callable
@@ -20,7 +21,7 @@ for key, (full, of_size) in largest_inputs.CASES.items():
     make(key, full, of_size)
 
 
-@test("large: each text in `check`")
+@test("large: `check` reports the expected errors for each of the largest texts")
 def checked() -> None:
     for name, (size, text_of, wanted) in largest_inputs.TEXTS.items():
         text, diagnostics = text_of(size), wanted(size)

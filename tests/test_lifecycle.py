@@ -1,4 +1,5 @@
-"""The order of checks and the table of errors: JSON, shape, lifecycle, method, params; the command line itself."""
+"""Tests which error the server answers to a message. It checks JSON, shape, lifecycle, method and params in this order.
+Also tests the program's command line and help."""
 from __future__ import annotations
 
 import os
@@ -18,7 +19,7 @@ NOT_JSON = error(None, -32700, "not JSON")
 NO_MESSAGE = error(None, -32600, "not a message")
 MODULE = "MODULE M; END M."
 
-# name: what comes, what goes, the status
+# for each name the messages to the server, its messages, and the status
 TALKS: Dict[str, Tuple[List[Content], List[str], int]] = {
     "a request before initialize": ([HOVER], [error(5, -32002, "not initialized")], 1),
     "an unknown request before initialize": ([request(5, "x")], [error(5, -32002, "not initialized")], 1),
@@ -71,7 +72,7 @@ TALKS: Dict[str, Tuple[List[Content], List[str], int]] = {
         [FIRST],
         1,
     ),
-    "params of initialize that are no object leave the session as it was: BadParams": (
+    "params of initialize that are no object have no effect: BadParams": (
         [request(1, "initialize", []), request(1, "initialize"), initialize()],
         [error(1, -32602, "bad params"), error(1, -32602, "bad params"), FIRST],
         1,
@@ -119,13 +120,17 @@ TALKS: Dict[str, Tuple[List[Content], List[str], int]] = {
         1,
     ),
     "no JSON": (["", " ", "{", "[1,]", "nul", "{'a':1}", b"\xff", b'"\xc3"', "[]x"], [NOT_JSON] * 9, 1),
-    "no JSON is reported after shutdown too": ([initialize(), SHUTDOWN, "", "[]"], [FIRST, SHUT, NOT_JSON, NO_MESSAGE], 1),
+    "a text that isn't JSON is reported even after shutdown": (
+        [initialize(), SHUTDOWN, "", "[]"],
+        [FIRST, SHUT, NOT_JSON, NO_MESSAGE],
+        1,
+    ),
     "127 arrays in one another are JSON, 128 are not": (
         ["[" * 127 + "]" * 127, "[" * 128 + "]" * 128],
         [NO_MESSAGE, NOT_JSON],
         1,
     ),
-    "the member jsonrpc isn't looked at": (
+    "the member jsonrpc is ignored": (
         ['{"id":1,"method":"initialize","params":{}}', '{"id":2,"jsonrpc":"1","method":"shutdown"}'],
         [FIRST, SHUT],
         1,
@@ -187,7 +192,7 @@ Usage: ob0 check <FILE>
 }
 
 
-@test("program: command lines that are refused are status 2, with the reason on standard error")
+@test("program: a bad command line is refused with status 2 and the reason on standard error")
 def refused_lines() -> None:
     for line, said in REFUSED.items():
         found = run(line.split())
@@ -205,7 +210,7 @@ HELP_HEADS = {
 }
 
 
-@test("program: help is printed on standard output, status 0, and begins with what the command does and how it is used")
+@test("program: help goes to standard output with status 0, and begins with the command's purpose and usage")
 def helped() -> None:
     for command, (about, usage) in HELP_HEADS.items():
         words = command.split()
@@ -222,7 +227,7 @@ PAGES = [
     "in share/doc/ob0 below the folder that ob0 was installed in:",
     "/usr with the Debian package, otherwise /usr/local, ~/.local or another PREFIX.",
 ]
-# what the help of a command has, and its statuses
+# for each command the statuses in its help, and texts in it
 HELP = {
     "": ("012345", ["serve ", "check ", "run ", "rename ", "help COMMAND"]),
     "serve": ("012345", ["--stdio", "--clientProcessId <N>", "UTF-16 units"]),
@@ -232,7 +237,7 @@ HELP = {
 }
 
 
-@test("program: help of each command says what it needs, what it prints and its statuses, in lines of a terminal's width")
+@test("program: each command's help explains its arguments, output and statuses, with options in 80 columns")
 def explained() -> None:
     for command, (statuses, parts) in HELP.items():
         said = run([*command.split(), "--help"]).out.decode()
@@ -243,7 +248,7 @@ def explained() -> None:
         same(wide, [], f"lines of {command} that are too wide")
 
 
-@test("program: `serve` takes the options that clients add, any number of times, and speaks as without them")
+@test("program: `serve` accepts and ignores the options that clients add, any number of times")
 def options_of_serve() -> None:
     given = frame(initialize()) + frame(SHUTDOWN) + frame(EXIT)
     wanted = run(["serve"], given).out
@@ -256,7 +261,7 @@ def options_of_serve() -> None:
     same(run(["run", "--stdio", "x"]).status, 2, "the status of another command with it")
 
 
-@test("program: `run` says on standard error how input ends, where that is a terminal and there is something to run")
+@test("program: at a terminal `run` says on standard error how to end the input, if the module is valid")
 def prompted() -> None:
     def at_terminal(text: str, command: str = "run", *more: str) -> tuple[bytes, bytes, int]:
         with tempfile.TemporaryDirectory() as room:
@@ -279,9 +284,24 @@ def prompted() -> None:
         holds(said.decode().strip() in page, "a page that doesn't have this line")
 
 
-@test("program: the version is printed on standard output, status 0, and is that of CHANGELOG.md and of the manual page")
+@test("program: at a terminal `serve` says on standard error that an editor starts it")
+def served_at_terminal() -> None:
+    same(run(["serve"]).err, b"", "standard error if standard input is no terminal")
+    keys, terminal = os.openpty()
+    os.write(keys, b"\x04")
+    how: dict[str, Any] = {"stdin": terminal, "capture_output": True, "timeout": harness.SECONDS}
+    ran = subprocess.run([harness.BINARY, "serve"], check=False, **how)
+    os.close(keys)
+    os.close(terminal)
+    said = "ob0: an editor starts `ob0 serve` and talks to it (Ctrl-D ends it)"
+    same((ran.stdout, ran.stderr, ran.returncode), (b"", f"{said}\n".encode(), 1), "both outputs and the status")
+    for page in (text_of("docs", "MESSAGES.md"), text_of("share", "ob0.1").replace("\\-", "-")):
+        holds(said in page, "a page that doesn't have this line")
+
+
+@test("program: `--version` prints the version that CHANGELOG.md and the manual page have")
 def version() -> None:
-    # (where no version was released yet, it is the first one)
+    # (if no version was released yet, it is the first one)
     released = re.search(r"^## (\d+\.\d+\.\d+)", text_of("CHANGELOG.md"), re.M)
     number = released.group(1) if released else "0.1.0"
     for flag in ("--version", "-V"):
@@ -291,7 +311,7 @@ def version() -> None:
     same(heading and heading.group(1), number, "the version of the manual page")
 
 
-@test("program: a word that is not UTF-8 is a command line that is refused, the program's name too")
+@test("program: a command line with a word that is not UTF-8, even the program's name, is refused")
 def no_text() -> None:
     for words in ([b"ob0", b"check", b"\xff"], [b"ob0", b"\xc3"], [b"ob0", b"help", b"a\xed\xa0\x80"], [b"\xff", b"--help"], [b"o\xfe", b"serve"]):
         how: dict[str, Any] = {"executable": harness.BINARY, "stdin": subprocess.DEVNULL, "capture_output": True, "timeout": harness.SECONDS}
@@ -299,7 +319,7 @@ def no_text() -> None:
         same((ran.stdout, ran.stderr, ran.returncode), (b"", b"error: a word of the command line isn't UTF-8\n", 2), repr(words))
 
 
-@test("program: help or a version that can't be written is a fault of writing")
+@test("program: if help or the version can't be written, the program ends with `fault: Write` and status 4")
 def not_written() -> None:
     for words in (["--help"], ["help"], ["help", "run"], ["rename", "-h"], ["--version"]):
         with open("/dev/full", "wb") as device:
@@ -308,7 +328,7 @@ def not_written() -> None:
         same((ran.stderr, ran.returncode), (b"fault: Write\n", 4), f"ob0 {' '.join(words)}")
 
 
-@test("program: a refusal that can't be written keeps its status")
+@test("program: a refused command line has status 2 even if the reason can't be written")
 def not_reported() -> None:
     with open("/dev/full", "wb") as device:
         how: dict[str, Any] = {"stdin": subprocess.DEVNULL, "stdout": subprocess.PIPE, "stderr": device, "timeout": harness.SECONDS}

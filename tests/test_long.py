@@ -1,4 +1,4 @@
-"""Conversations of random changes and questions; `make faults` has longer ones."""
+"""Tests the server with conversations of random changes and questions. (`make faults` runs longer ones.)"""
 from __future__ import annotations
 
 import long_conversation
@@ -6,11 +6,11 @@ import several_documents
 from harness import test
 
 
-@test("long: 1,500 changes and questions, each publication as a new `check` has it, and memory that doesn't grow")
+@test("long: over 1,500 changes and questions the diagnostics equal a new `check`'s, and memory doesn't grow")
 def talk() -> None:
     long_conversation.converse(1500, seed=1)
 
 
-@test("long: 800 messages about several documents, each answer the same as a new server's")
+@test("long: in 800 messages about several documents each answer is the same as a new server's")
 def several() -> None:
     several_documents.converse(800, seed=1)

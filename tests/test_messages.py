@@ -1,4 +1,4 @@
-"""docs/MESSAGES.md: each row is what the program says."""
+"""Tests that docs/MESSAGES.md agrees with what the program prints."""
 from __future__ import annotations
 
 import os
@@ -39,38 +39,67 @@ from snippets import FENCED
 
 PAGE = text_of("docs", "MESSAGES.md")
 CODE = re.compile(r"`([^`]*)`")
+END = "at the end of the text"
 DEEP = "x := " + "(" * 101 + "1" + ")" * 101
 LONGEST = 1048576
 
 
 def code_in(cell: str) -> str:
-    """The code that a cell begins with."""
+    """Returns the text in backticks at the beginning of a table's cell."""
     found = CODE.match(cell)
     holds(found, f"no code in {cell}")
     return found[1] if found else ""
 
 
 def section(title: str) -> str:
-    """The part of the page under a heading, up to the next one of its level or above."""
+    """Returns the page's text below a heading, up to the next heading of the same or a higher level."""
     level = match_of(rf"^(#+) {re.escape(title)}$", PAGE, re.M)
     rest = PAGE[level.end() :]
     return re.split(rf"^#{{1,{len(level[1])}}} ", rest, maxsplit=1, flags=re.M)[0]
 
 
+def tables(title: str) -> Iterator[tuple[list[str], list[list[str]]]]:
+    """Yields, for each table of a section, the cells of its head and the cells of each row."""
+    for lines in re.findall(r"(?:^\|.*\n)+", section(title), re.M):
+        heads, _, *listed = map(manual_page.cells_of, lines.splitlines())
+        yield heads, listed
+
+
 def rows(title: str) -> list[list[str]]:
-    """The cells of the rows of a section's table, without its head."""
-    lines = [it for it in section(title).splitlines() if it.startswith("|")][2:]
-    return [[cell.strip().replace(r"\|", "|") for cell in re.split(r"(?<!\\)\|", it)[1:-1]] for it in lines]
+    """Returns the cells of each row of all tables in a section."""
+    return [it for _, listed in tables(title) for it in listed]
 
 
 def module_of(title: str) -> str:
-    """The module of a section."""
+    """Returns the module in the first code block of a section."""
     found = FENCED.search(section(title))
     holds(found, f"there is no module in {title}")
     return found[2] if found else ""
 
 
 STATEMENTS, DECLARATIONS = module_of("Statements"), module_of("Declarations")
+MODULES = {"Statements": STATEMENTS, "Declarations": DECLARATIONS, "Whole texts": None}
+# texts that are too long for a row
+FAR = {"TooLong": "x".ljust(LONGEST + 1), "TooDeep": STATEMENTS.replace("...", DEEP)}
+
+
+def codes_of_messages() -> dict[str, str]:
+    """Returns the code of each message in the table of errors. A row gives a code for each of its messages, or one code
+    for all."""
+    found: dict[str, str] = {}
+    for messages, codes, _ in rows("Errors"):
+        listed, given = CODE.findall(messages), CODE.findall(codes)
+        found.update(zip(listed, given * len(listed) if len(given) == 1 else given))
+    return found
+
+
+def slips(title: str) -> Iterator[tuple[list[str], str, list[str]]]:
+    """Yields, for each row of a section, its snippets, the expected message, and the text at which each error is
+    reported. If a table's head gives a message, it holds for all rows."""
+    for heads, listed in tables(title):
+        for written, what, _ in listed:
+            message, *at = [*CODE.findall(heads[1]), *CODE.findall(what)]
+            yield CODE.findall(written), message, [END] if what.endswith(END) else at
 
 
 def filled(module: str, snippet: str) -> str:
@@ -78,7 +107,8 @@ def filled(module: str, snippet: str) -> str:
 
 
 def reported(text: str) -> list[tuple[str, str, str]]:
-    """What `check` reports of a text: codes, messages and what is at their places."""
+    """Returns the errors that `check` reports in a text: the code, the message, and the rest of the line, starting at
+    the error."""
     found = on_file("check", text)
     lines, said = text.split("\n"), []
     for said_line in found.out.decode().splitlines():
@@ -89,66 +119,59 @@ def reported(text: str) -> list[tuple[str, str, str]]:
 
 
 def first(snippet: str, module: str | None) -> tuple[str, str, str]:
-    """Returns the first diagnostic of a snippet in a module."""
+    """Returns the first error that `check` reports in a snippet, put in a module if one is given."""
     text = filled(module, snippet) if module else snippet
     return (reported(text) or [("", "nothing", "")])[0]
 
 
 def mistakes(title: str, module: str | None) -> None:
-    """Compares each row of a section with the first error that `check` reports, or with the fault of a run of it in a module."""
-    for written, what, _ in rows(title):
-        snippet, found = code_in(written), CODE.findall(what)
-        if what.startswith("nothing by `check`"):
-            same(found[0::2], ["check", "run"], f"the commands in {what}")
-            text = filled(module or "...", snippet)
+    """Compares each row of a section with the first error that `check` reports, or with the fault that ends a run."""
+    codes = codes_of_messages()
+    for snippets, message, places in slips(title):
+        same(len(places), 2 if message == "check" else len(snippets), f"places of {snippets}")
+        if message == "check":
+            fault, command = places
+            same(command, "run", f"the command that reports {fault}")
+            text = filled(module or "...", snippets[0])
             ends(on_file("check", text), "", 0)
-            ends(on_file("run", text), "", 1, found[1] + "\n")
+            ends(on_file("run", text), "", 1, fault + "\n")
             continue
-        _, said, rest = first(snippet, module)
-        if what.endswith("at the end of the text"):
-            same(([said], rest), (found, ""), f"the report about {snippet}")
-            continue
-        message, at = found
-        same((said, rest[: len(at)]), (message, at), f"the report about {snippet}")
+        for snippet, at in zip(snippets, places):
+            code, said, rest = first(snippet, module)
+            shown = rest[: len(at)] if at != END else rest or at
+            same((code, said, shown), (codes[message], message, at), f"the report about {snippet}")
 
 
-@test("messages: what beginners write in statements, declarations and whole texts is reported as the page says")
+@test("messages: beginners' mistakes in statements, declarations and whole texts are reported as docs/MESSAGES.md says")
 def beginners() -> None:
-    mistakes("Statements", STATEMENTS)
-    mistakes("Declarations", DECLARATIONS)
-    mistakes("Whole texts", None)
+    for title, module in MODULES.items():
+        mistakes(title, module)
     for module, snippet in ((STATEMENTS, "x := 1"), (DECLARATIONS, "VAR x: INTEGER;")):
         same(reported(filled(module, snippet)), [], "the report about a module without a mistake")
     same(first("\ufeffMODULE M; END M.", None)[:2], ("BadChar", "bad character"), "a byte order mark")
     same(first("x := y\u00a0+ 1", STATEMENTS), ("BadChar", "bad character", "\u00a0+ 1"), "a no-break space")
 
 
-@test("messages: the index has each message of `check` that the page explains, and no other")
-def indexed() -> None:
-    listed = {it for row in rows("Index by message") for it in CODE.findall(row[0])}
-    shown = {CODE.findall(row[1])[0] for title in ("Statements", "Declarations", "Whole texts") for row in rows(title)}
-    explained = {code_in(row[1]) for row in rows("Diagnostics")} | shown - {"check"}
-    same(sorted(explained - listed), [], "messages that aren't in it")
-    same(sorted(listed - explained), sorted(["fault: NAME", "refused: NAME", "error: ..", "ill-typed", "out of step"]), "others in it")
+@test("messages: the table of errors has each code and message, and the page shows a mistake for each message")
+def errors_listed() -> None:
+    codes = codes_of_messages()
+    same({code: it for it, code in codes.items() if code != "Syntax"}, harness.MESSAGES, "the codes")
+    by_words = [it for it in codes if it.startswith("expected ")]
+    same(by_words, [it for it in codes if codes[it] == "Syntax"], "the errors of syntax")
+    shown = {message for title in MODULES for _, message, _ in slips(title)} - {"check"}
+    same(sorted({*codes} - shown), sorted(harness.MESSAGES[it] for it in FAR), "messages without a row")
+    same(sorted(shown - {*codes}), [], "messages that aren't in the table")
 
 
-@test("messages: each diagnostic is on the page, with its message and an example")
-def diagnostics() -> None:
-    listed = rows("Diagnostics")
-    same(sorted(code_in(it[0]) for it in listed), sorted([*harness.MESSAGES, "Syntax"]), "the codes")
-    others = {"TooLong": "x".ljust(LONGEST + 1), "TooDeep": filled(STATEMENTS, DEEP)}
-    for code, message, _, example, at in listed:
-        name, said = code_in(code), code_in(message)
-        if name in others:
-            same(first(others[name], None)[:2], (name, said), name)
-            continue
-        snippet = code_in(example)
-        module = DECLARATIONS if re.match("(CONST|TYPE|VAR|PROCEDURE)", snippet) else STATEMENTS
-        found, where = first(snippet, module), code_in(at)
-        same((found[0], found[1], found[2][: len(where)]), (name, said, where), f"the report about {snippet}")
+@test("messages: a text that is too long or too deeply nested is reported with the page's code and message")
+def far_over() -> None:
+    codes = codes_of_messages()
+    for code, text in FAR.items():
+        found, message, _ = first(text, None)
+        same((found, codes.get(message)), (code, code), code)
 
 
-@test("messages: each end of a run is on the page, with an example")
+@test("messages: docs/MESSAGES.md lists each way in which a run can end, and its example of each does end so")
 def run_ends() -> None:
     names, (*listed, endless) = [], rows("Ends of a run")
     for end, _, _, body, numbers in listed:
@@ -172,33 +195,27 @@ def run_ends() -> None:
         holds(flags in page, f"{name} has no {flags}")
 
 
-@test("messages: each rule of the hints has a row that gets its hint, and each row with `expected END` has a hint")
-def rules_and_rows() -> None:
+@test("messages: for each hint the page has a row that gets it, and each row with `expected END` gets a hint")
+def cases_and_rows() -> None:
     need_program()
-    modules = {"Statements": STATEMENTS, "Declarations": DECLARATIONS, "Whole texts": None}
     given: list[ob0_hints.Rule] = []
     with Server() as server:
-        for title, module in modules.items():
-            for written, _, explained in rows(title):
-                snippet = code_in(written)
+        for title, module in MODULES.items():
+            holds(all(it[2] for it in rows(title)), f"a row of {title} without an explanation")
+            for snippet in (it for snippets, _, _ in slips(title) for it in snippets):
                 found = first_error(server, filled(module, snippet) if module else snippet)
                 if found and found.message == "expected END":
                     holds(found.hint, f"no hint for {snippet}")
-                if found and found.rule and found.rule["see"] == snippet:
+                if found and found.rule:
                     given.append(found.rule)
-                    holds(explained, f"no explanation of {snippet}")
-    listed = {(it["see"], it["hint"]): it for rules in ob0_hints.rules().values() for it in rules}
-    same(
-        sorted(it for it in listed if listed[it] not in given), [], "rules whose rows are missing or have another hint"
-    )
-    same(len({it["see"] for it in listed.values()}), len(listed), "how many rows the rules have")
+    same([it for rules in ob0_hints.rules().values() for it in rules if it not in given], [], "cases without a row")
 
 
 TITLES = ["Inline here", "Inline everywhere"]
 
 
 def offered(text: str, at: Message) -> list[str]:
-    """The code actions that are offered at a place."""
+    """Returns the titles of the code actions that the server offers at a position."""
     with Server(capabilities={"textDocument": {"codeAction": {"codeActionLiteralSupport": {}}}}) as server:
         same(server.notify(did_open(text)), [], "the diagnostics")
         params = {"textDocument": {"uri": "file:///m"}, "range": {"start": at, "end": at}, "context": {"diagnostics": []}}
@@ -206,7 +223,7 @@ def offered(text: str, at: Message) -> list[str]:
 
 
 def refused_inlinings() -> None:
-    """Inlinings that aren't offered, for reasons that only an inlining can have."""
+    """Tests that inlinings aren't offered for reasons that a rename can't have."""
     deep = "MODULE M;\nCONST c = -1;\nBEGIN Write(" + "(" * 100 + "c" + ")" * 100 + ") END M.\n"
     same(offered(deep, place(2, 112)), [], "an inlining that nests too deep")
     shadowed = "MODULE M;\nCONST c = TRUE;\nPROCEDURE P;\nVAR TRUE: BOOLEAN;\nBEGIN TRUE := c\nEND P;\nEND M.\n"
@@ -215,13 +232,13 @@ def refused_inlinings() -> None:
     same(offered(inside, place(2, 12)), TITLES[:1], "an inlining of a declaration with a comment")
 
 
-@test("messages: each refusal is on the page, with an example")
+@test("messages: docs/MESSAGES.md lists each refusal of a rename or an inlining, and its examples are refused so")
 def refusals() -> None:
     title = "Refusals of a rename or an inlining"
     module, listed = module_of(title), rows(title)
     defined = re.findall(r"^\| `(\w+)", text_of("docs", "PROTOCOL.md").partition("## Refusals of edits")[2].partition("\n## ")[0], re.M)
     same([code_in(it[0]).split()[0] for it in listed], defined, "the refusals")
-    for reason, _, example in listed:
+    for reason, _, _, example in listed:
         if example.startswith("`"):
             words = code_in(example).split()
             same(words[:3], ["ob0", "rename", "m.mod"], "the command")
@@ -232,7 +249,7 @@ def refusals() -> None:
 
 
 def faults_of_files() -> Iterator[tuple[str, harness.Ended]]:
-    """The faults of the commands on files, each as it is had."""
+    """Yields the name of each fault of a command, with the result of a run that ends with it."""
     good = "MODULE M; VAR x: INTEGER; BEGIN Read(x); Write(x) END M.\n"
     yield "File", run(["check", "/nowhere/m.mod"])
     yield "Utf8", on_file("check", good.encode("utf-16"))
@@ -248,7 +265,7 @@ def faults_of_files() -> Iterator[tuple[str, harness.Ended]]:
 
 
 def run_into(device: IO[bytes], words: list[str]) -> harness.Ended:
-    """A run of the program whose standard output is this device."""
+    """Runs the program with the given device as its standard output."""
     how: dict[str, Any] = {"stdin": subprocess.DEVNULL, "stdout": device, "stderr": subprocess.PIPE}
     ran = subprocess.run([harness.BINARY, *words], timeout=harness.SECONDS, check=False, **how)
     return harness.Ended(b"", ran.stderr, ran.returncode)
@@ -273,7 +290,7 @@ ASKED: Message = {"textDocument": {"uri": "file:///m"}, "position": place(0, 7)}
 
 
 def conversations() -> Iterator[tuple[str, list[Content]]]:
-    """A conversation for each error of the protocol, and the one that is to come in it."""
+    """Yields the message of each error of the protocol, with a conversation in which the server answers it."""
     hover = request(2, "textDocument/hover", ASKED)
     opened = [initialize(), did_open(FAULTY)]
     yield "ill-typed", [*opened, request(2, "textDocument/rename", {**ASKED, "newName": "N"})]
@@ -300,26 +317,33 @@ def protocol() -> None:
         holds(f'"error":{{"code":{listed[message]},"message":"{message}"}}' in found[0], f"{message}: {found[0]}")
 
 
-@test("messages: the manual page that is made from the page has each row of its tables, under its first cell")
+@test("messages: the manual page made from docs/MESSAGES.md has an entry for each row of its tables")
 def made_manual() -> None:
     made = package.messages_page().decode()
-    # (each table has a line of heads and one of dashes)
+    # (each table has a line of heads and one of dashes; a row of several snippets or codes is as many rows)
     lines = [it for it in PAGE.splitlines() if it.startswith("|")]
-    same(made.count("\n.TP\n"), len(lines) - 2 * sum(it.startswith("|---") for it in lines), "how many rows")
-    for title in ("Index by message", "Statements", "Declarations", "Whole texts", "Ends of a run"):
-        for row in rows(title):
-            holds(f"\n.TP\n{manual_page.inline(row[0])}\n" in made, f"no row {row[0]}")
+    more = [len(snippets) - 1 for title in MODULES for snippets, _, _ in slips(title)]
+    more += [len(CODE.findall(codes)) - 1 for _, codes, _ in rows("Errors")]
+    count = len(lines) - 2 * sum(it.startswith("|---") for it in lines) + sum(more)
+    same(made.count("\n.TP\n"), count, "the number of rows")
+    for row in (it for title in ("Ends of a run", "Faults of the program") for it in rows(title)):
+        holds(f"\n.TP\n{manual_page.inline(row[0])}\n" in made, f"no row {row[0]}")
+    for snippets, message, places in (it for title in MODULES for it in slips(title)):
+        for snippet, at in zip(snippets, places):
+            said = f"`{message}` {END}" if at == END else f"`{message}` at `{at}`"
+            said = f"nothing by `check`, `{at}` by `run`" if message == "check" else said
+            holds(f"\n.TP\n{manual_page.inline(f'`{snippet}`')}\n{manual_page.inline(said)}" in made, f"no row {snippet}")
 
 
 # the files that put the answers of an editor's server into words
 IN_WORDS = ["neovim/lua/ob0.lua", "vscode/extension.js", "emacs/ob0-mode.el", "vim/ale_linters/ob0/ob0.vim"]
 
 
-@test("messages: each refusal has words, and each editor's files that show it have the same")
+@test("messages: the page words each refusal, and each editor file that shows refusals has the same words")
 def in_words() -> None:
-    told = {code_in(answer): words for answer, words in rows("What editors show")}
-    listed = [code_in(it[0]).split()[0] for it in rows("Refusals of a rename or an inlining")]
-    same(list(told), [*listed, "ill-typed"], "the answers")
+    told = {code_in(reason).split()[0]: words for reason, words, _, _ in rows("Refusals of a rename or an inlining")}
+    told.update({code_in(it): words for it, _, words in rows("Messages in an editor") if it == "`ill-typed`"})
+    same(len(told), 10, "answers with words")
     for path in IN_WORDS:
         text = text_of("editors", path)
         for answer, words in told.items():
@@ -328,7 +352,7 @@ def in_words() -> None:
         holds(len(words.replace("NAME", "total").replace("LINE", "100")) <= 75, f"the words of {answer} are too long")
 
 
-@test("messages: the manual page has each code, end, refusal and fault")
+@test("messages: ob0's manual page mentions each error code, each end of a run, each refusal and each fault")
 def manual() -> None:
     page = re.sub(r"\\f.", "", text_of("share", "ob0.1").replace("\\-", "-"))
     titles = ("Ends of a run", "Refusals of a rename or an inlining", "Faults of the program")

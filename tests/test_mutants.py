@@ -1,5 +1,5 @@
-"""How tools/mutants.py reads what the prover says of a mutant, on recorded lines: what counts as refused, what is tried again, and
-which rows of tools/mutants.txt are of the present sources."""
+"""Tests how tools/mutants.py judges recorded output of the prover: which mutants count as refused, which are tried
+again, and which lines of tools/mutants.txt are stale."""
 from __future__ import annotations
 
 import contextlib
@@ -8,6 +8,7 @@ import os
 import random
 import re
 import shutil
+import signal
 import subprocess
 import sys
 import tempfile
@@ -25,9 +26,10 @@ import renaming
 import sums
 import verdicts
 from checks import Said
-from harness import TOP, Failed, holds, same, test, want
+from harness import TOP, Failed, awaited, holds, is_running, same, test, text_of, want
+from homes import copy, write
 
-# Whether no row may be stale.
+# If it is set, no row may be stale.
 ALL_ARE_TRIED = False
 MUTANT = "units_are_characters"
 GOAL = "note: src/passes.rt:120:1: it is not proved that what the function ensures holds when it returns (`returns-in-Utf16`)\n"
@@ -39,12 +41,13 @@ CLAIM = "# Offsets count characters: refused by the clause of `character_width`,
 
 
 def edit_of(crate: str, word: str, source: reading.Source) -> edits.Edit:
-    """The mutant of a crate with a word in its path."""
+    """Returns the crate's first mutant whose path contains the word."""
     return next(it for it in edits.edits_of(crate, source) if word in it.name)
 
 
 def judged(said: str, status: int = 1, first_line: str = CLAIM, alone: bool = True) -> Optional[str]:
-    """The word for what a check says of one mutant."""
+    """Returns the verdict's word for a mutant of `character_width` after a check with this output, or None if the
+    mutant has to be tried again."""
     source = reading.Source("ob0_text")
     edit = edit_of("ob0_text", MUTANT, source)
     edit.claim = edits.claim_of(first_line)
@@ -52,7 +55,7 @@ def judged(said: str, status: int = 1, first_line: str = CLAIM, alone: bool = Tr
     return found.word if found else None
 
 
-@test("mutants: one counts as refused by a goal of the clause of the function that its first line names")
+@test("mutants: a mutant counts as refused if a goal of the clause and function in its first line is unproved")
 def refused() -> None:
     same(judged(REFUSED), mutants.REFUSED, "a goal of the clause")
     named = "# Wrong: refused by `ok` and `reused` of `character_width`, since.\n"
@@ -62,7 +65,7 @@ def refused() -> None:
     same(judged(REFUSED, first_line="# Wrong: refused by the one goal of `character_width`.\n"), mutants.REFUSED, "the one goal of several clauses")
 
 
-@test("mutants: one counts as refused by an answer that doesn't prove a goal of the clause, unless the answer names what is gone")
+@test("mutants: a failed answer to a goal of the clause counts as a refusal, unless it cites a name that is missing")
 def refused_by_answer() -> None:
     error = "./proofs/passes/character_width/Answers.antt:9:3: error: `returns-in-Utf16`: "
     end = "fn ob0_text::passes::character_width: not proved\nonly=1 proved=0\n"
@@ -72,25 +75,25 @@ def refused_by_answer() -> None:
     same(judged(error + "record `View` has no field `len_utf16`\n" + end), mutants.ELSEWHERE, "a name that is gone")
 
 
-# An answer that names a goal which the edit takes away: the prover breaks its message off before it says so.
+# An answer about a goal that the edit removed: the prover continues the message on further lines.
 GONE = """./proofs/{at}/Answers.antt:25:23: error: `{goal}`: `goal.{goal}`: module
   `Rattle.{crate}.proofs.{at}`
   has no `{goal}` that can be named from here
 """
 
 
-@test("mutants: a name that is gone is found in the whole message, however the prover breaks it into lines")
+@test("mutants: a missing name is recognized even if the prover's message about it spans several lines")
 def gone_in_later_line() -> None:
     end = "fn ob0_text::passes::character_width: not proved\nonly=1 proved=0\n"
     said = GONE.format(at="passes/character_width", goal="returns-in-Utf16", crate="ob0_text") + end
     same(judged(said), mutants.ELSEWHERE, "a goal that is gone")
     same(judged(said.replace("module\n  ", "module ")), mutants.ELSEWHERE, "in two lines")
     other = "./proofs/passes/character_width/Answers.antt:9:3: error: `returns-in-Utf16`: the two types differ\n"
-    same(judged(said.replace(end, other + end)), mutants.REFUSED, "an answer that fails beside it")
+    same(judged(said.replace(end, other + end)), mutants.REFUSED, "another answer that fails")
     same(checks.messages_of("a\n  b\nc\n\n d\n"), ["a b", "c", "", " d", ""], "messages")
 
 
-@test("mutants: the proof of methods that call each other is below their type")
+@test("mutants: the proof of methods that call each other is found in their type's folder")
 def proof_of_cycle() -> None:
     errors = [f"./proofs/{at}/+blocks/Answers.antt:9:3: error: `block-returns`: a type" for at in ("low/Visit", "low", "other/Visit")]
     said = Said("\n".join(errors), 1)
@@ -104,10 +107,11 @@ def proof_of_cycle() -> None:
     same(said.proof_errors("ob0_run_lowering::programs::count", "programs::count"), errors[:1], "of a function that calls itself")
 
 
-@test("mutants: one that is made right again, doesn't compile, can't be read or isn't judged is not refused")
+@test("mutants: a mutant that is still proved, doesn't compile or gets no verdict doesn't count as refused")
 def not_refused() -> None:
     proved = "fn ob0_text::passes::character_width: proved\nonly=1 proved=1\n"
-    same((judged(proved, 0), judged(proved, 0, alone=False)), (mutants.PROVED, None), "a function that is proved, alone and among others")
+    found = judged(proved, 0), judged(proved, 0, alone=False)
+    same(found, (mutants.PROVED, None), "a function that is proved, by itself and among others")
     line = edit_of("ob0_text", MUTANT, reading.Source("ob0_text")).lines.popitem()[0][1]
     said = f"src/passes.rt:{line}:9: error[unresolved-name]: cannot find `units` in this scope\n"
     same(judged(said), mutants.NOT_JUDGED, "an error of the compiler")
@@ -123,7 +127,7 @@ def not_refused() -> None:
     same(judged(uncovered), mutants.NOT_JUDGED, "a body that the checker doesn't cover")
 
 
-@test("mutants: one that another clause, another function, a `requires` of a callee or lost names refuse is refused elsewhere")
+@test("mutants: a refusal by another clause or function, a callee's `requires` or missing names counts as elsewhere")
 def elsewhere() -> None:
     for goal in ("returns-clause-ok", "loop-c-preserved", "count-requires-clause-few", "count-requires-returns"):
         same(judged(REFUSED.replace("returns-in-Utf16", goal)), mutants.ELSEWHERE, goal)
@@ -132,7 +136,7 @@ def elsewhere() -> None:
     same(judged(REFUSED.replace("passes::character_width", "passes::other")), mutants.ELSEWHERE, "another function")
 
 
-@test("mutants: a first line that names no clause, and one that names a function that isn't changed, are no claims")
+@test("mutants: a first line without a clause is no claim; a claim's function is matched by whole names of its path")
 def claims() -> None:
     width = next(it for it in reading.Source("ob0_text").functions if it.path == "passes::character_width")
     same(edits.claim_of("# Wrong: refused.\n"), None, "no clause")
@@ -145,7 +149,7 @@ def claims() -> None:
     same({it: edits.clause_of(it) for it in words}, words, "the words for goals")
 
 
-@test("mutants: a method of a trait is asked for by the checker's name for it, as its folder of proofs has it")
+@test("mutants: a trait's method is checked under the checker's name for it, which is also its proof's folder")
 def asked_of_trait() -> None:
     found = 0
     for crate in ("ob0_text", "ob0_rpc", "ob0_session_answers"):
@@ -163,10 +167,10 @@ def asked_of_trait() -> None:
     same([it.checked_as for it in turned or ()], ["diagnostics::PublishDiagnosticsRequestDocumentRequest::answer"], "of a type with a lifetime")
 
 
-@test("mutants: a method is asked for, and named, in the module of its type")
+@test("mutants: a method is checked and named under its type's module, even if another file implements it")
 def asked_of_type() -> None:
     found = [it for it in reading.Source("ob0_run_lowering").functions if it.name in ("locate_var_argument", "number_or_zero")]
-    same([it.file for it in found], ["src/statement_operands.rt"] * 2, "where they are")
+    same([it.file for it in found], ["src/statement_operands.rt"] * 2, "their files")
     same(sorted(it.checked_as for it in found), ["scene::Scene::locate_var_argument", "statement_operands::number_or_zero"], "their names")
     named = {it.name: it.is_named("ob0_run_lowering::scene::Scene::locate_var_argument") for it in found}
     same(named, {"locate_var_argument": True, "number_or_zero": False}, "which of them is meant")
@@ -203,12 +207,12 @@ pub fn other(n: u64) -> u64
     next(next(n))
 }}
 """
-EDIT = "# The number stays: refused by `more` of `next`.\nfile: src/lib.rt\nold:     n + 1\nnew:     n\n"
+EDIT = "# The number is unchanged: refused by `more` of `next`.\nfile: src/lib.rt\nold:     n + 1\nnew:     n\n"
 
 
 @contextlib.contextmanager
 def small_crate(**changed: str) -> Iterator[str]:
-    """A folder with one made-up crate, in place of the repository."""
+    """Lets a temporary folder with one made-up crate stand in for the repository. Yields the folder."""
     with tempfile.TemporaryDirectory() as top, mock.patch.object(common, "TOP", top):
         with mock.patch.object(definitions, "CRATES", os.path.join(top, "crates")):
             write_crate(top, **changed)
@@ -216,11 +220,11 @@ def small_crate(**changed: str) -> Iterator[str]:
 
 
 def write_crate(top: str, edit: str = EDIT, **changed: str) -> None:
-    """Writes the crate's files."""
+    """Writes the files of the made-up crate into a folder, with the given changes."""
     specs = changed.pop("specs", SPECS).format(size=1)
     for folder in ("src", "specs", edits.OTHERS, edits.OF_KIT):
         os.makedirs(os.path.join(top, "crates", "ob0_small", folder), exist_ok=True)
-    texts = {"crates.txt": "ob0_small:\n", f"crates/ob0_small/{edits.OTHERS}/stays.edit": edit}
+    texts = {"crates.txt": "ob0_small:\n", f"crates/ob0_small/{edits.OTHERS}/unchanged.edit": edit}
     texts["crates/ob0_small/src/lib.rt"] = SOURCE.format(**{"said": "counted", "limit": "9", "steps": "2", "name": "n", **changed})
     texts["crates/ob0_small/specs/Numbers.antt"] = specs
     for name, text in texts.items():
@@ -228,7 +232,7 @@ def write_crate(top: str, edit: str = EDIT, **changed: str) -> None:
             file.write(text)
 
 
-PATH = f"ob0_small/{edits.OTHERS}/stays.edit"
+PATH = f"ob0_small/{edits.OTHERS}/unchanged.edit"
 REFUSED_BY = "returns-clause-more of next"
 # A definition that a contract names, and one that this one names.
 SPECS = """pub abbrev next_of : N → N
@@ -242,7 +246,7 @@ other n = n
 """
 
 
-@test("mutants: a row is of the present sources until the function, its contract, a definition of it or the mutant changes")
+@test("mutants: a line of mutants.txt is stale if the function, its contract, a definition of it or the mutant changes")
 def current() -> None:
     with small_crate() as top:
         rows = os.path.join(top, "mutants.txt")
@@ -260,7 +264,7 @@ def current() -> None:
             "a definition": ({"specs": SPECS.replace("= step n", "= step (step n)")}, True),
             "a definition of the same crate below it": ({"specs": SPECS.replace("n + ", "1 + n + ")}, True),
             "its contract": ({"limit": "8"}, True),
-            "the words of its first line": ({"edit": EDIT.replace("stays", "is kept")}, False),
+            "the words of its first line": ({"edit": EDIT.replace("unchanged", "the same")}, False),
             "the clause of its first line": ({"edit": EDIT.replace("`more`", "`few`")}, True),
             "the mutant": ({"edit": EDIT.replace("new:     n", "new:     n + 2")}, True),
         }
@@ -274,20 +278,20 @@ def current() -> None:
         same(found.stale, [PATH], "one whose row is of a function that it doesn't change")
 
 
-@test("mutants: the local names of a function are its parameters and those of its patterns, and no field, path or function")
+@test("mutants: local names are a function's parameters and the names in its patterns, not fields, paths or functions")
 def local_names() -> None:
     words = sums.EDIT_WORD.findall(
         "fn f(a: T, mut b: U) { let (c, d) = a.e; match c { Some(g) if h => g, Pair { i, j: k } | l::m(n) => o, } list.map(|p, q| p + r) }"
     )
-    same(sums.binders(words), ["a", "b", "c", "d", "g", "i", "k", "n", "p", "q"], "what is bound")
+    same(sums.binders(words), ["a", "b", "c", "d", "g", "i", "k", "n", "p", "q"], "the bound names")
     names = sums.Names()
     names.take("abc")
     same(names.numbered(sums.EDIT_WORD.findall("a.b + b.a(c) + c() + x::a + d")), "$0 . b + $1 . a ( $2 ) + c ( ) + x : : a + d".split(), "numbers")
 
 
 def row_after(top: str, path: str, names: Dict[str, str], **changed: str) -> Tuple[str, int, str]:
-    """A mutant's row after its crate was committed and changed, with other names in all of its files, and the rows of the commit were
-    kept; with the status and what is printed."""
+    """Commits a crate whose line in mutants.txt is up to date, renames names in its files, and carries over the
+    committed lines that still hold. Returns the mutant's verdict, the exit status and the output."""
     own = {name: value for name, value in os.environ.items() if not name.startswith("GIT_")}
     git = ["git", "-c", "user.name=a", "-c", "user.email=b", "-c", "commit.gpgsign=false", "-C", top]
     write_crate(top)
@@ -309,7 +313,7 @@ def row_after(top: str, path: str, names: Dict[str, str], **changed: str) -> Tup
     return found.row(path).verdict, status, said.getvalue()
 
 
-@test("mutants: a row is kept over a change of names, unless anything else changed, or a name became two")
+@test("mutants: after a renaming a line of mutants.txt is kept, unless anything else changed or two names became one")
 def kept_over_renaming() -> None:
     want("git")
     names = {"next": "following", "more": "larger", "next_of": "successor", "step": "advance"}
@@ -328,10 +332,10 @@ def kept_over_renaming() -> None:
 
 
 # A mutant that adds a branch, and right forms of it.
-BRANCH = "# The number stays: refused by `more` of `next`.\nfile: src/lib.rt\nold:     n + 1\nnew:     if n == 7 { n } else { n + 1 }\n"
+BRANCH = EDIT.replace("new:     n", "new:     if n == 7 { n } else { n + 1 }")
 
 
-@test("mutants: a right form has the new branch, return, function or closure, and isn't the old text")
+@test("mutants: a right form must keep the new branch, return, function or closure, and must differ from the old text")
 def right_forms() -> None:
     def why(right: str, edit: str = BRANCH) -> Optional[str]:
         with small_crate(edit=f"{edit}# right: {right}\n"):
@@ -348,7 +352,7 @@ def right_forms() -> None:
     same(edits.pairs_of("# right: 1\nfile: src/lib.rt\n")[1], "a right form isn't after its 'new:' line", "one before it")
 
 
-@test("mutants: each edit of `rt ci`, and each that adds a branch, a return, a function or a closure, has a right form")
+@test("mutants: edits of `rt ci`, and mutants that add a branch, return, function or closure, have a right form")
 def have_right_forms() -> None:
     found = [it for crate in common.listed() for it in edits.forms_of(crate)]
     lacking = [it.path for it in found if (it.is_of_kit or it.needs_right_form) and not it.has_right_form]
@@ -356,7 +360,7 @@ def have_right_forms() -> None:
     same([(it.path, it.why) for it in found if it.is_right and it.why], [], "right forms that aren't in the form")
 
 
-@test("mutants: a right form is as it has to be if its function is proved, and is tried again among fewer if it waits for another")
+@test("mutants: a right form passes if proved, fails if refused by itself, and is retried if refused among others")
 def right_judged() -> None:
     with small_crate(edit=BRANCH + "# right:     if n == 7 { 8 } else { n + 1 }\n"):
         source = reading.Source("ob0_small")
@@ -376,7 +380,7 @@ def right_judged() -> None:
         same([[it.is_right for it in group.edits] for group in crate.first()], [[False], [True]], "the forms are in two checks")
 
 
-@test("mutants: tools/mutants.txt has a line for each form of each mutant, sorted, and each is of the present sources")
+@test("mutants: mutants.txt has one line for each form of each mutant, in order; no line is stale once all are tried")
 def rows() -> None:
     found = verdicts.Mutants()
     same([it.path for it in verdicts.rows_of(verdicts.PATH)], sorted(found.edits), "its lines (tools/mutants.py writes them)")
@@ -385,7 +389,7 @@ def rows() -> None:
 
 
 class Unread(Dict[str, str]):
-    """Variables of the environment that nobody may read."""
+    """Environment variables that fail the test if anything reads them."""
 
     def __getitem__(self, name: str) -> str:
         raise Failed(f"{name} was read")
@@ -393,7 +397,7 @@ class Unread(Dict[str, str]):
     get = __contains__ = __iter__ = __getitem__  # type: ignore[assignment]
 
 
-@test("mutants: those of `make test` are drawn anew in each run, and neither the commit nor the environment says which")
+@test("mutants: each run of `make test` draws different mutants, whatever the commit and the environment are")
 def drawn() -> None:
     names = [f"{at:03}" for at in range(300)]
     found = mock.Mock(mutants=names, edits={it: it for it in [*names, "299:right"]})
@@ -411,19 +415,22 @@ def drawn() -> None:
 
 
 def tried_by(function: Callable[[], object]) -> Tuple[List[str], str]:
-    """The paths of the forms that a run would try, sorted, and what it prints."""
+    """Returns the sorted paths of the mutants and right forms that a function would try, and its output."""
     tried: List[str] = []
 
     def note(run: mutants.Run, *_: object) -> None:
         tried.extend(it.path for crate in run.crates for it in crate.chosen)
 
-    with mock.patch.object(mutants.Run, "try_all", note), mock.patch.object(build, "prove_libraries", lambda names: 0):
+    # (`make test` holds the lock of this checkout while it runs this)
+    with mock.patch.object(mutants.Run, "try_all", note), mock.patch.multiple(
+        common, one_at_a_time=contextlib.nullcontext, ended_by_signals=lambda where: contextlib.nullcontext()
+    ), mock.patch.object(build, "prove_libraries", lambda names: 0):
         with mock.patch.object(mutants, "libraries_of", lambda names: None), contextlib.redirect_stdout(io.StringIO()) as said:
             function()
     return sorted(tried), said.getvalue()
 
 
-@test("mutants: `make test` tries the drawn ones that have a current row, and prints the words that try them again")
+@test("mutants: `make test` tries the drawn mutants, and prints the options that try the same ones again")
 def drawn_again() -> None:
     found = verdicts.Mutants()
     with mock.patch.object(mutants, "Mutants", lambda: found):
@@ -435,7 +442,7 @@ def drawn_again() -> None:
         for words in (["--from", "0"], ["--from", str(len(found.mutants) + 1)], ["--from", "1", "ob0_text"]):
             with contextlib.redirect_stderr(io.StringIO()) as wrong:
                 try:
-                    mutants.main(words)
+                    tried_by(lambda: mutants.main(words))
                 except SystemExit as why:
                     same(why.code, 2, f"the status of {words}")
                 else:
@@ -443,7 +450,7 @@ def drawn_again() -> None:
             holds(f"--from takes 1 to {len(found.mutants)}" in wrong.getvalue(), wrong.getvalue())
 
 
-@test("mutants: the commit's hash is that of this repository, whatever the variables of git say")
+@test("mutants: the commit's hash is this repository's, whatever Git's environment variables are")
 def of_this_repository() -> None:
     want("git")
     found = common.commit()
@@ -455,7 +462,7 @@ def of_this_repository() -> None:
         same(common.commit(), "0", "without git")
 
 
-@test("mutants: of many in one check each is refused by the clause that its first line names, or elsewhere")
+@test("mutants: if one check tries many mutants, each counts as refused by its own clause or refused elsewhere")
 def many_judged() -> None:
     source = reading.Source("ob0_frame")
     edit = edit_of("ob0_frame", "goes_on_after_bad_head", source)
@@ -473,10 +480,10 @@ def many_judged() -> None:
     same(word("split_messages-requires-clause-bad")[0], mutants.ELSEWHERE, "what a callee requires")
     edit.claim = None
     for goal in ("returns-clause-bad-in-Err", "split_messages-requires-clause-bad"):
-        same(word(goal)[0], mutants.ELSEWHERE, f"{goal}, if the first line names no clause")
+        same(word(goal)[0], mutants.ELSEWHERE, f"{goal}, if the first line has no clause")
 
 
-@test("mutants: of many in one check one that stands on a function that isn't proved is tried again, unless its clause refuses it")
+@test("mutants: among many, a mutant whose function calls an unproved one is retried, unless its clause refuses it")
 def many_waiting() -> None:
     source = reading.Source("ob0_frame")
     crate = mutants.Crate("ob0_frame", edits.edits_of("ob0_frame", source), source)
@@ -493,11 +500,12 @@ def many_waiting() -> None:
 
     same(taken("returns-clause-bad"), (mutants.REFUSED, []), "its clause")
     same(taken("returns-clause-broken"), (None, [mutants.APART]), "another clause, among others")
-    same(taken("returns-clause-broken", mutants.APART), (None, [mutants.ALONE]), "another clause, apart from them")
-    same(taken("returns-clause-broken", mutants.ALONE, (edit,)), (mutants.ELSEWHERE, []), "another clause, alone")
+    again = taken("returns-clause-broken", mutants.APART)
+    same(again, (None, [mutants.ALONE]), "another clause, among independent ones")
+    same(taken("returns-clause-broken", mutants.ALONE, (edit,)), (mutants.ELSEWHERE, []), "another clause, by itself")
 
 
-@test("mutants: no two of one check have one proof, and of those that are tried apart none stands on another")
+@test("mutants: no two mutants in one check share a proof, and mutants tried apart don't depend on each other")
 def groups() -> None:
     source = reading.Source("ob0_frame")
     crate = mutants.Crate("ob0_frame", edits.edits_of("ob0_frame", source), source)
@@ -511,7 +519,7 @@ def groups() -> None:
     same([len(it) > mutants.MOST for it in found], [False] * len(found), "more than go into one check")
 
 
-@test("mutants: where the checker can't find a function by its name, all of its crate are checked")
+@test("mutants: if the checker can't find a function by its name, all functions of the crate are checked")
 def asked_for_all() -> None:
     edit = edit_of("ob0_frame", "takes_a_longer_head", reading.Source("ob0_frame"))
     asked: List[List[str]] = []
@@ -527,7 +535,7 @@ def asked_for_all() -> None:
     same((asked, said.text), ([["head::message_stage"], []], "logic=not-proved\n"), "what is asked for")
 
 
-@test("mutants: the libraries are those of which `rt ci` says that they are proved")
+@test("mutants: a crate's proved library is used only if `rt ci` reports the crate as proved")
 def libraries() -> None:
     taken = mutants.Libraries(os.path.join(TOP, "bin", "rooms", "libraries-of-a-test"))
     for line in ("rt: ob0_text proved\n", "rt: ob0_scan is kept: an earlier run on this machine proved the same files\n"):
@@ -535,11 +543,11 @@ def libraries() -> None:
     for line in ("rt: ob0_tree NOT PROVED\n", "rt: ob0_rpc: its tests are proved\n", "rt: ob0_frame: trying its must-fail edits (2)\n"):
         taken.take(line)
     same(taken.proved, {"ob0_text", "ob0_scan"}, "the crates")
-    same(taken.words("ob0_parse", ["parse"]), None, "the check of a crate over a library that isn't there")
+    same(taken.words("ob0_parse", ["parse"]), None, "the check of a crate over a missing library")
     shutil.rmtree(taken.folder, ignore_errors=True)
 
 
-# What a check says of `ends_in_empty_line` of ob0_frame, by the patterns that its body has.
+# Prints a check's verdict on `ends_in_empty_line` of ob0_frame, which depends on the patterns in its body.
 CHECK = r"""
 import sys
 text = open("src/head.rt").read()
@@ -560,7 +568,7 @@ sys.exit(1)
 
 
 class Recorded(mutants.Libraries):
-    """Libraries over which a check says what was recorded."""
+    """Stands in for the proved libraries: a check runs the script CHECK instead of the prover."""
 
     def words(self, crate: str, only: Iterable[str]) -> Optional[List[str]]:
         same((crate, list(only)), ("ob0_frame", ["head::ends_in_empty_line"]), "what is asked for")
@@ -568,7 +576,7 @@ class Recorded(mutants.Libraries):
 
 
 def mutant(folder: str, name: str, old: str, new: str, source: reading.Source) -> edits.Edit:
-    """A mutant of `ends_in_empty_line`."""
+    """Writes a mutant of `ends_in_empty_line` into a folder, and returns it."""
     path = os.path.join(folder, f"{name}.edit")
     with open(path, "w", encoding="utf-8") as file:
         file.write(f"# Wrong: refused by the clause of `ends_in_empty_line`.\nfile: src/head.rt\nold: {old}\nnew: {new}\n")
@@ -578,18 +586,19 @@ def mutant(folder: str, name: str, old: str, new: str, source: reading.Source) -
 
 
 def words_of(chosen: List[edits.Edit], sources: Dict[str, reading.Source], found: checks.Libraries) -> List[str]:
-    """What mutants come to in a run."""
+    """Tries the mutants, and returns the words of their verdicts."""
     kept: Dict[str, str] = {}
     parts = sums.Parts()
     parts.sources.update(sources)
     run = mutants.Run(mutants.crates_of(chosen, parts), 2, lambda settled: kept.update({it.name: verdict.word for it, verdict in settled.items()}))
     with contextlib.redirect_stdout(io.StringIO()):
         run.try_all(found, mutants.OF_RUN)
-    holds(all(kept.get(it.name) == run.crates[0].found[it].word for it in chosen if not it.why), f"what was kept: {kept}")
-    return [run.crates[0].found[it].word for it in chosen]
+    results = run.crates[0].found
+    holds(all(kept.get(it.name) == results[it].word for it in chosen if not it.why), f"the kept verdicts: {kept}")
+    return [results[it].word for it in chosen]
 
 
-@test("mutants: a run tells a refused one from one that is made right again, doesn't compile, isn't found, or has no library")
+@test("mutants: a run tells refused mutants from those that are proved, don't compile, aren't found or lack libraries")
 def whole_run() -> None:
     folder, line, sources = tempfile.mkdtemp(), "        [b'\\n'] | [b'\\r', b'\\n']", {"ob0_frame": reading.Source("ob0_frame")}
     changes = {"refused": (line, "        [b'x'] | [b'\\r', b'\\n']"), "right": (line, f"{line} "), "bad": (line, f"{line} | lf()"), "lost": ("        [b'y']", line)}
@@ -604,3 +613,40 @@ def whole_run() -> None:
 
     same(words_of(chosen[:1], sources, Lacking(with_libraries.folder)), [mutants.NOT_JUDGED], "over libraries that lack")
     shutil.rmtree(folder)
+
+
+# Tries the mutants of a room's crate, with checks that don't end by themselves.
+ENDLESS = """import os, sys
+sys.path.insert(0, "tools")
+import build, checks, mutants
+build.prove_libraries = lambda names: 0
+checks.Libraries.words = lambda *_: ["sh", "-c", f"echo $$ >> {os.getcwd()}/checks; exec sleep 1000"]
+sys.exit(mutants.main(["--lanes", "2"]))
+"""
+
+
+@test("mutants: a run waits for another run in its checkout, and a signal ends it and its checks")
+def ended_by_signal() -> None:
+    with tempfile.TemporaryDirectory() as room:
+        copy(os.path.join(TOP, "tools"), os.path.join(room, "tools"), "mutants.txt")
+        write_crate(room)
+        for number in range(8):
+            path = os.path.join(room, "crates", "ob0_small", edits.OTHERS, f"{number}.edit")
+            write(path, EDIT.replace("new:     n", f"new:     n + {number + 2}"))
+
+        def begun(output: str) -> "subprocess.Popen[bytes]":
+            with open(os.path.join(room, output), "wb") as file:
+                return subprocess.Popen([sys.executable, "-B", "-c", ENDLESS], cwd=room, stdout=file, stderr=file)
+
+        # (what still runs when a test ends is ended by tests/run.py)
+        first = begun("first")
+        awaited(os.path.join(room, "checks"))
+        second = begun("second")
+        awaited(os.path.join(room, "second"), "waiting until another `make`")
+        for run in (second, first):
+            run.terminate()
+            same(run.wait(30), 128 + signal.SIGTERM if run is first else -signal.SIGTERM, "the status")
+        same(text_of(room, "first"), "ended by SIGTERM while it tried mutants\n", "what it printed")
+        started = text_of(room, "checks").split()
+        same([it for it in started if is_running(int(it))], [], f"the checks that still run, of {started}")
+        same(os.path.exists(os.path.join(room, "bin", "rooms")), False, "whether its rooms are left")

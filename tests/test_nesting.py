@@ -1,4 +1,4 @@
-"""The deepest texts through the built program under a stack of 4 MiB: no mix of constructs runs it out."""
+"""Tests that the deepest accepted texts fit a stack of 4 MiB, whatever constructs they mix."""
 from __future__ import annotations
 
 import json
@@ -15,7 +15,7 @@ STACK = 4096  # kilobytes, half of what systems give
 
 
 def diagnosed(texts: list[str]) -> list[list[Message]]:
-    """Returns what one server under this stack reports about each text."""
+    """Returns the diagnostics of each text, all from one server with a stack of 4 MiB."""
     talk = frames([initialize(), *(did_open(it, version=at) for at, it in enumerate(texts)), SHUTDOWN, EXIT])
     found = serve(talk, stack=STACK)
     same((found.err, found.status), (b"", 0), "the end")
@@ -40,21 +40,21 @@ def texts(depth: int) -> dict[str, tuple[str, int]]:
     return found
 
 
-@test("nesting: 100 of each construct and mixes of 100, under a stack of 4 MiB")
+@test("nesting: 100 levels of each construct, and of mixes, aren't too deep under a stack of 4 MiB")
 def hundred() -> None:
     made = texts(100)
     for (name, (text, _)), found in zip(made.items(), diagnosed([text for text, _ in made.values()])):
         same(of_syntax(found), [], f"{name}: {text}")
 
 
-@test("nesting: mixes of 101 are too deep, at the innermost construct")
+@test("nesting: at 101 levels of each construct, and of mixes, TooDeep is reported at the innermost construct")
 def hundred_and_one() -> None:
     made = texts(101)
     for (name, (text, at)), found in zip(made.items(), diagnosed([text for text, _ in made.values()])):
         same(found, [reported_too_deep(text, at)], f"{name}: {text}")
 
 
-@test("nesting: far over the limit, under a stack of 4 MiB")
+@test("nesting: 20,000 levels are reported as TooDeep under a stack of 4 MiB")
 def far() -> None:
     made = [nested_modules.of_one(it, 20000)[0] for it in nested_modules.REPEATED]
     for text, found in zip(made, diagnosed(made)):
@@ -70,7 +70,8 @@ def any_of(chance: random.Random) -> Callable[[], nested_modules.Entered]:
 
 
 def chosen() -> dict[str, Callable[[], nested_modules.Entered]]:
-    """Yields ways to choose among the statements that hold another: each by itself, and mixes."""
+    """Returns functions that choose a nesting statement: one for each statement, which always chooses it, and some that
+    choose at random."""
     found: dict[str, Callable[[], nested_modules.Entered]] = {}
     for one in nested_modules.ENTERED:
         found[one[0]] = always(one)
@@ -89,14 +90,14 @@ def calls() -> None:
         ends(on_file("run", text, stack=STACK), out.rsplit(" ", 2)[0], 1, "fault: CallBound\n")
 
 
-@test("nesting: 64 open calls of procedures inside one another, run under a stack of 4 MiB")
+@test("nesting: 64 open calls of procedures declared inside one another run under a stack of 4 MiB")
 def inward() -> None:
     for choose in chosen().values():
         text, out = nested_modules.inward(64, choose)
         ends(on_file("run", text, stack=STACK), out, 0)
 
 
-@test("nesting: calls inside 100 nested constructs are accepted, inside 101 they aren't")
+@test("nesting: calls inside 100 nested constructs are accepted, and inside 101 they are refused as TooDeep")
 def calls_within() -> None:
     choose: Callable[[], nested_modules.Entered] = lambda: nested_modules.ENTERED[0]
     for text, _ in (nested_modules.recursive(64, choose), nested_modules.inward(64, choose)):

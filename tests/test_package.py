@@ -1,6 +1,8 @@
-"""The package: what `make package` makes, installed, removed and unpacked, with editors and shells that find it in an empty home."""
+"""Tests the packages of `make package`: installing, unpacking and removing them, and using them in editors and shells
+with an empty home directory."""
 from __future__ import annotations
 
+import contextlib
 import functools
 import gzip
 import json
@@ -9,7 +11,7 @@ import re
 import shutil
 import subprocess
 import tarfile
-from collections.abc import Callable
+from collections.abc import Callable, Iterator
 
 import common
 import package
@@ -28,7 +30,7 @@ def made(*words: str) -> str:
 
 
 def placed(room: str) -> str:
-    """Installs the tree of the package: the folder that is used as /usr."""
+    """Installs the package's files below a temporary folder. Returns the folder that stands for /usr."""
     want_proved()
     usr = os.path.join(room, "usr")
     status, said = run_plainly(["python3", "-B", os.path.join(TOP, "tools", "package.py"), "install", usr, ""], dict(os.environ), TOP)
@@ -45,7 +47,8 @@ def paths_in(room: str) -> list[str]:
 
 
 def own(room: str, usr: str) -> dict[str, str]:
-    """The environment of a user with an empty home, for whom the tree is what a system has."""
+    """Returns a user's environment variables, with an empty home directory and with the installed package on its
+    paths."""
     home = os.path.join(room, "home")
     os.makedirs(home, exist_ok=True)
     kept = {key: value for key, value in os.environ.items() if key not in ("MANPATH", "OB0") and not key.startswith("XDG_")}
@@ -54,8 +57,18 @@ def own(room: str, usr: str) -> dict[str, str]:
     return {**kept, "HOME": home, "PATH": path, "XDG_DATA_DIRS": data, "XDG_RUNTIME_DIR": home, "TERM": "xterm", "LC_ALL": "C.UTF-8"}
 
 
+@contextlib.contextmanager
+def installed_home() -> Iterator[tuple[str, str, dict[str, str], str]]:
+    """Installs the package in a temporary folder. Yields this folder, the folder that stands for /usr, a user's
+    environment, and a folder to work in."""
+    with temporary() as room:
+        usr, work = placed(room), os.path.join(room, "work")
+        os.makedirs(work)
+        yield room, usr, own(room, usr), work
+
+
 def packed(folder: str) -> list[str]:
-    """Packs the program into a folder of the test's own; returns the paths of the archive and of the Debian package."""
+    """Packages the program into a folder. Returns the paths of the archive and of the Debian package."""
     words = ["python3", "-B", os.path.join(TOP, "tools", "package.py"), "package", folder]
     status, said = run_plainly(words, dict(os.environ), TOP)
     same(status, 0, said)
@@ -64,13 +77,13 @@ def packed(folder: str) -> list[str]:
 
 
 def in_bin() -> dict[str, float]:
-    """The packages in bin/, with their times."""
+    """Returns the modification time of each package in bin/."""
     folder = os.path.join(TOP, "bin")
     names = [it for it in os.listdir(folder) if it.startswith(("ob0_", "ob0-", "SHA", "TESTED"))]
     return {it: os.stat(os.path.join(folder, it)).st_mtime for it in names}
 
 
-@test("package: two runs give the same bytes, both packages have the same files, and lintian warns of nothing")
+@test("package: a second build gives the same bytes, both packages have the same files, and lintian has no warnings")
 def same_bytes() -> None:
     want_proved()
     before = in_bin()
@@ -79,7 +92,7 @@ def same_bytes() -> None:
         archive, deb = packed(folder)
         sums = [common.file_sum(it) for it in (archive, deb)]
         same([common.file_sum(it) for it in packed(folder)], sums, "the sums of a second run")
-        same(in_bin(), before, "the packages in bin/, which are none of a test's")
+        same(in_bin(), before, "the packages in bin/, which a test doesn't change")
         usr = placed(room)
         with tarfile.open(archive) as tar:
             same([it.name for it in tar if it.isdir()], [], "entries of folders, which would change their modes")
@@ -98,13 +111,13 @@ def same_bytes() -> None:
         same(status, 0, said)
 
 
-@test("package: README's lines install the packages")
+@test("package: the README's commands install both packages")
 def as_readme_says() -> None:
     want_proved()
     page = text_of("README.md").partition("**From a package.**")[2]
     by_apt, by_tar = [it[4:].partition("  #")[0].strip() for it in page.splitlines() if it.startswith("    sudo ")][:2]
     with temporary() as room:
-        # (without sudo, by apt as a plan alone, and into a folder of the test's own)
+        # (without sudo; apt only prints its plan, and tar unpacks into a temporary folder)
         same((by_apt.count("sudo apt install "), by_tar.count("sudo tar "), by_tar.count("/usr/local")), (1, 1, 1), f"{by_apt}; {by_tar}")
         folder, local = os.path.join(room, "packages"), os.path.join(room, "local")
         packed(folder)
@@ -119,7 +132,7 @@ def as_readme_says() -> None:
         holds(status == 0 and "Inst ob0 " in said, said)
 
 
-@test("package: README's line checks the sum of the one package that is present, and its line without sudo unpacks the archive")
+@test("package: the README's sha256sum line works with only one package, and its line without sudo unpacks the archive")
 def as_readme_says_without() -> None:
     want_proved()
     page = text_of("README.md").partition("**From a package.**")[2]
@@ -141,7 +154,7 @@ def as_readme_says_without() -> None:
             same(run_plainly(["sh", "-c", sums], home, room)[0], 1, "the status with another file")
 
 
-@test("package: the archive changes no folder's mode, and README's line and `make uninstall` take it away, but no folder that was there")
+@test("package: unpacking keeps all folders' modes; the README's line and `make uninstall` remove only unpacked files")
 def taken_away() -> None:
     want_proved()
     lines = [it[4:].replace("sudo ", "") for it in text_of("README.md").splitlines() if it.startswith(("    sudo tar ", "    cd /usr/local"))]
@@ -167,12 +180,12 @@ def taken_away() -> None:
 
 
 def modes_in(room: str) -> dict[str, int]:
-    """The modes of what is in a folder."""
+    """Returns the mode of each file and folder below a folder."""
     found = [os.path.join(at, it) for at, folders, files in os.walk(room) for it in folders + files]
     return {os.path.relpath(it, room): os.lstat(it).st_mode for it in found}
 
 
-@test("package: a prefix that is empty or the folder of the sources is refused")
+@test("package: a prefix that is empty, or is the folder of the sources, is refused")
 def refused_prefixes() -> None:
     want_proved()
     with temporary() as room:
@@ -185,8 +198,22 @@ def refused_prefixes() -> None:
     holds(os.path.exists(common.BINARY), "bin/ob0 is gone")
 
 
+@test("package: a prefix that can't have folders is refused in a sentence, before anything is built")
+def prefixes_without_folders() -> None:
+    for prefix, first in (("/proc/x", "/proc/x"), ("/dev/null/x/y", "/dev/null")):
+        status, said = run_plainly(["make", "--silent", f"PREFIX={prefix}", "install"], dict(os.environ), TOP)
+        lines = [it for it in said.splitlines() if not it.startswith("make: ")]
+        same((status != 0, len(lines)), (True, 1), f"make install PREFIX={prefix}: {said}")
+        holds(lines[0].startswith(f"package.py: {first} can't be written or removed ("), said)
+    with temporary() as room:
+        words = ["python3", "-B", os.path.join(TOP, "tools", "package.py"), "place", os.path.join(room, "a", "b"), ""]
+        same(run_plainly(words, dict(os.environ), TOP), (0, ""), "a folder in which others can be made")
+        same(os.listdir(room), [], "the files left there")
+
+
 def in_copy(*commits: tuple[int, str, str]) -> list[str]:
-    """Returns the version of the packages in a separate repository with the scripts and these commits: a time and a tag for each."""
+    """Makes a repository with the scripts, and in it a commit at each given time, with a tag unless the tag is empty.
+    Returns the package's version after each commit."""
     versions = []
     with temporary() as room:
         copy(os.path.join(TOP, "tools"), os.path.join(room, "tools"))
@@ -206,7 +233,7 @@ def in_copy(*commits: tuple[int, str, str]) -> list[str]:
     return versions
 
 
-@test("package: its version grows with the time of the commit, and is the program's if the commit has its tag")
+@test("package: the version increases with the commit's time, and is the program's version at a tagged commit")
 def versions() -> None:
     want("git")
     day = 1795823088
@@ -225,7 +252,7 @@ def versions() -> None:
 INSTALLED = "Package: {}\nStatus: install ok installed\nVersion: {}\nArchitecture: amd64\nMaintainer: x <x@example.org>\nDescription: x\n\n"
 
 
-@test("package: dpkg installs it in a separate root with a new enough libc6, and removing it leaves nothing")
+@test("package: dpkg installs the package in a separate root if libc6 is new enough, and removing it leaves no file")
 def by_dpkg() -> None:
     want_proved()
     want("dpkg", "root")
@@ -247,7 +274,7 @@ def by_dpkg() -> None:
         holds("ob0" not in text_of(admin, "status"), "dpkg knows of it still")
 
 
-@test("package: it says what was proved, the packed program is the proved one, and the links of its pages hold")
+@test("package: the file PROVED is complete, the packed program is the proved one, and the packed pages' links work")
 def provenance() -> None:
     with temporary() as room:
         usr = placed(room)
@@ -261,7 +288,7 @@ def provenance() -> None:
                 holds(os.path.exists(os.path.join(usr, os.path.dirname(at), target)), f"{at} has a link to {target}")
 
 
-@test("package: `make install` copies the tree without a toolchain, and `make uninstall` leaves nothing")
+@test("package: `make install` needs no toolchain, and `make uninstall` removes everything that it installed")
 def installed() -> None:
     want_proved()
     with temporary() as room:
@@ -301,7 +328,7 @@ def installed() -> None:
         same(os.listdir(home), [], "what is in the home: the folders around the prefix")
 
 
-@test("package: a stamp next to another program doesn't make it the proved one")
+@test("package: a stamp copied next to another program doesn't make that program count as proved")
 def stamped() -> None:
     want_proved()
     with temporary() as room:
@@ -316,20 +343,18 @@ def stamped() -> None:
         same(is_current(), "False", "another program")
 
 
-@test("package: the program, its scripts and the manual page, in an empty home")
+@test("package: the program, its scripts and the manual pages work with an empty home directory")
 def in_shells() -> None:
-    with temporary() as room:
-        usr = placed(room)
-        environment, work = own(room, usr), os.path.join(room, "work")
-        os.makedirs(work)
-        status, said = run_plainly(["ob0", "--version"], environment, work)
-        same((status, said), (0, f"ob0 {match_of('ob0 ([0-9.]+)', text_of('share', 'ob0.1'))[1]}\n"), "the version")
-        status, said = run_plainly(["ob0-format", "--check", *(os.path.join(TOP, it) for it in examples())], environment, work)
-        same((status, said), (0, ""), "ob0-format, which finds ob0 beside it")
-        status, said = run_plainly(["ob0-check", *(os.path.join(TOP, it) for it in examples())], environment, work)
-        same((status, said), (0, ""), "ob0-check, which finds ob0 and what the scripts share")
-        status, said = run_plainly(["ob0-watch", "check", "nowhere.mod"], environment, work)
-        same((status, said), (4, "fault: File\n"), "ob0-watch, which finds ob0 beside it")
+    with installed_home() as (_, usr, environment, work):
+        version = match_of("ob0 ([0-9.]+)", text_of("share", "ob0.1"))[1]
+        modules = [os.path.join(TOP, it) for it in examples()]
+        for words, wanted in (
+            (["ob0", "--version"], (0, f"ob0 {version}\n")),
+            (["ob0-format", "--check", *modules], (0, "")),
+            (["ob0-check", *modules], (0, "")),
+            (["ob0-watch", "check", "nowhere.mod"], (4, "fault: File\n")),
+        ):
+            same(run_plainly(words, environment, work), wanted, f"{words[0]}, which finds ob0 and its modules")
         want("man")
         status, said = run_plainly(["man", "-M", os.path.join(usr, "share", "man"), "ob0"], environment, work)
         holds(status == 0 and "CallBound" in said, f"man ob0: {said[:300]}")
@@ -348,11 +373,9 @@ SHELLS = {
 
 
 def by_tab(shell: str) -> None:
-    """Completes lines by Tab in a shell."""
+    """Tests that Tab completes a command, an option and a file's name in a shell."""
     want(shell)
-    with temporary() as room:
-        usr = placed(room)
-        environment, work = own(room, usr), os.path.join(room, "work")
+    with installed_home() as (_, usr, environment, work):
         write(os.path.join(work, "New.mod"), MODULE)
         words, setup = SHELLS[shell]
         with Screen(words, environment, work) as screen:
@@ -378,7 +401,7 @@ for each in SHELLS:
 
 
 def seen_by_vim(words: list[str], environment: dict[str, str], work: str, name: str) -> None:
-    """Vim's or Neovim's file type of a new file once it is saved, and of each example."""
+    """Tests that Vim or Neovim recognizes a new file once it is saved, and each example."""
     report = os.path.join(work, "report")
     opened = [[f"edit {os.path.join(TOP, it)}", "call add(r, &filetype)"] for it in examples()]
     steps = [
@@ -396,37 +419,28 @@ def seen_by_vim(words: list[str], environment: dict[str, str], work: str, name: 
     same(types, ["ob0"] * (1 + len(opened)) + last, f"what {name} takes the files as, whether it has :Ob0Run, the width of a level, and help")
 
 
-@test("package: Neovim and its server, on a new file and each example, in an empty home")
+@test("package: Neovim recognizes a new file and each example, and its server works, with an empty home directory")
 def in_neovim() -> None:
     want("Neovim")
-    with temporary() as room:
-        usr = placed(room)
-        environment, work = own(room, usr), os.path.join(room, "work")
-        os.makedirs(work)
+    with installed_home() as (_, _, environment, work):
         seen_by_vim(["nvim", "-i", "NONE", "-n"], environment, work, "Neovim")
         with Screen(["nvim", "-i", "NONE", "-n", "new.mod"], environment, work) as screen:
             screen.shows(b"Undeclared|not declared", "the diagnostics of the new file")
 
 
-@test("package: Vim, on a new file and each example, in an empty home")
+@test("package: Vim recognizes a new file and each example with an empty home directory")
 def in_vim() -> None:
     want("Vim")
-    with temporary() as room:
-        usr = placed(room)
-        environment, work = own(room, usr), os.path.join(room, "work")
-        os.makedirs(work)
+    with installed_home() as (_, usr, environment, work):
         # (Debian's Vim reads /usr/share/vim/vimfiles, and the tree's folder is given instead)
         words = ["vim.nox", "-i", "NONE", "-n", "--cmd", f"set packpath^={usr}/share/vim/vimfiles"]
         seen_by_vim(words, environment, work, "Vim")
 
 
-@test("package: Emacs, on a new file and each example, in an empty home")
+@test("package: Emacs recognizes a new file and each example with an empty home directory")
 def in_emacs() -> None:
     want("Emacs")
-    with temporary() as room:
-        usr = placed(room)
-        environment, work = own(room, usr), os.path.join(room, "work")
-        os.makedirs(work)
+    with installed_home() as (_, usr, environment, work):
         report = os.path.join(work, "report")
         steps = f"""(let (r)
           (find-file "new.mod") (insert "MODULE N;\\nBEGIN x := 1 END N.\\n") (save-buffer) (push major-mode r)
@@ -440,7 +454,7 @@ def in_emacs() -> None:
         same(text_of(report), f"({' '.join(['ob0-mode'] * (1 + len(examples())))})")
 
 
-@test("package: package-lint and checkdoc accept Emacs's files, except for the address of a home page, which ob0 doesn't have")
+@test("package: package-lint and checkdoc accept the Emacs files, except that ob0 has no home page")
 def linted() -> None:
     want("Emacs", "package-lint")
     with temporary() as room:
@@ -456,13 +470,10 @@ def linted() -> None:
             same(said, "", f"what checkdoc says of {path}")
 
 
-@test("package: Kakoune, on a new file and each example, in an empty home")
+@test("package: Kakoune recognizes a new file and each example with an empty home directory")
 def in_kakoune() -> None:
     want("Kakoune")
-    with temporary() as room:
-        usr = placed(room)
-        environment, work = own(room, usr), os.path.join(room, "work")
-        os.makedirs(work)
+    with installed_home() as (room, usr, environment, work):
         # (Kakoune reads the files next to its own, in /usr/share/kak/rc: a runtime folder has both)
         runtime = os.path.join(room, "runtime")
         shutil.copytree("/usr/share/kak", runtime, symlinks=True, ignore=shutil.ignore_patterns("doc"))
@@ -476,24 +487,20 @@ def in_kakoune() -> None:
         same({text_of(work, f"type of {it}") for it in ("new.mod", *names)}, {"ob0"}, said)
 
 
-@test("package: nano takes its file")
+@test("package: nano colours a module with the packaged syntax file")
 def in_nano() -> None:
     want("nano")
-    with temporary() as room:
-        usr = placed(room)
-        environment, work = own(room, usr), os.path.join(room, "work")
+    with installed_home() as (_, usr, environment, work):
         write(os.path.join(work, "New.mod"), MODULE)
         rc = os.path.join(usr, "share", "nano", "oberon0.nanorc")
         with Screen(["nano", f"--rcfile={rc}", "New.mod"], environment, work) as screen:
             screen.shows(b"\x1b\\[[0-9;]*mMODULE", "a coloured word in nano")
 
 
-@test("package: GtkSourceView finds its language, of a module that a desktop has no type for")
+@test("package: GtkSourceView recognizes and colours a module, even if the desktop has no type for such files")
 def in_gtksourceview() -> None:
     want("GtkSourceView", "PyGObject")
-    with temporary() as room:
-        usr = placed(room)
-        environment, work = own(room, usr), os.path.join(room, "work")
+    with installed_home() as (_, usr, environment, work):
         write(os.path.join(work, "new.ob0"), MODULE)
         words = ["/usr/bin/python3", os.path.join(TOP, "tests", "editors", "gtksourceview.py"), "new.ob0"]
         status, said = run_plainly(words, environment, work)
@@ -503,12 +510,10 @@ def in_gtksourceview() -> None:
         same((found["language"], len(colours)), ("oberon0", 1), "the language, and whether a reserved word has a colour")
 
 
-@test("package: a desktop takes its type of modules")
+@test("package: a desktop recognizes a module as text/x-oberon0, and still takes go.mod for plain text")
 def on_a_desktop() -> None:
     want("MIME types", "gio")
-    with temporary() as room:
-        usr = placed(room)
-        environment, work = own(room, usr), os.path.join(room, "work")
+    with installed_home() as (_, usr, environment, work):
         write(os.path.join(work, "New.mod"), MODULE)
         write(os.path.join(work, "go.mod"), "module example.com/x\n")
         shutil.copytree("/usr/share/mime/packages", os.path.join(usr, "share/mime/packages"), dirs_exist_ok=True)
@@ -518,7 +523,7 @@ def on_a_desktop() -> None:
         same(kinds[1], "text/plain", "the type of go.mod, which is Go's")
 
 
-@test("package: its manual pages and its list of changes are the repository's")
+@test("package: its manual pages and its changelog match the repository's")
 def written_pages() -> None:
     with temporary() as room:
         usr = placed(room)

@@ -1,4 +1,5 @@
-"""Facts on pages: links and their places, names outside backticks, the chart of a message's life, the licence, lengths."""
+"""Tests the pages: their links, names outside backticks, the chart of a message's life, the licence, and their
+lengths."""
 from __future__ import annotations
 
 import os
@@ -17,7 +18,7 @@ LICENCES = "INSTALL.md#licences"
 
 
 def pages() -> list[str]:
-    """Returns the paths of all pages in Markdown."""
+    """Returns the paths of all Markdown pages."""
     return sorted(it for it in tracked() if it.endswith(".md"))
 
 
@@ -26,7 +27,7 @@ def without_blocks(page: str) -> str:
 
 
 def anchors_of(page: str) -> set[str]:
-    """Returns the names by which links reach the headings of a page."""
+    """Returns the anchors of a page's headings, as links cite them."""
     found: set[str] = set()
     for heading in re.findall(r"^#+ (.*)$", without_blocks(page), re.M):
         plain = re.sub(r"\]\([^)]*\)|[`*\[\]]", "", heading).lower()
@@ -36,7 +37,7 @@ def anchors_of(page: str) -> set[str]:
 
 
 def broken_links(page: str, text: str) -> list[str]:
-    """Returns the links of a page that lead to no file, or to a place that its file doesn't have."""
+    """Returns the links of a page whose file or heading doesn't exist."""
     broken = []
     for target in re.findall(r"\]\(([^)\s:]+)\)", without_blocks(text)):
         file, _, place = target.partition("#")
@@ -46,7 +47,7 @@ def broken_links(page: str, text: str) -> list[str]:
     return broken
 
 
-@test("pages: each link leads to a file, and to a heading that it has")
+@test("pages: each link leads to an existing file, and to an existing heading")
 def links() -> None:
     found = pages()
     holds(len(found) > 30, "few pages were found")
@@ -55,7 +56,7 @@ def links() -> None:
     same(broken_links("x.md", wrong.replace("words)", "some-words-all)")), ["x.md: README.md#ends", "x.md: nowhere.md"], "of four links")
 
 
-@test("pages: a word with a capital inside is in backticks, or a name of the language, the protocol, a message or a product")
+@test("pages: a word with an inner capital is in backticks, unless it is a name of the language, protocol or a product")
 def names_in_backticks() -> None:
     known = OTHERS.union(*(INNER.findall(text_of(it)) for it in NAMING))
     wrong = []
@@ -66,7 +67,7 @@ def names_in_backticks() -> None:
     holds("ExchangeTurn" in INNER.findall("ExchangeTurn on the plugin") and "ExchangeTurn" not in known, "a name of a type would be found")
 
 
-@test("pages: the chart of a message's life is aligned, and each crate has the name before it")
+@test("pages: the chart of a message's life is aligned, and each crate in it contains the name before it")
 def chart_holds() -> None:
     steps = rooms.steps_of(text_of(os.path.relpath(rooms.PAGE, TOP)))
     holds(len(steps) > 5, "the chart is missing")
@@ -79,7 +80,7 @@ def chart_holds() -> None:
         holds(name in words, f"{crate} has no {name}")
 
 
-@test("pages: a page that states the licence links to the terms of a built program")
+@test("pages: a page that states the licence also links to the licences of a built program")
 def licence_stated() -> None:
     for page in ("README.md", "docs/TEACHING.md"):
         item = common.match_of(r"^- \*\*Licence\*\*(?:.*\n)(?:  .*\n)*", text_of(page), re.M)[0]
@@ -92,7 +93,7 @@ def words_of(page: str) -> int:
     return len(text_of(page).split())
 
 
-@test("pages: each has at most the words that tests/pages.txt allows, and so have all together")
+@test("pages: no page has more words than tests/pages.txt allows, and neither do all pages together")
 def lengths_held() -> None:
     allowed = {name: int(number) for name, number in (line.split(": ") for line in text_of("tests/pages.txt").splitlines())}
     found = {it: words_of(it) for it in [*pages(), *(f"share/{it}" for it in os.listdir(os.path.join(TOP, "share")) if it.endswith(".1"))]}

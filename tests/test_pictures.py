@@ -1,4 +1,5 @@
-"""The pictures of the pages: each is what its script draws, from the page's text, the page's tables or a terminal's screen."""
+"""Tests that the pictures on pages are up to date with their scripts, with the pages' text and tables, and with
+Neovim's screen."""
 from __future__ import annotations
 
 import glob
@@ -23,12 +24,12 @@ PICTURES = os.path.join("docs", "pictures")
 PERFORMANCE = os.path.join("docs", "PERFORMANCE.md")
 
 
-@test("pictures: each is shown on a page, is whole, and has colours for dark screens or its own background")
+@test("pictures: each picture is shown on a page, has texts and a title, and has colours for dark screens")
 def shown() -> None:
     pages = [*glob.glob(os.path.join(TOP, "*.md")), *glob.glob(os.path.join(TOP, "docs", "*.md"))]
     linked = {os.path.normpath(os.path.join(os.path.dirname(page), it)) for page in pages for it in re.findall(r"!\[[^]]+\]\(([^)]+)\)", text_of(page))}
     found = {os.path.join(TOP, PICTURES, it) for it in names_in(PICTURES)}
-    same(linked, found, "the pictures of the pages, and those of the folder")
+    same(linked, found, "the pictures of the pages, and the files of the folder")
     holds(len(found) >= 3, str(found))
     for path in found:
         drawn = xml.etree.ElementTree.parse(path).getroot()
@@ -41,7 +42,7 @@ def shown() -> None:
         same(fixed, [], f"texts of {name} in a colour that doesn't change on dark screens")
 
 
-@test("pictures: tools/rooms.py draws the rooms and a message's life, and each step mentions a name of its crate")
+@test("pictures: the pictures of tools/rooms.py are up to date, and each step mentions a function or type of its crate")
 def drawn_from_text() -> None:
     for name, drawn in rooms.pictures().items():
         same(text_of(PICTURES, name), drawn, f"{name} (tools/rooms.py draws it)")
@@ -52,7 +53,7 @@ def drawn_from_text() -> None:
         holds(any(re.search(rf"\b(fn|struct|enum|trait|type) {name}\b", text_of(it)) for it in sources), f"{crate} has no {name}")
 
 
-@test("pictures: a box stands at each arrow's ends, and no two boxes of the rooms overlap")
+@test("pictures: each arrow between the rooms begins and ends at a box, and no two boxes overlap")
 def placed() -> None:
     drawn = xml.etree.ElementTree.fromstring(text_of(PICTURES, "rooms.svg"))
     numbers: Callable[[str], float] = float
@@ -68,7 +69,7 @@ def placed() -> None:
         holds(any(a <= u <= a + w and abs(b - v) < 1 for a, b, w, _ in boxes), f"an arrow that ends at {u}, {v}")
 
 
-@test("pictures: README's is what Neovim shows: an error that is marked, and a rename that is refused")
+@test("pictures: the README's picture matches what Neovim shows: a marked error and a refused rename")
 def editor() -> None:
     want("Neovim", "tmux")
     need_program()
@@ -84,7 +85,7 @@ def editor() -> None:
         same(now, kept, "the picture (tools/screens.py makes it)")
 
 
-@test("pictures: letters of a terminal have its colours, and keep their places")
+@test("pictures: a terminal's coloured line is split into pieces of text with their styles")
 def coloured() -> None:
     line = "a\x1b[1;31mb\x1b[0m \x1b[38;5;196;48;2;1;2;3mc\x1b[4;58;2;255;0;0md\x1b[24;39;49me\x1b[7mf"
     runs, last = screens.runs_of(line, screens.Style())
@@ -102,7 +103,7 @@ def coloured() -> None:
     same(last, wanted[-1][1], "the style at its end")
 
 
-@test("pictures: the plots are drawn from the tables of docs/PERFORMANCE.md, which have each program, and say what they were counted with")
+@test("pictures: the plots match the tables of docs/PERFORMANCE.md, and the page lists the programs and versions used")
 def plotted() -> None:
     page = text_of(PERFORMANCE)
     for name, drawn in plots.drawn_of(page).items():
@@ -123,7 +124,7 @@ def plotted() -> None:
 
 
 def ratios_fit(page: str) -> None:
-    """Holds the ratios of the first table to its counts."""
+    """Requires each ratio in the page's first table to fit the counts in that table."""
     heads, rows = plots.rows_of(page, plots.KEYS)
     sizes = len([it for it in heads if it.endswith("bytes")])
     for name, values in rows:
@@ -131,7 +132,7 @@ def ratios_fit(page: str) -> None:
             holds(abs(scratch / value - ratio) <= 0.51 + ratio / 20, f"{name}: {scratch} is {ratio} times {value}")
 
 
-@test("pictures: a page with figures gets its two tables and a plot of each")
+@test("pictures: new figures replace the page's two tables, and each table gets one plot")
 def counted() -> None:
     changes = {name: [10 ** (4 + at) // (number + 1) for at in range(3)] for number, name in enumerate((report.SCRATCH, *report.CHANGES, report.TYPED))}
     runs = {name: [1000 + number, 4000, 90000] for number, name in enumerate(programs.PROGRAMS)}

@@ -1,4 +1,5 @@
-"""How pages, comments and printed texts are worded: the counts in tests/prose.txt may only fall (tools/prose.py counts)."""
+"""Tests the wording of pages, comments and printed texts: the counts in tests/prose.txt may only fall. (tools/prose.py
+does the counting.)"""
 from __future__ import annotations
 
 import os
@@ -45,7 +46,7 @@ alone = f"where it {alone} mends", "alone", b"alone is taken"  # a value of its 
 '''
 
 
-@test("prose: no file has more of the forty phrases or of comments without a verb than tests/prose.txt lists, no page another long sentence")
+@test("prose: no file exceeds its counts of phrases in tests/prose.txt, and no page gains a sentence that is too long")
 def none_rose() -> None:
     same(prose.risen(), [], "what rose: word it in another way (`tools/prose.py FILE` shows each place)")
 
@@ -64,7 +65,7 @@ def found() -> None:
         same(+prose.phrases_in(comments), Counter({"what is left": 3, "mend": 1}), "the phrases of comments")
 
 
-@test("prose: of Python the strings with a blank and the comments are counted, of other files all lines, of mutants the first ones")
+@test("prose: Python's comments and strings with a space are counted, all lines of other files, mutants' first lines")
 def found_elsewhere() -> None:
     with tempfile.TemporaryDirectory() as room:
         script, completion, mutant = (os.path.join(room, it) for it in ("a.py", "ob0.fish", "a.edit"))

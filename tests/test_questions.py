@@ -1,4 +1,4 @@
-"""Hover, definition, references and prepareRename through `serve`."""
+"""Tests the server's answers to hover, definition, references and prepareRename."""
 from __future__ import annotations
 
 from typing import Any
@@ -16,7 +16,7 @@ def where(line: int, character: int, **more: Any) -> Message:
 
 
 class Asked(Server):
-    """A server that holds one text."""
+    """A server with one open document, and methods that ask about its text."""
 
     def __init__(self, text: str, **capabilities: Any) -> None:
         super().__init__(capabilities=capabilities)
@@ -40,7 +40,7 @@ class Asked(Server):
         return found and found["range"]
 
 
-@test("questions: hover, byte by byte")
+@test("questions: the answer to hover is, byte by byte, as expected")
 def hover_bytes() -> None:
     found = serve(frames([initialize(), did_open(CALLS), request(3, "textDocument/hover", where(3, 7))])).contents()[2]
     wanted = (
@@ -50,7 +50,7 @@ def hover_bytes() -> None:
     same(found, wanted)
 
 
-@test("questions: definition and references, byte by byte")
+@test("questions: the answers to definition, references and prepareRename are, byte by byte, as expected")
 def references_bytes() -> None:
     queries = [
         request(3, "textDocument/definition", where(2, 47)),
@@ -70,7 +70,7 @@ def references_bytes() -> None:
     )
 
 
-@test("questions: predeclared names and places without a name")
+@test("questions: a predeclared name has no definition, and nothing is found at a position without a name")
 def no_names() -> None:
     with Asked(CALLS) as server:
         write = [extent("2:20-2:25")]
@@ -83,7 +83,7 @@ def no_names() -> None:
             same(server.definition(line, character), None, f"definition at {line}:{character}")
 
 
-@test("questions: hover of predeclared names, and where no name is")
+@test("questions: hover describes a predeclared name, and answers null at a position without a name")
 def no_hover() -> None:
     with Asked(CALLS) as server:
         same(server.hover(2, 20), ("predeclared Write", extent("2:20-2:25")))
@@ -93,7 +93,7 @@ def no_hover() -> None:
         same(server.result("hover", 0, 7), None)
 
 
-@test("questions: a text that isn't well-typed")
+@test("questions: if the text isn't well-typed, definition and prepareRename answer null, and references finds nothing")
 def ill_typed() -> None:
     with Asked("MODULE M") as server:
         for what in ("definition", "prepareRename"):
@@ -101,7 +101,7 @@ def ill_typed() -> None:
         same(server.references(0, 7, True), [])
 
 
-@test("questions: each place of a text that isn't well-typed")
+@test("questions: hover, definition and references find nothing at any position of a text that isn't well-typed")
 def ill_typed_places() -> None:
     with Asked("MODULE M") as server:
         for character in range(9):
@@ -112,7 +112,7 @@ def ill_typed_places() -> None:
                 same(found, [], f"references at 0:{character}")
 
 
-@test("questions: positions that can't be read, and positions far off")
+@test("questions: an unreadable position is refused as `bad params`, and a position after the text counts as its end")
 def positions() -> None:
     bad = {"code": -32602, "message": "bad params"}
     with Asked(CALLS) as server:
@@ -148,14 +148,14 @@ BEGIN a[c] := d; Q(a[0], p[0][1], on, b); b := TRUE END M.
 
 
 def shows(server: Asked, wanted: dict[str, str]) -> None:
-    """Hover displays these texts at both ends of their ranges."""
+    """Requires hover to show the given text at both ends of each given range."""
     for span, text in wanted.items():
         at = extent(span)
         for end in ("start", "end"):
             same(server.hover(at[end]["line"], at[end]["character"]), (text, at), f"at {span}")
 
 
-@test("questions: what hover shows of each kind of name")
+@test("questions: hover shows the declaration of each kind of name")
 def hovers() -> None:
     wanted = {
         "1:6-1:7": "CONST c = 7",
@@ -182,7 +182,7 @@ def hovers() -> None:
         shows(server, wanted)
 
 
-@test("questions: hover of a constant that is FALSE")
+@test("questions: hover shows the value of a constant that is FALSE")
 def hover_false() -> None:
     text = "MODULE M; CONST c = FALSE; d = 1 > 2; BEGIN IF c OR d THEN WriteLn END END M."
     wanted = {"0:16-0:17": "CONST c = FALSE", "0:27-0:28": "CONST d = FALSE", "0:47-0:48": "CONST c = FALSE"}
@@ -190,7 +190,7 @@ def hover_false() -> None:
         shows(server, wanted)
 
 
-@test("questions: names that are declared again, closing names")
+@test("questions: definition and references tell names that are declared again apart, and include closing names")
 def scopes() -> None:
     with Asked(NAMES) as server:
         same(server.definition(6, 19), extent("5:4-5:5"), "the inner c")
@@ -200,7 +200,7 @@ def scopes() -> None:
         same(server.references(7, 20, False), [extent(it) for it in ("6:40-6:41", "7:20-7:21", "8:17-8:18")])
 
 
-@test("questions: fields, by their record")
+@test("questions: definition and references tell fields with the same name in different records apart")
 def fields() -> None:
     with Asked(NAMES) as server:
         same(server.hover(6, 26), ("FIELD x: INTEGER", extent("6:26-6:27")))
@@ -219,7 +219,7 @@ BEGIN r.a := 1; s.a := 2; a := r.a + s.a; Write(a) END M.
         same(server.references(3, 26, True), [extent(it) for it in ("2:36-2:37", "3:26-3:27", "3:48-3:49")])
 
 
-@test("questions: hover where a field is declared")
+@test("questions: hover shows the type of a field at its declaration")
 def declared_fields() -> None:
     wanted = {
         "2:40-2:41": "FIELD x: INTEGER",
@@ -254,7 +254,7 @@ END M.
             same(server.hover(line, character), None, f"at {line}:{character}")
 
 
-@test("questions: which fields can be renamed")
+@test("questions: prepareRename returns the range of a field, at its declaration and at a use")
 def renamable_fields() -> None:
     with Asked(NAMES) as server:
         same(server.result("prepareRename", 6, 31), extent("6:31-6:33"))
@@ -263,7 +263,7 @@ def renamable_fields() -> None:
         same(server.result("prepareRename", 2, 41), extent("2:40-2:41"))
 
 
-@test("questions: prepareRename at a field, byte by byte")
+@test("questions: the answers to prepareRename at a field are, byte by byte, as expected")
 def renamable_bytes() -> None:
     text = "MODULE M; VAR r: RECORD a: INTEGER END; BEGIN (* 😀 *) r.a := 1 END M."
     queries = [request(3, "textDocument/prepareRename", where(0, 24)), request(4, "textDocument/prepareRename", where(0, 57))]
@@ -274,7 +274,7 @@ def renamable_bytes() -> None:
         same(server.result("prepareRename", 0, 59), extent("0:59-0:60"))
 
 
-@test("questions: positions in UTF-8 units")
+@test("questions: positions are counted in UTF-8 units if the client asks for them, and otherwise in UTF-16 units")
 def utf8() -> None:
     text = "MODULE M; VAR x: INTEGER; BEGIN (* 😀é *) x := 1 END M."
     with Asked(text, general={"positionEncodings": ["utf-8"]}) as server:
@@ -283,7 +283,7 @@ def utf8() -> None:
         same(server.references(0, 14, True), [extent("0:14-0:15"), extent("0:42-0:43")])
 
 
-@test("questions: 5,000 references, on many lines and on one")
+@test("questions: 5,000 references are found, on many lines and on one")
 def many() -> None:
     for gap in ("\n", " ", "\r\n", " (* 😀 *) "):
         text = "MODULE M; VAR x: INTEGER; BEGIN" + f"{gap}x := 1;" * 5000 + " END M."

@@ -1,4 +1,4 @@
-"""The program against the reference, on random texts and runs: tests/lib/seeds.py says which."""
+"""Compares the program with the reference on random texts and runs. (tests/lib/seeds.py chooses the random numbers.)"""
 from __future__ import annotations
 
 import random
@@ -27,28 +27,28 @@ def compare(kind: str, count: int) -> None:
             same_diagnostics(server, MAKERS[kind](seed), seed)
 
 
-@test("random: diagnostics of texts with a few lexemes changed")
+@test("random: diagnostics of texts with a few changed lexemes match the reference's")
 def lexemes() -> None:
     compare("lexemes changed", COUNT)
 
 
-@test("random: diagnostics of texts with a few names and operators changed")
+@test("random: diagnostics of texts with a few changed names and operators match the reference's")
 def names() -> None:
     compare("names and operators changed", COUNT)
 
 
-@test("random: diagnostics of modules of few names with many faults")
+@test("random: diagnostics of modules with few names and many faults match the reference's")
 def few_names() -> None:
     compare("few names", 2 * COUNT)
 
 
-@test("random: texts of few characters")
+@test("random: diagnostics of texts made of few different characters match the reference's")
 def few_characters() -> None:
     compare("few characters", 3 * COUNT)
 
 
 def answers_at(server: Server, found: Text, at: int, where: str) -> None:
-    """Compares the answers at a place of a text with the reference's."""
+    """Requires hover, definition and references at an offset of a text to answer as the reference does."""
     span, shown, declared, places = questions.at_place(found, at) or (None, None, None, [])
     ranges: Callable[[Span], Message] = lambda it: extent("{}:{}-{}:{}".format(*found.position(it[0]), *found.position(it[1])))
     params: Message = {"position": place(*found.position(at)), "textDocument": {"uri": URI}}
@@ -64,7 +64,7 @@ def answers_at(server: Server, found: Text, at: int, where: str) -> None:
     same(result("hover"), span and {"contents": contents, "range": ranges(span)}, f"{where}: hover")
 
 
-@test("random: hover, definition and references at each place")
+@test("random: hover, definition and references at random positions match the reference's")
 def questions_anywhere() -> None:
     with Server() as server:
         for seed in seeds(max(1, COUNT // 30)):
@@ -76,7 +76,7 @@ def questions_anywhere() -> None:
                 answers_at(server, found, at, f"{named(seed)}, at {found.position(at)}")
 
 
-@test("random: hover, definition and references where fields are declared")
+@test("random: hover, definition and references at fields of records match the reference's")
 def declared_fields() -> None:
     with Server() as server:
         for seed in seeds(COUNT // 3):
@@ -88,23 +88,23 @@ def declared_fields() -> None:
                     answers_at(server, found, it.start, f"{named(seed)}, at {found.position(it.start)} of\n{text}\n")
 
 
-@test("random: runs")
+@test("random: runs of random modules match the reference interpreter's")
 def runs() -> None:
     print("    " + counted(run_of(random_texts.program, seed) for seed in seeds(COUNT)))
 
 
-@test("random: runs in which arrays and records are passed and copied")
+@test("random: runs that pass and copy arrays and records match the reference interpreter's")
 def aliased_runs() -> None:
     print("    " + counted(run_of(random_texts.aliased, seed) for seed in seeds(COUNT)))
 
 
-@test("random: runs of loops that count")
+@test("random: runs of modules with counting loops match the reference interpreter's")
 def counting_runs() -> None:
     print("    " + counted(run_of(random_texts.counting, seed) for seed in seeds(COUNT)))
 
 
 def spread(found: Text, changes: list[Edit]) -> list[Message]:
-    """Edits as the server writes them."""
+    """Converts edits with offsets to LSP edits, as the server would write them."""
     places = [(found.position(start), found.position(end), new) for start, end, new in changes]
     return [{"newText": new, "range": {"end": place(*end), "start": place(*start)}} for start, end, new in places]
 
@@ -128,7 +128,7 @@ def modules(count: int) -> Iterator[tuple[int, random.Random, str, Text]]:
         yield seed, chance, text, Text(text)
 
 
-@test("random: renames")
+@test("random: renames match the reference's, and the renamed modules run as before")
 def renames() -> None:
     with Server() as server:
         for seed, chance, text, found in modules(COUNT // 10):
@@ -146,7 +146,7 @@ def renames() -> None:
                     keeps_runs(text, edits.patched(text, wanted_), seed)
 
 
-@test("random: inlining")
+@test("random: inlinings match the reference's, and the changed modules run as before")
 def inlining() -> None:
     with Server(capabilities={"textDocument": {"codeAction": {"codeActionLiteralSupport": {}}}}) as server:
         for seed, chance, text, found in modules(COUNT // 10):
@@ -169,7 +169,7 @@ def inlining() -> None:
                         keeps_runs(text, edits.patched(text, it), seed)
 
 
-@test("random: formatting")
+@test("random: formatting matches the reference's")
 def formatting() -> None:
     with Server() as server:
         for seed, chance, text, _ in modules(COUNT // 5):

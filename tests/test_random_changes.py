@@ -1,5 +1,5 @@
-"""The analysis after a change is the new text's: random changes, each compared with a server that reads the text for the
-first time. `make faults` does the same 20,000 times."""
+"""Makes random changes. After each, the server must report the same as a new server that reads only the new text. `make
+faults` does the same 20,000 times."""
 from __future__ import annotations
 
 import random_changes

@@ -1,4 +1,5 @@
-"""What counts as a refusal of an edit in crates/*/must-fail, by lines that `rt ci` prints; and that these edits are the named ones."""
+"""Tests which output of `rt ci` counts as refusing an edit in crates/*/must-fail, and that docs/PROVING.md lists these
+edits."""
 from __future__ import annotations
 
 import contextlib
@@ -14,7 +15,7 @@ from harness import holds, same, test, text_of
 
 FRAME = "ob0_frame/must-fail/goes_on_after_bad_head.edit"
 TEXT = "ob0_text/must-fail/units_are_characters.edit"
-# What `rt ci` has said of the two: an answer that doesn't prove its goal any more, and a goal that isn't proved.
+# The lines of `rt ci` about these two: an answer that no longer proves its goal, and a goal that isn't proved.
 BY_ANSWER = (
     "refused, as it must be: ./proofs/framer/Framer/feed/Answers.antt:25:15: error: `returns-in-Bad-stage-clause-taken`: "
     "as printed, the two types first differ where one has `(Rattle.ob0_fr"
@@ -26,12 +27,12 @@ BY_GOAL = (
 
 
 def line_of(path: str, said: str) -> str:
-    """The line of `rt ci` about an edit."""
+    """Returns the line that `rt ci` prints about an edit."""
     return f"rt: must-fail {path.replace('/must-fail/', '/')}: {said}\n"
 
 
 def taken(*lines: str) -> refusals.Refusals:
-    """The edits after some lines of `rt ci`."""
+    """Returns the state of all edits after reading these lines of `rt ci`."""
     found = refusals.Refusals()
     for line in lines:
         found.take(line)
@@ -39,25 +40,26 @@ def taken(*lines: str) -> refusals.Refusals:
 
 
 def why(path: str, said: str) -> Optional[str]:
-    """Why an edit doesn't count as refused, if it doesn't, after a line of `rt ci`."""
+    """Returns why an edit doesn't count as refused after this output of `rt ci`, or None if it does."""
     found = taken(line_of(path, said))
     return found.why_not(found.edits[path])
 
 
 def goal_at(name: str) -> str:
-    """The line of a goal at a place of the function that the edit of ob0_text changes, or of the one before it."""
+    """Returns a line about an unproved goal in the function that the edit of ob0_text changes. For any other name the
+    line is about a goal before that function."""
     found = refusals.Refusals()
     turned = next(iter(found.edits[TEXT].turned or ()))
     return BY_GOAL.format(line=turned.first if name == turned.name else turned.first - 5)
 
 
-@test("refusals: an edit is refused by a goal, or by an answer to a goal, of the clause that its first line names")
+@test("refusals: an edit counts as refused if a goal of the clause in its first line is unproved, or its answer fails")
 def by_its_clause() -> None:
     same(why(FRAME, BY_ANSWER), None, "an answer")
     same(why(TEXT, goal_at("character_width")), None, "a goal")
 
 
-@test("refusals: another clause, another function, a goal that was cut off, and names that are gone don't count")
+@test("refusals: a refusal by another clause or function, a cut-off goal or missing names isn't the expected refusal")
 def by_something_else() -> None:
     for said in (
         BY_ANSWER.replace("clause-taken", "clause-memory"),
@@ -73,7 +75,7 @@ def by_something_else() -> None:
     holds(why(TEXT, goal_at("character_width").replace("returns-in-Utf16", "count-requires-few")), "what a callee requires")
 
 
-@test("refusals: an edit that is proved, or that the kit can't try, doesn't count; one of which no line came fails")
+@test("refusals: an edit that is still proved or can't be tried doesn't count, and one without a line of output fails")
 def not_at_all() -> None:
     for said in ("NOT REFUSED: the crate is still proved with this edit", "BAD EDIT: an 'old:' text is in src/framer.rt 2 times, and not once"):
         same(why(FRAME, said), said, "what the kit says")
@@ -93,7 +95,7 @@ def not_at_all() -> None:
     same((refused, failed), (0, count + 1), "a line of no edit")
 
 
-@test("refusals: each edit of `rt ci` names a function that it changes, adds no loop, and is in a crate of crates.txt")
+@test("refusals: each edit of `rt ci` changes the function that it names, adds no loop, and is of a listed crate")
 def edits_of_kit() -> None:
     found = refusals.Refusals().edits
     for path, edit in found.items():
@@ -103,7 +105,8 @@ def edits_of_kit() -> None:
     holds(not any(edits.has(crate, "gate-mutants") for crate in common.listed()), "a folder that nothing reads")
 
 
-# The calls that the promises are about: of each an edit changes the public function itself. (`serve` only calls `serve_stream`.)
+# The calls that the promises are about. For each call, an edit changes the public function itself. (`serve` only calls
+# `serve_stream`.)
 PROMISED = (
     "Documents::did_change", "Framer::feed", "Session::step", "captures", "check", "command", "execute", "format", "inline_all",
     "inline_here", "parse", "rename", "run", "serve_stream",
@@ -111,7 +114,8 @@ PROMISED = (
 
 
 class NamedBody:
-    """A row of the page's table: the edit, the function that refuses it, by which clauses, and whether that is public."""
+    """A row of the page's table: an edit, the function and clauses that refuse it, and whether the function is
+    public."""
 
     def __init__(self, row: str) -> None:
         self.body, edit, function, self.clauses, self.is_public = re.split(r" \| ", row.strip("| "))
@@ -119,17 +123,17 @@ class NamedBody:
 
 
 def named_bodies() -> List[NamedBody]:
-    """The rows of the table of named bodies."""
+    """Returns the rows of the table in docs/PROVING.md, The named bodies."""
     part = text_of("docs/PROVING.md").partition("### The named bodies")[2].partition("\n### ")[0]
     return [NamedBody(it) for it in re.findall(r"^\| .* \|$", part, re.M)[1:]]
 
 
-@test("refusals: the page names each edit of `rt ci`, with the function and the clauses that refuse it, and whether it is public")
+@test("refusals: docs/PROVING.md lists each edit of `rt ci`, with the function and clauses that refuse it")
 def on_page() -> None:
     found, sources = {it.path: it for it in named_bodies()}, {it: reading.Source(it) for it in named_crates()}
     all_edits = {it.path: it for crate, source in sources.items() for it in edits.edits_of(crate, source)}
     same([it for it in all_edits if all_edits[it].is_of_kit and it not in found], [], "edits that the page doesn't name")
-    same([it for it in found if it not in all_edits], [], "edits that it names, and that aren't there")
+    same([it for it in found if it not in all_edits], [], "edits on the page that don't exist")
     same(len(found), len(named_bodies()), "how many are named once")
     for path, row in found.items():
         edit = all_edits[path]
@@ -144,6 +148,6 @@ def on_page() -> None:
 
 
 def named_crates() -> List[str]:
-    """The crates of the named bodies, and those with edits that `rt ci` tries."""
+    """Returns the crates that the page's table mentions, and those with edits that `rt ci` tries."""
     named = {it.path.partition("/")[0] for it in named_bodies()}
     return [it for it in common.listed() if it in named or edits.has(it, edits.OF_KIT)]

@@ -1,7 +1,8 @@
-"""Each allocation of the program, the framer and the worlds fails, one at a time, by itself and with all after it.
+"""Tests that the program, the framer and the worlds survive failing allocations: each allocation fails once by itself,
+and once with all later ones.
 
-The framer and the worlds of an editor and a server are in the tests of the crates. `make faults` does the same in longer
-conversations and in the other tests of the crates."""
+The tests of the framer and of the worlds of an editor and a server are in the crates. `make faults` does the same in
+longer conversations and in the other tests of the crates."""
 from __future__ import annotations
 
 import conversations

@@ -1,5 +1,5 @@
-"""A release: its number, its changes, the notices of what it is linked with, and CONTRIBUTING's recipe, followed in a repository of
-its own with a program that stands in for ob0."""
+"""Tests a release: its version, its changes, the notices of linked crates, and CONTRIBUTING's recipe, which is followed
+in a temporary repository with another program in place of ob0."""
 from __future__ import annotations
 
 import contextlib
@@ -47,7 +47,7 @@ json.dump({**notices.head(), "crates": crates}, open(notices.KEPT, "w"))
 
 
 class Repository:
-    """Makes a repository with the packed files, and with a program that stands in for ob0."""
+    """A temporary Git repository with the files that are packed, and with /bin/true in place of ob0."""
 
     def __init__(self, room: str) -> None:
         self.room = os.path.join(room, "repository")
@@ -66,7 +66,7 @@ class Repository:
         self.build()
 
     def ran(self, *words: str, **named: str) -> str:
-        """What a command prints, which has to end well."""
+        """Runs a command, requires it to succeed, and returns its output."""
         status, said = self.tried(*words, **named)
         same(status, 0, f"{words}: {said}")
         return said
@@ -79,16 +79,16 @@ class Repository:
         self.ran("git", "commit", "--quiet", "--allow-empty", "-m", "x")
 
     def build(self, program: str = "/bin/true") -> None:
-        """Lets a program stand in for the one of the present sources."""
+        """Puts a program in the place of ob0, with the stamp and notices of a built one."""
         self.ran(sys.executable, "-B", "-c", f"import sys; sys.path.insert(0, 'tools')\n{STAND_IN}", program)
 
     def change(self, path: str, pattern: str, new: str) -> None:
-        """Replaces the first group of a pattern in a file."""
+        """Replaces the first group of a pattern's match in a file."""
         found = match_of(pattern, text_of(self.room, path), re.M)
         write(os.path.join(self.room, path), found.string[: found.start(1)] + new + found.string[found.end(1) :])
 
     def call(self, line: str, **named: str) -> tuple[int, str]:
-        """The status and the output of a line of Python over tools/package.py."""
+        """Runs a line of Python that uses tools/package.py. Returns the exit status and the output."""
         script = f"import sys; sys.path.insert(0, 'tools'); import package\n{line}"
         return self.tried(sys.executable, "-B", "-c", script, **named)
 
@@ -103,7 +103,7 @@ def repository() -> Iterator[Repository]:
         yield Repository(room)
 
 
-@test("release: every place that has the version has the same as the program's source")
+@test("release: every place that has the version has the same version as the program's source")
 def places() -> None:
     number = package.version()
     for path, pattern in PLACES:
@@ -113,10 +113,10 @@ def places() -> None:
         same(found - {number}, set(), f"other versions of ob0 on {path}")
 
 
-@test("release: each crate of the kit that the program is linked with has its notice in the package, or is named there")
+@test("release: each of the kit's crates in the program has its notice in the package, or is listed as having none")
 def linked() -> None:
     if not shutil.which("rt"):
-        leave_out("it wants the toolchain")
+        leave_out("it needs the toolchain")
     folder, lines = notices.kit_folder(), common.listed()
     direct = {it for name in common.below("ob0") for it in lines[name] if it not in lines}
     found = notices.linked(folder)
@@ -131,10 +131,11 @@ def linked() -> None:
             if name != "LICENSE-APACHE" or "LICENSE-MIT" not in files:
                 holds(package.indented(text_of(folder, "rattle", crate, name)) in page, f"{name} of {crate} isn't in the package")
     recipe = text_of("CONTRIBUTING.md").partition("\n## A release\n")[2]
-    holds(all(f"`{it}`" in recipe for it in ("json", "std")), "CONTRIBUTING's recipe names the crates without a notice")
+    lacking = [it for it in ("json", "std") if f"`{it}`" not in recipe]
+    same(lacking, [], "crates without a notice that CONTRIBUTING's recipe doesn't list")
 
 
-@test("release: notices are kept with the program that they are of, and without them and the toolchain nothing is packed")
+@test("release: without its own notices, and without the toolchain to collect them, a program isn't packed")
 def kept() -> None:
     with repository() as made:
         page = "print(package.copyright_page().decode())"
@@ -151,7 +152,7 @@ def kept() -> None:
             same((status, "`make build` with rt on PATH" in said), (2, True), f"with {'the notices of another program' if content else 'none'}: {said}")
 
 
-@test("release: only files that git knows are packed, and a version says whether they or the program's sources differ from the commit")
+@test("release: only files known to Git are packed, and the version of an uncommitted state ends with .changed")
 def known() -> None:
     with repository() as made:
         version: Callable[..., str] = lambda **named: made.call("print(package.build_version())", **named)[1].strip()
@@ -174,7 +175,7 @@ def known() -> None:
         same((status, "is a number of seconds" in said), (2, True), said)
 
 
-@test("release: the packages have the same bytes in another folder, with other times, zone, locale, home, umask and tests left out")
+@test("release: the packages have the same bytes in another folder, time zone, locale and home, and with skipped tests")
 def elsewhere() -> None:
     with repository() as made, temporary() as room:
         other = os.path.join(room, "an other f\u00f6lder")
@@ -194,7 +195,7 @@ def elsewhere() -> None:
         holds(text_of(other, "bin", "TESTED").endswith("\ngate: 2 passed, 0 failed, 3 skipped\n"), "what was tested there")
 
 
-@test("release: without git a version has to be given, and it begins with the program's")
+@test("release: without git a version must be given, and it must begin with the program's version")
 def given() -> None:
     with repository() as made:
         shutil.rmtree(os.path.join(made.room, ".git"))
@@ -210,13 +211,13 @@ def given() -> None:
             same({it.mtime for it in tar}, {1700000000}, "the time of the files")
 
 
-@test("release: the same content is compressed to the same bytes by every Python")
+@test("release: a compressed file contains no time and no system's name, so every Python writes the same bytes")
 def compressed() -> None:
     same(package.squeezed(b"x")[:10], b"\x1f\x8b\x08\0\0\0\0\0\x02\xff", "the head of a .gz, with no time and no name of a system")
     same(gzip.decompress(package.squeezed(b"some text")), b"some text", "what was compressed")
 
 
-@test("release: the versions of glibc that a program needs are those that objdump prints")
+@test("release: the glibc versions found in a program are those that objdump prints")
 def as_by_objdump() -> None:
     want("objdump")
     said = subprocess.run(["objdump", "-p", "/bin/true"], stdout=subprocess.PIPE, check=True).stdout.decode()
@@ -224,7 +225,7 @@ def as_by_objdump() -> None:
     same(sorted(it for _, it in glibc.needs("/bin/true")), sorted(found), "the versions that it needs")
 
 
-@test("release: the package depends on the glibc that the program's symbols need")
+@test("release: the package depends on the glibc version that the program's symbols need")
 def needed() -> None:
     with repository() as made, temporary() as room:
         with open("/bin/true", "rb") as file:
@@ -258,7 +259,7 @@ CHANGES = """# Changes
 """
 
 
-@test("release: Debian's changelog has an entry for each heading of CHANGELOG.md, and a version that isn't released has no release")
+@test("release: Debian's changelog has an entry for each heading of CHANGELOG.md, and an unreleased version is refused")
 def entries() -> None:
     with repository() as made:
         number, page = package.version(), os.path.join(made.room, "CHANGELOG.md")
@@ -285,7 +286,7 @@ def entries() -> None:
 
 
 def release(made: Repository, number: str, day: str) -> list[str]:
-    """Makes a release by the recipe; returns its packages."""
+    """Makes a release by CONTRIBUTING's recipe. Returns the paths of its two packages."""
     made.change(SOURCE, r'const VERSION: &str = "([0-9.]+)"', number)
     for path, pattern in PLACES:
         made.change(path, pattern, number)
@@ -305,7 +306,7 @@ def release(made: Repository, number: str, day: str) -> list[str]:
     return [os.path.join(room, it) for it in found]
 
 
-@test("release: two releases in a row by CONTRIBUTING's recipe, the second installed over the first, and nothing left after its removal")
+@test("release: CONTRIBUTING's recipe makes two releases; the second replaces the first, and removal leaves nothing")
 def twice() -> None:
     want("dpkg", "gpg", "root")
     with repository() as made, temporary() as room:
@@ -325,13 +326,14 @@ def twice() -> None:
 
 
 def paths_in(room: str) -> Iterator[str]:
-    """All files and folders below a folder."""
+    """Yields the paths of all files and folders below a folder."""
     for at, folders, files in os.walk(room):
         yield from (os.path.join(at, it) for it in folders + files)
 
 
 def installed_in_turn(room: str, *debs: str) -> None:
-    """Installs packages one over the other in a separate root, and removes them."""
+    """Installs packages in a separate root, each over the one before, and then removes the last one. Requires that no
+    file remains."""
     admin = os.path.join(room, "var", "lib", "dpkg")
     for it in ("available", "info/format", "updates/x", "triggers/Unincorp"):
         write(os.path.join(admin, it), "1\n" if it == "info/format" else "")
@@ -348,18 +350,18 @@ def installed_in_turn(room: str, *debs: str) -> None:
             same([it for it in file if it.startswith("ob0 (")], heads, "the entries of the installed changelog")
     status, said = run_plainly([*words, "--remove", "ob0"], dict(os.environ), room)
     shutil.rmtree(os.path.join(room, "var"))
-    same((status, list(paths_in(room))), (0, []), f"what is left: {said}")
+    same((status, list(paths_in(room))), (0, []), f"the status, and the remaining files: {said}")
 
 
 def in_prefix(made: Repository, prefix: str) -> None:
-    """Installs and removes the second release by `make`, over another program's folder."""
+    """Installs and removes the second release with `make`, in a folder that another program already uses."""
     os.makedirs(os.path.join(prefix, "bin"))
     made.ran("make", "--silent", "install", f"PREFIX={prefix}")
     made.ran("make", "--silent", "uninstall", f"PREFIX={prefix}")
     same([at for at, _, _ in os.walk(prefix)], [prefix, os.path.join(prefix, "bin")], "what `make uninstall` leaves")
 
 
-@test("release: under umask 077 everybody can read what is installed; a PREFIX may have blanks, quotes and signs of a shell")
+@test("release: under umask 077 everybody can read the installed files; PREFIX may contain spaces and shell characters")
 def for_everybody() -> None:
     with repository() as made, temporary() as room:
         prefix = os.path.join(room, 'a "b" \'c\' $HOME `d` \\e')
@@ -379,7 +381,7 @@ def for_everybody() -> None:
         same(closed, [], "folders of the archive that others can't enter")
 
 
-@test("release: the exercises can be marked if a system leaves out share/doc")
+@test("release: the exercises can be marked even if a system leaves out share/doc")
 def without_pages() -> None:
     with repository() as made, temporary() as room:
         made.ran("make", "--silent", "install", f"PREFIX={room}")
@@ -393,7 +395,7 @@ def without_pages() -> None:
         holds("Traceback" not in said and "answers" in said, said)
 
 
-@test("release: licences by REUSE: every file has one, and LICENSES/MIT.txt is LICENSE")
+@test("release: REUSE.toml gives every file a licence, and LICENSES/MIT.txt has the text of LICENSE")
 def reuse() -> None:
     terms: Callable[..., str] = lambda *path: text_of(*path).partition("Permission")[2]
     same(terms("LICENSES", "MIT.txt"), terms("LICENSE"), "the text of the licence")

@@ -1,4 +1,4 @@
-"""`ob0 run`: outputs, the seven ends, bounds, input, statuses."""
+"""Tests `ob0 run`: its output, its input, the seven ways in which a run can end, the bounds, and the exit statuses."""
 from __future__ import annotations
 
 import os
@@ -31,7 +31,7 @@ BEGIN Read(n); REPEAT Write(n); n := n - 1 UNTIL n <= 0 END M.
 def ran(
     text: str | bytes, out: str, end: str = "", given: str = "", calls: int | None = None, turns: int | None = None
 ) -> None:
-    """Holds a run to its output and its end (none: Done)."""
+    """Runs a module, and requires this output and this end (by default Done)."""
     bounds = [*(["--calls", str(calls)] if calls is not None else []), *(["--turns", str(turns)] if turns is not None else [])]
     ends(on_file("run", text, *bounds, given=given.encode()), out, 1 if end else 0, f"fault: {end}\n" if end else "")
 
@@ -41,14 +41,14 @@ def body(statements: str, variables: str = "x, y: INTEGER; b: BOOLEAN") -> str:
 
 
 def four_runs(text: str | bytes) -> None:
-    """Holds COUNTS, or that text with other names, to its ends under four inputs and bounds."""
+    """Runs COUNTS, or a renamed copy of it, with four inputs and bounds, and requires the expected outputs and ends."""
     ran(text, "", "InputEnd")
     ran(text, "\n\n\n", "TurnBound", "7", 0, 3)
     ran(text, "\n\n", "CallBound", "2", 0, 3)
     ran(text, "\n\n 0", "", "2", 1, 3)
 
 
-@test("run: input, turns and calls under bounds")
+@test("run: outputs and ends are as expected for given inputs and bounds of turns and calls")
 def bounds() -> None:
     four_runs(COUNTS)
     ran(CALLS, " 2 1", "", "", 3)
@@ -56,14 +56,14 @@ def bounds() -> None:
     ran(CALLS, " 2 1")
 
 
-@test("run: a module with a WHILE that `rename` gave another name has the same four runs")
+@test("run: after `rename`, a module with a WHILE has the same four runs")
 def renamed_runs() -> None:
     found = on_file("rename", COUNTS, "1", "4", "k")
     ends(found, edited(COUNTS, ["1:4-1:5", "2:25-2:26", "3:11-3:12", "3:21-3:22", "3:30-3:31", "3:35-3:36"], "k"), 0)
     four_runs(found.out)
 
 
-@test("run: fields of one name in two records, constants below 0, and TRUE declared again")
+@test("run: equal field names in two records, constants below 0 and a new TRUE have the expected results")
 def before_edits() -> None:
     ran(RECORDS, " 3")
     ran(LEAST, " -2147483648")
@@ -71,7 +71,7 @@ def before_edits() -> None:
     ran(SHADOWED, "")
 
 
-@test("run: names that hide others, procedures that stand later")
+@test("run: names refer to the innermost declaration, and to the right activation of a procedure")
 def scopes() -> None:
     ran(NESTED, " 1")
     ran(WRITES_A_GLOBAL, " 2 7")
@@ -79,13 +79,13 @@ def scopes() -> None:
     ran(ACTIVATIONS, "", "CallBound", "", 3)
 
 
-@test("run: aliases, and places that are fixed at the call")
+@test("run: VAR parameters are aliases, and refer to the element that was selected at the call")
 def aliases() -> None:
     ran(ALIASES, " 0 10 0 1 20", "Index", "", 1)
     ran(ALIASES, "", "CallBound", "", 0)
 
 
-@test("run: arithmetic of 32 bits, DIV and MOD")
+@test("run: 32-bit arithmetic, DIV and MOD give the defined results, or the faults Overflow and Divisor")
 def arithmetic() -> None:
     ran(DIVIDES, " -2 -3 2", "Divisor")
     ran(body("Write(2147483647 + 1)"), "", "Overflow")
@@ -98,7 +98,7 @@ def arithmetic() -> None:
     ran(body("x := -2147483647; Write(x - 1); Write(x - 2)"), " -2147483648", "Overflow")
 
 
-@test("run: relations, & and OR that stop early")
+@test("run: relations give the right values, and & and OR skip an operand that isn't needed")
 def truth() -> None:
     shows: Callable[[str], str] = lambda it: f"IF {it} THEN Write(1) ELSE Write(0) END"
     ran(body("; ".join(shows(it) for it in ("1 < 2", "1 <= 1", "2 > 2", "2 >= 2", "1 = 1", "1 # 1", "TRUE = FALSE", "TRUE # b"))), " 1 1 0 1 1 0 0 1")
@@ -107,7 +107,7 @@ def truth() -> None:
     ran(body(shows("b OR (1 DIV 0 = 1)")), "", "Divisor")
 
 
-@test("run: statements")
+@test("run: IF, WHILE and empty statements have the expected effects, and TurnBound ends an endless loop")
 def statements() -> None:
     ran(body("IF b THEN Write(1) ELSIF x = 0 THEN Write(2) ELSE Write(3) END"), " 2")
     ran(body("IF b THEN Write(1) ELSIF b THEN Write(2) END; WriteLn; ;; Write(4)"), "\n 4")
@@ -118,7 +118,7 @@ def statements() -> None:
     ran(body("WHILE x <= 100000 DO x := x + 1 END; Write(x)"), "", "TurnBound")
 
 
-@test("run: REPEAT")
+@test("run: REPEAT runs its body at least once, and its repetitions count towards the bound of turns")
 def repeated() -> None:
     ran(REPEATED, " 0", "", "0", None, 0)
     ran(REPEATED, " 2", "TurnBound", "2", None, 0)
@@ -126,7 +126,7 @@ def repeated() -> None:
     ran(REPEATED, " 2 1", "", "2", None, 2)
 
 
-@test("run: arrays and records")
+@test("run: arrays and records are copied by value, and a wrong index ends a run with Index")
 def arrays() -> None:
     ran(body("a[0] := 1; b := a; b[0] := 2; Write(a[0]); Write(b[0]); Write(b[1])", "a, b: ARRAY 2 OF INTEGER"), " 1 2 0")
     ran(body("r.x[1].y := 5; Write(r.x[1].y); Write(r.x[0].y); IF ~r.b THEN WriteLn END", "r: RECORD x: ARRAY 2 OF RECORD y: INTEGER END; b: BOOLEAN END"), " 5 0\n")
@@ -139,12 +139,12 @@ def arrays() -> None:
     ran(text + "BEGIN P(a, a); Write(a[0]); Write(a[1]) END M.", " 0 0 7")
 
 
-@test("run: variables begin as 0 at each call")
+@test("run: a procedure's variables begin as 0 or FALSE at each call")
 def begin_again() -> None:
     ran("MODULE M; PROCEDURE P; VAR x: INTEGER; b: BOOLEAN; BEGIN IF b THEN Write(9) END; x := x + 1; b := TRUE; Write(x) END P; BEGIN P; P END M.", " 1 1")
 
 
-@test("run: the input")
+@test("run: Read accepts whole numbers between white space, and other input ends a run with the fault Input")
 def inputs() -> None:
     text = body("Read(x); Read(y); Write(x + y)")
     ran(text, " 3", "", "1 2")
@@ -159,7 +159,7 @@ def inputs() -> None:
     ends(on_file("run", DIVIDES, given=b"1 x"), "", 4, "fault: Input\n")
 
 
-@test("run: a file that isn't well-typed is checked, and its input isn't read")
+@test("run: a file that isn't well-typed is reported as by `check`, and its input isn't read")
 def ill_typed() -> None:
     ends(on_file("run", "MODULE M; BEGIN x := 1 END M.", given=b"x"), "0:16: Undeclared: not declared\n", 1)
     ends(on_file("run", "", given=b"x"), "0:0: Syntax: expected MODULE\n", 1)
@@ -167,7 +167,7 @@ def ill_typed() -> None:
     ends(run(["run", "/nowhere"]), "", 4, "fault: File\n")
 
 
-@test("run: command lines")
+@test("run: bounds over their limits and other bad command lines are refused with status 2")
 def lines() -> None:
     for words in (["--calls", "65"], ["--turns", "100001"], ["--calls", "-1"], ["--turns=-1"], ["--calls", "x"], ["--calls"], ["y"]):
         found = on_file("run", DIVIDES, *words)
@@ -177,7 +177,7 @@ def lines() -> None:
     same(run(["run"]).status, 2)
 
 
-@test("run: options before the file and after it")
+@test("run: options are accepted before the file and after it")
 def options() -> None:
     with tempfile.TemporaryDirectory() as room:
         with open(os.path.join(room, "m.mod"), "w", encoding="utf-8") as file:
@@ -186,21 +186,21 @@ def options() -> None:
             ends(run(["run", *words], b"2", cwd=room), "\n", 1, "fault: TurnBound\n")
 
 
-@test("run: a predeclared name that is declared again")
+@test("run: a predeclared name that is declared again has its new meaning")
 def declared_anew() -> None:
     text = "MODULE M; VAR x: INTEGER; PROCEDURE Write(VAR n: INTEGER); BEGIN n := 3 END Write; "
     ran(text + "PROCEDURE P; BEGIN Write(x) END P; BEGIN P; IF x = 3 THEN WriteLn END END M.", "\n")
     ran("MODULE M; CONST TRUE = 1 = 2; BEGIN IF TRUE THEN Write(1) ELSE Write(0) END END M.", " 0")
 
 
-@test("run: a long run, and much output")
+@test("run: a long run prints all of its 1,000 lines")
 def long_run() -> None:
     text = body("WHILE x < 1000 DO y := 0; WHILE y < 100 DO Write(y); y := y + 1 END; WriteLn; x := x + 1 END")
     line = "".join(f" {at}" for at in range(100)) + "\n"
     ran(text, line * 1000)
 
 
-@test("run: an array of 65,536 elements, up to its last and after it")
+@test("run: an array may have 65,536 elements, and an index outside it ends a run with Index")
 def longest_array() -> None:
     text = body("Read(x); a[65535] := 7; Write(a[65535]); Write(a[0]); Write(a[x])", "x: INTEGER; a: ARRAY 65536 OF INTEGER")
     ran(text, " 7 0 7", "", "65535")
@@ -208,7 +208,7 @@ def longest_array() -> None:
     ran(text, " 7 0", "Index", "-1")
 
 
-@test("run: a procedure that would have 2^32 cells, and isn't called")
+@test("run: a procedure that would need 2^32 cells is accepted, and does no harm unless it is called")
 def too_many_cells() -> None:
     names = ",".join(f"v{at:x}" for at in range(65536))
     ran(f"MODULE M; TYPE T = ARRAY 65536 OF INTEGER; PROCEDURE P; VAR {names}: T; BEGIN END P; BEGIN Write(1) END M.", " 1")
@@ -233,7 +233,7 @@ CHAINS: Dict[str, Tuple[Callable[[int], str], int, str]] = {
 }
 
 
-@test("run: chains of 100,000 operands, ELSIF parts, statements, calls and selectors, under a stack of 4 MiB")
+@test("run: chains of 80,000 and more operands, ELSIF parts, statements, calls and selectors fit a stack of 4 MiB")
 def chains() -> None:
     for name, (make, count, out) in CHAINS.items():
         text = make(count)
@@ -242,7 +242,7 @@ def chains() -> None:
         same((found.out, found.err, found.status), (out.encode(), b"", 0), name)
 
 
-@test("run: what an iteration of a loop does is inlined in the loop")
+@test("run: the functions that a loop runs at each turn are inlined in the program")
 def inlined() -> None:
     # (one that has grown too large isn't, without a word from the toolchain, and loops take a quarter longer)
     with open(BINARY, "rb") as file:

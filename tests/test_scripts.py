@@ -1,4 +1,5 @@
-"""For scripts: ob0-format, the scripts of docs/CI.md, and the lines of the manual page that list faults as compilers do."""
+"""Tests the scripts in share/, those in docs/CI.md, and the shell lines of the manual page that list faults as
+compilers do."""
 from __future__ import annotations
 
 import functools
@@ -32,8 +33,8 @@ MODULES = {"good.mod": LAID_OUT, "loose.ob0": LOOSE, "two words.Mod": FAULTY}
 
 
 def in_folder(files: dict[str, str], function: Callable[[str, dict[str, str]], T]) -> T:
-    """Runs a function in a folder with these files: it gets the folder, and an environment in which `ob0` and the scripts
-    are commands."""
+    """Calls a function with a folder that contains these files, and with an environment in which `ob0` and its scripts
+    are on PATH."""
     need_program()
     with tempfile.TemporaryDirectory() as room:
         work = os.path.join(room, "work")
@@ -48,13 +49,13 @@ def in_folder(files: dict[str, str], function: Callable[[str, dict[str, str]], T
 
 
 def ran(words: list[str], work: str, environment: dict[str, str], given: str = "") -> tuple[int, str, str]:
-    """The status of a command, and what it wrote to standard output and to standard error."""
+    """Runs a command. Returns its exit status, its output and its error output."""
     how: dict[str, Any] = {"input": given.encode(), "capture_output": True, "cwd": work, "env": environment, "timeout": harness.SECONDS}
     found = subprocess.run(words, check=False, **how)
     return found.returncode, found.stdout.decode(errors="surrogateescape"), found.stderr.decode(errors="surrogateescape")
 
 
-@test("scripts: ob0-format formats files and names them, and changes neither formatted files nor those with errors")
+@test("scripts: ob0-format formats files and prints their names, and leaves formatted or faulty files unchanged")
 def lays_out() -> None:
     def trial(work: str, own: dict[str, str]) -> None:
         os.chmod(os.path.join(work, "loose.ob0"), 0o640)
@@ -74,7 +75,7 @@ def lays_out() -> None:
     in_folder(MODULES, trial)
 
 
-@test("scripts: ob0-format counts in bytes, takes each line ending and reads /dev/stdin")
+@test("scripts: ob0-format handles non-ASCII letters and each kind of line ending, and reads /dev/stdin")
 def in_bytes() -> None:
     text = "MODULE M;\r\n(* \u00e4\U0001f600 *)VAR x:INTEGER;\rBEGIN(*\u20ac*)x:=1 END M.\n"
 
@@ -88,7 +89,7 @@ def in_bytes() -> None:
     in_folder({"m.mod": text}, trial)
 
 
-@test("scripts: ob0-format formats standard input to standard output, folders, and prints differences")
+@test("scripts: ob0-format formats standard input to standard output, formats folders, and prints differences")
 def format_forms() -> None:
     def trial(work: str, own: dict[str, str]) -> None:
         same(ran(["ob0-format", "-"], work, own, LOOSE), (0, LAID_OUT, ""), "standard input")
@@ -128,7 +129,7 @@ END M.
 """
 
 
-@test("scripts: ob0-rename renames by a place counted from 1, prints or replaces, and says a refusal in words")
+@test("scripts: ob0-rename takes a position counted from 1, prints or replaces the file, and puts a refusal into words")
 def rename_script() -> None:
     refusals = {
         "m.mod:2:5 y": (1, "m.mod:2:5: `y` is declared in line 2 already (Duplicate)"),
@@ -219,7 +220,7 @@ TRACED: dict[str, list[str]] = {
 }
 
 
-@test("scripts: ob0-trace says at which line and statement a run ends, in which calls and with which variables")
+@test("scripts: ob0-trace reports the line and statement at which a run ends, the open calls and their variables")
 def traced() -> None:
     def trial(work: str, own: dict[str, str]) -> None:
         for given, wanted in TRACED.items():
@@ -253,7 +254,7 @@ def traced() -> None:
     in_folder({**MODULES, "m.mod": FAULTS, "gcd.mod": text_of("examples", "Gcd.mod")}, trial)
 
 
-@test("scripts: ob0-trace says so if the second run prints or ends otherwise than `ob0 run`, with a status of its own")
+@test("scripts: ob0-trace reports, with its own status, if its second run differs from `ob0 run`")
 def traced_otherwise() -> None:
     said = "m.mod: the second run ends with Done or prints something else, unlike `ob0 run`: please report this\n"
     for line in ("printf ' 1 2'", "printf ' 1\\n'; echo 'fault: Index' >&2; exit 1"):
@@ -268,7 +269,7 @@ def traced_otherwise() -> None:
         in_folder({"m.mod": "MODULE M; BEGIN Write(1); WriteLn END M."}, trial)
 
 
-@test("scripts: ob0-format ends with 2 for its command line and with 4 for files, and goes on with the others")
+@test("scripts: ob0-format ends with 2 for a bad command line and 4 for bad files, and continues with the other files")
 def format_statuses() -> None:
     def trial(work: str, own: dict[str, str]) -> None:
         with open(os.path.join(work, "latin.mod"), "wb") as file:
@@ -299,8 +300,9 @@ STARTED: list[Content] = [{"id": 1, "result": {"capabilities": {"positionEncodin
 def server_with(
     edits: list[Message], more: Iterable[Message] = (), faults: Iterable[Message] = (), meanwhile: str = ""
 ) -> str:
-    """A server that answers the first request for a layout with these edits; of the text that they make it has these faults, and
-    answers with more edits. It runs a line of Python once the first text is opened."""
+    """Returns the script of a server. It answers the first formatting request with `edits`, reports `faults` in the
+    resulting text, and answers the next request with `more`. It runs the line `meanwhile` once the first text is
+    opened."""
     answers: list[Content] = [published([]), {"id": 3, "result": edits}, published([])]
     answers += [published([*faults]), {"id": 5, "result": [*more]}, published([]), {"id": 6, "result": None}]
     waits = "got = b''\nwhile b'didOpen' not in got: got += os.read(0, 65536)"
@@ -329,7 +331,7 @@ def guarded() -> None:
         in_folder(MODULES, trial)
 
 
-@test("scripts: ob0-format leaves a file that another program changes before the server has answered")
+@test("scripts: ob0-format leaves a file unchanged if another program changes it before the server has answered")
 def format_late() -> None:
     edits: list[Message] = [{"range": harness.extent("4:7-4:8"), "newText": "1 "}]
     trials: dict[str, tuple[str | None, str]] = {
@@ -354,7 +356,7 @@ def format_late() -> None:
         in_folder({"good.mod": LAID_OUT}, trial)
 
 
-@test("scripts: a failed write leaves the old file, and nothing beside it")
+@test("scripts: if writing fails, the old file is kept and no temporary file remains")
 def failed_write() -> None:
     def trial(work: str, own: dict[str, str]) -> None:
         # (root may write everywhere, so it becomes another user, who may have no way into the folder of the sources)
@@ -379,7 +381,7 @@ LOCALES: list[dict[str, str]] = [{}, {"PYTHONIOENCODING": "utf-8:strict"}, {"PYT
 LOCALES.append({"LC_ALL": "C", "PYTHONCOERCECLOCALE": "0", "PYTHONUTF8": "0"})
 
 
-@test("scripts: ob0-format prints names of any bytes in any locale, and tries each file")
+@test("scripts: ob0-format prints file names of any bytes in any locale, and tries each file")
 def format_names() -> None:
     def trial(more: dict[str, str], work: str, own: dict[str, str]) -> None:
         found = ran(["ob0-format", "--check", *NAMES], work, {**own, **more})
@@ -395,7 +397,7 @@ def format_names() -> None:
 CLOSED = "import os, sys; r, w = os.pipe(); os.close(r); os.dup2(w, 1); os.execvp(sys.argv[1], sys.argv[1:])"
 
 
-@test("scripts: ob0-format formats each file even if their names can't be printed, and says that once")
+@test("scripts: ob0-format formats each file even if the names can't be printed, and reports that once")
 def format_unprinted() -> None:
     def trial(line: str, why: str, work: str, own: dict[str, str]) -> None:
         found = ran(["sh", "-c", line, "sh", *NAMES], work, own)
@@ -410,7 +412,7 @@ def format_unprinted() -> None:
         in_folder(dict.fromkeys(NAMES, LOOSE), functools.partial(trial, line, why))
 
 
-@test("scripts: ob0-format keeps owner, group, mode, attributes and line ends, and leaves a file that is read-only or has two names")
+@test("scripts: ob0-format keeps owner, mode, attributes and line endings, and skips read-only and hard-linked files")
 def format_keeps() -> None:
     def trial(work: str, own: dict[str, str]) -> None:
         file = os.path.join(work, "loose.ob0")
@@ -434,7 +436,7 @@ def format_keeps() -> None:
     in_folder({**dict.fromkeys(("loose.ob0", "read.mod", "first.mod"), LOOSE), "dos.mod": LOOSE.replace("\n", "\r\n")}, trial)
 
 
-@test("scripts: ob0-format leaves another user's file, whose owner it can't keep")
+@test("scripts: ob0-format leaves another user's file unchanged if it can't keep the owner")
 def format_others() -> None:
     want("root")
 
@@ -453,7 +455,7 @@ def format_others() -> None:
     in_folder({"good.mod": LAID_OUT}, trial)
 
 
-@test("scripts: ob0-format replaces no device, and reads no more of one than a module may have")
+@test("scripts: ob0-format refuses to replace a device, and reads no more from one than a module may have")
 def format_devices() -> None:
     refused = "/dev/stdin: only a file can be replaced\n"
 
@@ -469,8 +471,8 @@ def format_devices() -> None:
 
 
 def first_by(lines: str, answers: list[Content], work: str, own: dict[str, str]) -> dict[str, str]:
-    """The environment in which `ob0` writes these answers and then runs these lines of a shell, its process being in the file
-    `pid`, when it is started for the first time. After that it is the program."""
+    """Returns an environment in which `ob0`, when first started, writes its process number to the file `pid`, prints
+    these answers, and runs these shell lines. Later calls start the real program."""
     other = os.path.join(work, "..", "other")
     script = f"#!/bin/sh\n[ -e pid ] && exec ob0-itself \"$@\"\necho $$ > new; mv new pid; cat '{other}/answers'\n{lines}\n"
     write(os.path.join(other, "ob0"), script)
@@ -481,7 +483,7 @@ def first_by(lines: str, answers: list[Content], work: str, own: dict[str, str])
     return {**own, "PATH": other + os.pathsep + own["PATH"]}
 
 
-@test("scripts: ob0-format continues with a new server if one fails over a file")
+@test("scripts: ob0-format continues with a new server if the old one fails on a file")
 def format_again() -> None:
     strange: list[Content] = [*STARTED, {"method": "textDocument/publishDiagnostics"}]
     for answers, said in ((STARTED, "the server ended"), (strange, "the server answers something else than it has to")):
@@ -507,7 +509,7 @@ runpy.run_path(sys.argv[0], run_name="__main__")
 SIGNALS = (signal.SIGINT, signal.SIGTERM, signal.SIGHUP)
 
 
-@test("scripts: a signal ends ob0-format and its server between two files, and leaves no half-written and no other file")
+@test("scripts: a signal ends ob0-format and its server, and leaves no half-written and no temporary file")
 def format_signalled() -> None:
     def while_it_writes(number: int, work: str, own: dict[str, str]) -> None:
         status, out, _ = ran(["python3", "-c", SIGNALLED, str(int(number)), FORMAT, "a.mod", "b.mod"], work, own)
@@ -540,7 +542,7 @@ ODD = ["-ugly.mod", "100%, a:b.mod", "1:x.mod", "it's.mod", 'quote".mod', "back\
 ESCAPED = [("%", "%25"), ("\n", "%0A"), (":", "%3A"), (",", "%2C")]
 
 
-@test("scripts: ob0-check lists the errors of several files as compilers do, and for GitHub, with the worst status")
+@test("scripts: ob0-check lists the errors of several files as compilers do, or for GitHub, with the worst status")
 def check_script() -> None:
     def trial(work: str, own: dict[str, str]) -> None:
         same(
@@ -569,7 +571,7 @@ def check_script() -> None:
     in_folder(MODULES, trial)
 
 
-@test("scripts: ob0-check counts lines and columns from 1, in characters, and gives each error of the program's")
+@test("scripts: ob0-check counts lines and columns from 1, in characters, and reports the same errors as `ob0 check`")
 def check_places() -> None:
     text = "MODULE M;\r\n(* \u00e4\U0001f600 *) x;\r\ty\n\u00e9 END M.\n"
 
@@ -612,7 +614,7 @@ def check_places() -> None:
     in_folder({"m.mod": text}, trial)
 
 
-@test("scripts: ob0-check writes JSON that names the file, the place, the code and the message of each error")
+@test("scripts: ob0-check --json writes the file, position, code and message of each error")
 def check_json() -> None:
     def trial(work: str, own: dict[str, str]) -> None:
         status, out, _ = ran(["ob0-check", "--json", *MODULES, "nowhere.mod"], work, own)
@@ -640,7 +642,7 @@ def check_json() -> None:
     in_folder(MODULES, trial)
 
 
-@test("scripts: ob0-check --hints prints a hint under a message, and beside it in the other forms")
+@test("scripts: ob0-check --hints prints a hint below a message, and includes it in the other formats")
 def check_hints() -> None:
     text = "MODULE M;\nVAR x: INTEGER;\nBEGIN\n  x = 1\nEND M.\n"
     hint = "an assignment is written `:=`, as in `x := 1`; `=` compares"
@@ -660,7 +662,7 @@ def check_hints() -> None:
     in_folder({**MODULES, "m.mod": text}, trial)
 
 
-@test("scripts: ob0-check and ob0-format take files of any name")
+@test("scripts: ob0-check and ob0-format accept files of any name")
 def check_names() -> None:
     def trial(work: str, own: dict[str, str]) -> None:
         for name in names:
@@ -713,7 +715,7 @@ TAKEN = [
 ]
 
 
-@test("scripts: of a folder ob0-check and ob0-format take Oberon-0's files, and none behind links or in hidden folders")
+@test("scripts: in a folder ob0-check and ob0-format handle only module files, and skip links and hidden folders")
 def taken() -> None:
     def trial(work: str, own: dict[str, str]) -> None:
         for name, target in (("link.mod", "f.mod"), ("links", "lib")):
@@ -755,7 +757,7 @@ def unreadable() -> None:
 ENDLESS = "MODULE Gcd;\nBEGIN\n  WHILE TRUE DO\n  END\nEND Gcd.\n"
 
 
-@test("scripts: the page's line compares the output of a module with the known one, and refuses a run that ends with a fault")
+@test("scripts: the line in docs/CI.md compares a module's output with the expected one, and fails after a run's fault")
 def run_script() -> None:
     files = {f"Gcd.{it}": text_of("examples", f"Gcd.{it}") for it in ("mod", "in", "out")}
     faulty = "a: ARRAY 1 OF INTEGER;\n" + files["Gcd.mod"].partition("VAR\n")[2]
@@ -768,7 +770,7 @@ def run_script() -> None:
         same((found[0], found[2] if said else ""), (status, said), f"with {more}: {found}")
 
 
-@test("scripts: a FILE may be /dev/stdin if the page says so")
+@test("scripts: FILE may be /dev/stdin for the commands that docs/CI.md lists")
 def standard_input() -> None:
     def trial(work: str, own: dict[str, str]) -> None:
         same(ran(["ob0", "check", "/dev/stdin"], work, own, LAID_OUT), (0, "", ""), "check")
@@ -792,16 +794,16 @@ def git(work: str, own: dict[str, str], *words: str) -> tuple[int, str, str]:
 
 
 def with_hook(work: str, own: dict[str, str]) -> None:
-    """Makes a folder a repository with the page's hook."""
+    """Makes a folder a Git repository that uses the hook in docs/CI.md."""
     same(git(work, own, "init", "-q")[0], 0, "git init")
     write(os.path.join(work, ".git", "hooks", "pre-commit"), HOOK)
     os.chmod(os.path.join(work, ".git", "hooks", "pre-commit"), 0o755)
 
 
-@test("scripts: the page's hook refuses a commit with errors or without a layout, by what is to be committed")
+@test("scripts: the hook in docs/CI.md rejects a commit if a staged module has errors or isn't formatted")
 def hook() -> None:
     if not shutil.which("git"):
-        harness.leave_out("it wants git")
+        harness.leave_out("it needs git")
 
     def trial(work: str, own: dict[str, str]) -> None:
         with_hook(work, own)
@@ -824,10 +826,10 @@ def hook() -> None:
     in_folder({**MODULES, "other.txt": FAULTY, "go.mod": "module example.com/x\n"}, trial)
 
 
-@test("scripts: the page's hook looks at files of any name, and not at what links lead to")
+@test("scripts: the hook in docs/CI.md checks files of any name, and follows no links")
 def hook_names() -> None:
     if not shutil.which("git"):
-        harness.leave_out("it wants git")
+        harness.leave_out("it needs git")
 
     def trial(text: str, status: int, said: str, work: str, own: dict[str, str]) -> None:
         with_hook(work, own)
@@ -845,10 +847,10 @@ def hook_names() -> None:
         in_folder({"other.txt": ""}, functools.partial(trial, text, status, said))
 
 
-@test("scripts: the page's hook checks 200 files in less than three seconds of a processor")
+@test("scripts: the hook in docs/CI.md checks 200 files in less than three seconds of CPU time")
 def hook_of_many() -> None:
     if not shutil.which("git"):
-        harness.leave_out("it wants git")
+        harness.leave_out("it needs git")
 
     def trial(work: str, own: dict[str, str]) -> None:
         with_hook(work, own)
@@ -863,7 +865,7 @@ def hook_of_many() -> None:
     in_folder({f"lib/M{at}.mod": text for at in range(200)}, trial)
 
 
-@test("scripts: the page's jobs and the hooks for pre-commit find errors and what isn't formatted")
+@test("scripts: the CI jobs and pre-commit hooks in docs/CI.md find modules that have errors or aren't formatted")
 def job() -> None:
     listed = [text for name, text in fenced("docs/CI.md") if name == "yaml"]
     blocks = [re.findall(r"^ +- (?:run: )?(ob0-\w+ .*)$", text, re.M) for text in listed]
@@ -892,7 +894,7 @@ def job() -> None:
         holds(in_folder(MODULES, functools.partial(ran, [*entry.split(), *MODULES]))[0] == 1, entry)
 
 
-@test("scripts: the lines of the manual page list faults as compilers do, and keep the status")
+@test("scripts: the shell lines in ob0's manual page list errors as compilers do, and keep the status")
 def manual_lines() -> None:
     harness.want("bash")
     page = text_of("share", "ob0.1").partition("List errors as compilers do")[2].partition(".nf\n")[2].partition(".fi\n")[0]

@@ -1,4 +1,4 @@
-"""The numbers of random tests, and how a text on which one fails is made shorter."""
+"""Tests how the numbers of random tests are chosen, and how a failing text is shortened."""
 from __future__ import annotations
 
 import contextlib
@@ -17,7 +17,8 @@ TEXT = "MODULE M; (* a comment *)\nVAR x: INTEGER;\nBEGIN\n  x := 0;\n  WHILE x 
 
 
 def begun(count: int, given: Optional[str]) -> Tuple[List[int], str]:
-    """Returns so many numbers, and the text printed about them, if the commit's is 5000."""
+    """Returns the first `count` numbers and the text printed about them, if the commit's first number is 5000 and
+    OB0_SEED is `given`."""
     with mock.patch.dict(os.environ), mock.patch.object(seeds, "of_commit", lambda: 5000), contextlib.redirect_stdout(io.StringIO()) as said:
         os.environ.pop("OB0_SEED", None)
         if given:
@@ -25,14 +26,14 @@ def begun(count: int, given: Optional[str]) -> Tuple[List[int], str]:
         return seeds.seeds(count), said.getvalue()
 
 
-@test("seeds: half of them are the commit's, and all follow a given one; the first ones are printed")
+@test("seeds: half of the numbers depend on the commit, unless OB0_SEED sets them all; the first ones are printed")
 def half_of_them() -> None:
     same(begun(6, None), ([0, 1, 2, 5000, 5001, 5002], "    seeds begin at 0 and 5000\n"))
     same(begun(1, None)[0], [0, 5000], "for one of each")
     same(begun(3, "77"), ([77, 78, 79], "    seeds begin at 77\n"), "with OB0_SEED=77")
 
 
-@test("seeds: a text is made shorter as long as it fails, by whole lexemes")
+@test("seeds: a failing text is shortened by whole lexemes as long as it still fails")
 def shorter() -> None:
     rows: List[Tuple[Callable[[str], bool], str]] = [
         (lambda it: "WHILE" in it and "+" in it, "WHILE +"),
@@ -46,7 +47,7 @@ def shorter() -> None:
         same("".join(found.split()), "".join(wanted.split()), "the shortest text")
 
 
-@test("seeds: a check that fails by chance isn't a failure of a shorter text")
+@test("seeds: a check that fails once by chance isn't reported as failing on a shorter text")
 def by_chance() -> None:
     times = [0]
 
@@ -58,7 +59,7 @@ def by_chance() -> None:
     fail_shortly(TEXT, check)
 
 
-@test("seeds: a diagnostic or a run that isn't the reference's is shown on a short text, with its number")
+@test("seeds: a diagnostic or a run that the reference contradicts is shown on a shortened text, with its number")
 def against_another() -> None:
     need_program()
     diagnostics, run = against_reference.diagnostics_of, against_reference.Short
@@ -78,7 +79,7 @@ def against_another() -> None:
 
 
 def fails_on(check: Callable[[], object], *words: str) -> None:
-    """Requires a check to fail, with these words."""
+    """Requires a check to fail with a message that contains each of these words."""
     try:
         check()
     except Failed as why:

@@ -1,4 +1,4 @@
-"""In a shell: completions for bash, zsh and fish, the manual page, and the commands of README.md and the editors' pages."""
+"""Tests the completions for bash, zsh and fish, the manual pages, and the commands on README.md."""
 from __future__ import annotations
 
 import functools
@@ -63,7 +63,7 @@ def environment(room: str) -> dict[str, str]:
     return {**os.environ, "HOME": room, "LC_ALL": "C.UTF-8", "TERM": "dumb"}
 
 
-@test("shell: the commands of the completions and of the manual page are the program's")
+@test("shell: the completions and the manual page list the program's commands and options")
 def commands() -> None:
     found = run(["--help"])
     listed = re.findall(r"^  (\w+)  +\w", found.out.decode().partition("Commands:")[2].partition("Options:")[0], re.M)
@@ -76,7 +76,7 @@ def commands() -> None:
         holds(all(option.replace("-", "\\-") in page for option in options), f"options of {it}: {options}")
 
 
-@test("shell: completion in bash")
+@test("shell: bash completes the expected commands, options and files")
 def in_bash() -> None:
     want("bash")
 
@@ -95,7 +95,7 @@ def in_bash() -> None:
         same(in_folder(functools.partial(offered, typed=typed)), by_function, f"after `{typed}`")
 
 
-@test("shell: completion in fish")
+@test("shell: fish completes the expected commands, options and files")
 def in_fish() -> None:
     want("fish")
 
@@ -116,7 +116,7 @@ def in_fish() -> None:
     same(in_folder(functools.partial(offered, typed="ob0 rename a.ob0 ")), [], "after a file")
 
 
-@test("shell: completion in zsh")
+@test("shell: zsh completes the expected commands, options and files")
 def in_zsh() -> None:
     want("zsh")
 
@@ -124,11 +124,12 @@ def in_zsh() -> None:
     setup += "zstyle ':completion:*' list-prompt ''; setopt no_auto_menu no_list_beep auto_list; PS1=; LISTMAX=0; echo rea''dy\n"
 
     def all_offered(room: str) -> list[str]:
-        """What zsh displays when Tab is typed after each line, in a terminal."""
+        """Types each line and Tab in zsh. Returns what the terminal shows after each."""
         with Screen(["zsh", "-f", "-i"], environment(room), room) as screen:
 
             def said(keys: str, until: str) -> str:
-                """What is displayed until this word was printed and zsh reads keys again (it switches bracketed paste on then)."""
+                """Types keys. Returns what the terminal has shown once the word `until` was printed and zsh reads keys
+                again (when it switches bracketed paste on)."""
                 screen.keys(keys.encode())
                 screen.shows(until.encode() + rb"(?s:.*)\[\?2004h", f"{until} from zsh")
                 return screen.drawn.decode(errors="replace")
@@ -146,7 +147,7 @@ def in_zsh() -> None:
                 holds(word not in shown, f"{word} is offered after `{typed}`: {shown!r}")
 
 
-@test("shell: the manual pages are well formed")
+@test("shell: mandoc accepts the manual pages without a warning")
 def manual() -> None:
     want("mandoc")
     for it in ("ob0.1", *(f"{it}.1" for it in package.SCRIPTS)):
@@ -164,7 +165,7 @@ def manual() -> None:
 PAGES = ["README.md", "examples/README.md"]
 
 
-@test("shell: the transcripts of README are what the program prints")
+@test("shell: the transcripts of README.md and examples/README.md are what the program prints")
 def transcripts() -> None:
     need_program()
     blocks = [text for it in PAGES for name, text in fenced(it) if name == "console"]
@@ -178,7 +179,7 @@ def transcripts() -> None:
             same(said, block)
 
 
-@test("shell: the lines of README's first module make it, find nothing wrong and run it")
+@test("shell: the README's three lines write a first module, find no error in it and run it")
 def first_module() -> None:
     need_program()
     page = text_of("README.md").partition("\n## A first module\n\n")[2]

@@ -1,4 +1,4 @@
-"""The snippets of editors/: VS Code's form has them, and Vim's, Neovim's and Emacs's are the same ones."""
+"""Tests that the snippets of VS Code, Vim, Neovim and Emacs are the same, and that they are valid and formatted."""
 from __future__ import annotations
 
 import json
@@ -43,7 +43,7 @@ def of_emacs() -> list[Snippet]:
 
 
 def filled(body: str) -> str:
-    """Returns a snippet with the values that it proposes, and a statement at the cursor's last place."""
+    """Returns a snippet's text with its default values, and with a statement at the cursor's final position."""
     values: dict[str, str] = dict(re.findall(r"\$\{(\d):([^}]*)\}", body))
 
     def proposed(place: re.Match[str]) -> str:
@@ -54,7 +54,7 @@ def filled(body: str) -> str:
 
 
 def module_of(key: str, text: str) -> str:
-    """A formatted module with a snippet in it."""
+    """Returns a formatted module that contains a snippet."""
     if key == "module":
         return text + "\n"
     if key in ("array", "record"):
@@ -63,14 +63,14 @@ def module_of(key: str, text: str) -> str:
     return f"MODULE M;\n{inner}END M.\n" if key == "procedure" else f"MODULE M;\nVAR\n  i: INTEGER;\nBEGIN\n{inner}END M.\n"
 
 
-@test("snippets: Vim, Neovim and Emacs have VS Code's")
+@test("snippets: Vim, Neovim and Emacs have the same snippets as VS Code")
 def alike() -> None:
     same([it[0] for it in of_vscode()], NAMES, "the keys")
     same(of_vim(), of_vscode(), "Vim's and Neovim's")
     same(of_emacs(), of_vscode(), "Emacs's")
 
 
-@test("snippets: each one's text has no fault in a module, and is formatted as the server does it")
+@test("snippets: each snippet, put in a module, has no diagnostics and is formatted as the server would format it")
 def correct() -> None:
     with Server() as server:
         for key, _, body in of_vscode():
@@ -81,7 +81,7 @@ def correct() -> None:
             same(server.query("textDocument/formatting", options).get("result"), [], f"the layout of {text}")
 
 
-@test("snippets: Emacs expands each by yasnippet")
+@test("snippets: yasnippet expands each snippet in Emacs as expected")
 def in_emacs() -> None:
     want("Emacs", "yasnippet")
     with temporary() as room:

@@ -1,4 +1,5 @@
-"""The sources of the repository: mutants fit the files that they change, and no file of tests imports another.
+"""Tests the sources of the repository: mutants fit the files that they change, names on pages exist, and no test file
+imports another.
 
 A mutant is a file of edits that the prover has to refuse."""
 from __future__ import annotations
@@ -21,14 +22,14 @@ from harness import TOP, holds, same, test, text_of, want
 from homes import run_plainly
 
 
-@test("sources: each mutant's old text is in its file exactly once, and the new one changes it")
+@test("sources: each mutant's old text is in its file exactly once, and its new text is different")
 def mutants_fit() -> None:
     found = [it for crate in common.listed() for it in edits.edits_of(crate)]
     holds(found, "no mutants were found")
     same([f"{it.crate}/{it.name}: {it.why}" for it in found if it.why], [], "mutants that don't fit their sources")
 
 
-@test("sources: the first line of each mutant names the clause that refuses it; README says how many mutants there are, and were refused")
+@test("sources: each mutant's first line gives the clause that refuses it, and README has the numbers of mutants")
 def mutants_explained() -> None:
     found = [it for crate in common.listed() for it in edits.edits_of(crate)]
     same([it.path for it in found if not it.claim], [], "mutants without such a line")
@@ -37,14 +38,15 @@ def mutants_explained() -> None:
 
 
 def has_clauses(claim: edits.Claim, function: reading.Function) -> bool:
-    """Whether a function has the clauses that a mutant's first line names. A trait's method has its clauses at the trait."""
+    """Returns whether a function has the clauses that a mutant's first line names. A trait's method always counts: its
+    clauses are at the trait."""
     rows = text_of(os.path.join("crates", function.crate, function.file)).split("\n")[function.first - 1 : function.last]
     names = set(re.findall(r"\bensures\s+(\w*)\s*\{", "\n".join(rows)))
     wanted = {"" if it == "the clause" else it for it in claim.clauses if it not in ("the loop", "the invariant", "the one goal")}
     return bool(function.trait) or wanted <= names
 
 
-@test("sources: what the first line of a mutant names is a clause of a function that it turns")
+@test("sources: the clause in a mutant's first line belongs to a function that the mutant changes")
 def mutants_name_clauses() -> None:
     wrong = []
     for crate in common.listed():
@@ -52,10 +54,10 @@ def mutants_name_clauses() -> None:
             claim = edit.claim
             if claim and not any(claim.is_of(it) and has_clauses(claim, it) for it in edit.turned or ()):
                 wrong.append(edit.path)
-    same(wrong, [], "those that name another")
+    same(wrong, [], "mutants with another clause or function")
 
 
-@test("sources: the picture of the rooms is as crates.txt has them, and no arrow goes up")
+@test("sources: the picture of the rooms agrees with crates.txt, and no arrow goes up")
 def rooms_drawn() -> None:
     page = text_of(os.path.relpath(rooms.PAGE, TOP))
     found = match_of(rooms.PICTURE.pattern, page, rooms.PICTURE.flags)
@@ -68,30 +70,32 @@ def rooms_drawn() -> None:
 @test("sources: no mutant adds a loop")
 def mutants_without_loops() -> None:
     found = [it for crate in common.listed() for it in edits.edits_of(crate)]
-    # (the prover asks for the invariant of a new loop, or takes that of another one for it: such a mutant is refused whatever it does)
+    # (the prover requires an invariant for a new loop, or uses another loop's: such a mutant is refused whatever it
+    # does)
     same([it.path for it in found if it.adds_loop], [], "mutants that add a loop")
 
 
-@test("sources: no file of tests imports another")
+@test("sources: no test file imports another test file")
 def tests_apart() -> None:
     for path in glob.glob(os.path.join(TOP, "tests", "**", "*.py"), recursive=True):
         found = re.findall(r"^\s*(?:import|from) (test_\w+)", text_of(path), re.M)
         same(found, [], f"what {os.path.relpath(path, TOP)} imports of the tests")
 
 
-@test("sources: each script and test that a page names is there")
+@test("sources: each script and test that a page mentions exists")
 def named_files() -> None:
     pages = [it for it in ("README.md", "CONTRIBUTING.md", "Makefile") if os.path.exists(os.path.join(TOP, it))]
     pages += [os.path.relpath(it, TOP) for it in glob.glob(os.path.join(TOP, "docs", "**", "*.md"), recursive=True)]
     for page in pages:
         found = re.findall(r"\b(?:tests|tools|bench)/[\w./]*\w", text_of(page))
-        same([it for it in found if not os.path.exists(os.path.join(TOP, it))], [], f"what {page} names and isn't there")
+        missing = [it for it in found if not os.path.exists(os.path.join(TOP, it))]
+        same(missing, [], f"missing files that {page} mentions")
 
 
 @test("sources: every function of the scripts, tests and measurements has types, and they fit (mypy --strict)")
 def types_fit() -> None:
     want("mypy")
-    # (two scripts are named run.py, and those of share/ have no ending: so they are checked apart)
+    # (two scripts have the name run.py, and scripts of share/ have no ending: so they are checked separately)
     scripts = [[f"share/{it}"] for it in package.SCRIPTS]
     most = ["tools/*.py", "tests/**/*.py", "examples/exercises/*.py", "share/ob0/**/*.py"]
     for patterns in (most, *scripts, ["bench/*.py"]):
@@ -101,7 +105,7 @@ def types_fit() -> None:
         same(status, 0, said[-3000:])
 
 
-@test("sources: bench/sizes.py counts tokens, concepts, functions that a change reaches, and searches, and each kept name exists")
+@test("sources: bench/sizes.py succeeds, and prints the counts of tokens, concepts, functions and searches")
 def sizes_counted() -> None:
     status, said = run_plainly([sys.executable, os.path.join("bench", "sizes.py")], dict(os.environ), TOP)
     same(status, 0, said[-3000:])
@@ -115,12 +119,12 @@ OF_USERS = ("docs/MESSAGES.md", "editors/", "examples/")
 # words in backticks that name no part of the sources: of the kit, of the system, of editors, of commands, or examples
 OTHERS = {"FILE", "NAME", "WORDS", "XWriteJson", "X_made", "Lts", "Proof", "tidy", "Serialize", "getrusage", "nm"}
 OTHERS |= {"Interrupted", "Rc", "changedtick", "codeDescription", "keystroke", "text_of_value"}
-# what the kit's names in pairs belong to
+# types of the kit, whose names in pairs aren't checked
 OF_KIT = {"Box", "Read", "Vec", "Write"}
 
 
 def known_words() -> Set[str]:
-    """The words of the sources, and the names of files, crates and mutants."""
+    """Returns all words in the sources and scripts, and the names of files, crates and mutants."""
     parts = [os.path.join(TOP, "crates", "*", part, "**", "*") for part in ("src", "specs", "proofs")]
     files = [it for part in parts for it in glob.glob(part, recursive=True)]
     files += glob.glob(os.path.join(TOP, "t*", "**", "*.py"), recursive=True)
@@ -133,7 +137,7 @@ def known_words() -> Set[str]:
 
 
 def known_pairs() -> Set[str]:
-    """`A::b` for each function, variant and public field `b` of a type, trait, module or crate `A`."""
+    """Returns `A::b` for each function, variant and public field `b` of a type, trait, module or crate `A`."""
     found = set()
     for crate in common.listed():
         source = reading.Source(crate)
@@ -147,13 +151,13 @@ def known_pairs() -> Set[str]:
 
 
 def all_pages() -> List[str]:
-    """Each page of the repository, by its path."""
+    """Returns the path of each page of the repository."""
     patterns = ("*.md", "docs/*.md", "docs/notes/*.md", "editors/**/*.md", "examples/**/*.md")
     found = [it for pattern in patterns for it in sorted(glob.glob(os.path.join(TOP, pattern), recursive=True))]
     return [os.path.relpath(it, TOP) for it in found]
 
 
-@test("sources: the names that the pages cite are in the sources, and `A::b` is a name of `A`")
+@test("sources: the names that pages cite exist in the sources, and in `A::b` the name `b` belongs to `A`")
 def cited_names() -> None:
     words, pairs, pages = known_words(), known_pairs(), all_pages()
     holds(len(pages) > 40 and len(pairs) > 2000, "few pages or names were found")
@@ -161,12 +165,12 @@ def cited_names() -> None:
         text = re.sub(r"^```.*?^```$", "", text_of(page), flags=re.M | re.S)
         cited = {tuple(it.split("::")) for it in re.findall(r"`([A-Za-z]\w*(?:::\w+)*)`", text)}
         single = [] if page.startswith(OF_USERS) else sorted("::".join(it) for it in cited if not words.issuperset(it))
-        same(single, [], f"what {page} cites and isn't there")
+        same(single, [], f"names on {page} that don't exist")
         paired = ("::".join(it[-2:]) for it in cited if len(it) > 1 and it[-2] not in OF_KIT)
-        same(sorted({*paired} - pairs), [], f"what {page} cites, of which the second is no name of the first")
+        same(sorted({*paired} - pairs), [], f"pairs on {page} whose second name doesn't belong to the first")
 
 
-@test("sources: each search that a recipe begins with finds something beside the recipe")
+@test("sources: each search at the start of a recipe in CONTRIBUTING.md finds something outside that page")
 def searches_find() -> None:
     want("git")
     # (the sources may lie outside a repository)
@@ -191,7 +195,7 @@ DOUBLED = {
 }
 
 
-@test("sources: each type of the code has a name of its own, and each type or fact of the definitions, but for some that are known")
+@test("sources: no two types of the code share a name, nor two types or facts of the definitions, except listed ones")
 def names_apart() -> None:
     in_code = r"^\s*(?:pub(?:\(\w+\))? )?(?:struct|enum|trait) (\w+)"
     in_definitions = r"^ *(?:(?:abbrev|pub|record|data) )+([A-Z]\w*)(?: |$)"

@@ -1,5 +1,5 @@
-"""The statement: the page of all definitions that the headline is made of is of the sources that are here, and leaves none
-of them out. The second is counted here without the script that writes the page."""
+"""Tests docs/STATEMENT.md: it is generated from the present sources, and contains every definition that the theorem
+needs. The definitions are counted here without the script that writes the page."""
 from __future__ import annotations
 
 import functools
@@ -27,12 +27,12 @@ def ran(*words: str) -> subprocess.CompletedProcess[str]:
 
 @functools.lru_cache(maxsize=None)
 def second() -> str:
-    """The second page, bin/DEFINITIONS.md, as the script prints it."""
+    """Returns the text of the second page, bin/DEFINITIONS.md, as the script prints it."""
     return ran("--print").stdout
 
 
 def fenced(language: str, page: str) -> list[tuple[str | None, str]]:
-    """The text of a page's blocks of this language, with the part that each is in."""
+    """Returns the text of each code block in this language, with the heading of the section that it is in."""
     part: str | None = None
     found: list[tuple[str | None, str]] = []
     inside: list[str] | bool | None = None
@@ -54,7 +54,8 @@ def fenced(language: str, page: str) -> list[tuple[str | None, str]]:
 
 
 def definitions(text: str) -> dict[str, str]:
-    """The definitions of some text by name, of `data` by its cases too: definitions have an empty line between them."""
+    """Returns the definitions of a text, which empty lines separate, by their names. The cases of a `data` type are
+    also names."""
     text = re.sub(r"^ *--.*\n", "", text, flags=re.M)
     found: dict[str, str] = {}
     for piece in re.split(r"\n\n+(?=\S)", text):
@@ -68,7 +69,8 @@ def definitions(text: str) -> dict[str, str]:
 
 
 def imported(text: str) -> dict[str, Place]:
-    """The names that the `use` lines of a file bring in from definitions of this repository: (crate, file, name) by name."""
+    """Returns the names that a file imports with `use` from definitions of this repository, and the crate, file and
+    original name of each."""
     found: dict[str, Place] = {}
     for crate, file, names in re.findall(r"^(?:pub )?use Rattle\.(ob0_\w+)\.specs\.(\w+)\.\{(.*)\}$", text, re.M):
         for one in re.split(r",\s*", names):
@@ -78,7 +80,7 @@ def imported(text: str) -> dict[str, Place]:
 
 
 class Counted:
-    """The definitions that are needed, looked for from one to the next by the words between blanks."""
+    """Finds the definitions that the theorem needs, by following the words in each definition."""
 
     def __init__(self) -> None:
         self.files: dict[tuple[str, str], tuple[dict[str, str], dict[str, Place]]] = {}
@@ -89,7 +91,8 @@ class Counted:
             self.files[crate, file] = (definitions(body), imported(text))
 
     def home(self, crate: str, file: str, name: str) -> Place | None:
-        """Where a name is defined that a file has or passes on."""
+        """Returns the crate, file and name under which a file's own or imported name is defined, or None if it is
+        neither."""
         own, others = self.files.get((crate, file), ({}, {}))
         return (crate, file, name) if name in own else others.get(name)
 
@@ -111,14 +114,14 @@ class Counted:
         return found
 
 
-@test("statement: docs/STATEMENT.md is of these sources")
+@test("statement: docs/STATEMENT.md is generated from the present sources")
 def statement() -> None:
     checked = ran("--check")
     if checked.returncode:
         raise Failed(checked.stdout[-3000:])
 
 
-@test("statement: no name stands twice on the two pages")
+@test("statement: no name is defined twice on the two pages")
 def names_once() -> None:
     blocks = [text for page in (text_of(PAGE), second()) for _, text in fenced("agda", page)]
     names = [name for text in blocks for name in re.findall(rf"^(?!--){WORDS_BEFORE}(\S+) [^=\n]*?:(?: |$)", text, re.M)]
@@ -127,23 +130,23 @@ def names_once() -> None:
 
 
 def line_of(begin: str) -> int:
-    """The number of the first line of the page that begins so."""
+    """Returns the number of the page's first line that begins with this text."""
     return next(i for i, line in enumerate(text_of(PAGE).splitlines(), 1) if line.startswith(begin))
 
 
-@test("statement: the first screen has the sentence; then come what an editor must do, what holds, and of what")
+@test("statement: the page has the sentence, the theorem, the editor's duties, the guarantees and `serve`, in order")
 def in_order() -> None:
-    places = [line_of(it) for it in ("> In every interleaving", "abbrev pub ServeGuaranteesHoldForEveryExchange", "abbrev pub IsAllowedMove ", "pub record GuaranteesHoldForExchange ", "pub fn serve<")]
+    places = [line_of(it) for it in ("> In every interleaving", "pub record ServeGuaranteesHoldForExchange ", "abbrev pub IsAllowedMove ", "pub record GuaranteesHoldForExchange ", "pub fn serve<")]
     same(places, sorted(places), "the order of the page")
     holds(places[0] < 10 and places[1] < 45, f"the sentence and the theorem stand at lines {places[:2]}")
 
 
 def quoted(page: str) -> str:
-    """The first quotation of a page, in one line."""
+    """Returns the first quotation of a page, joined into one line."""
     return " ".join(match_of(r"(?:^> .*\n)+", text_of(page), re.M)[0].replace("> ", "").split())
 
 
-@test("statement: the page, the promises and the comment of `play_in` have the headline in the same words")
+@test("statement: the page, PROMISES.md and the comment of `play_in` state the headline in the same words")
 def one_headline() -> None:
     comment = match_of(r"((?: *///.*\n)+) *pub fn play_in\(", text_of("crates", "ob0_world", "src", "world.rt"))[1]
     paragraphs = [" ".join(it.split()) for it in re.sub(r"^ *///", "", comment, flags=re.M).split("\n\n")]
@@ -154,7 +157,7 @@ def one_headline() -> None:
 
 
 def rows() -> dict[str, list[int]]:
-    """The rows of the table of parts: definitions and lines."""
+    """Returns the table of parts: the numbers of definitions and of lines of each part."""
     found = re.findall(r"^\| (?:\[(Part \d)[^|]*|\*\*([^|\[]*)\*\*) ((?:\| [\d,]+ ){2})\|$", second(), re.M)
     return {part or name: [int(it.replace(",", "")) for it in numbers.split("|")[1:]] for part, name, numbers in found}
 
@@ -163,7 +166,7 @@ PARTS = {"docs/STATEMENT.md": PAGE, **{f"Part {part}": "" for part in range(4, 1
 SUMS = {"Without the language": 3, "With the language": 4}
 
 
-@test("statement: without the language the pages have at most 260 definitions and 1,190 lines, with it 505 and 2,800")
+@test("statement: the pages have at most 260 definitions and 1,190 lines, or 505 and 2,800 with the language")
 def short_enough() -> None:
     table = rows()
     for name, most in (("Without the language", (260, 1190)), ("With the language", (505, 2800))):
@@ -172,13 +175,13 @@ def short_enough() -> None:
 
 
 def text_of_part(part: str) -> str:
-    """A part of the second page, or the first page."""
+    """Returns the text of the first page, or of one part of the second page."""
     if PARTS[part]:
         return text_of(PARTS[part])
     return next(it for it in re.split(r"^(?=## )", second(), flags=re.M) if it.startswith(f"## {part}"))
 
 
-@test("statement: the counts of each part and of several are those of the pages")
+@test("statement: the table's counts of each part, and their sums, match the pages")
 def counts_hold() -> None:
     table = rows()
     same([it for it in table if it not in SUMS], [*PARTS], "the parts of the table")
@@ -192,7 +195,7 @@ def counts_hold() -> None:
         same(found, table[part][0], f"the definitions of {part}")
 
 
-@test("statement: the contract of what the program calls is on the page, and both sides of that of `play_in` on the second")
+@test("statement: the first page has the contract of `serve`, and the second has both sides of `play_in`'s contract")
 def tie_is_there() -> None:
     first = "\n".join(text for _, text in [*fenced("agda", text_of(PAGE)), *fenced("rust", text_of(PAGE))])
     for it in ("pub fn serve<", "record ServeGuaranteesHoldForExchange ", "record GuaranteesHoldForExchange ", "record AppliesAnswer ", "IsAllowedMove :", "ExchangeTakesTurn :"):
@@ -202,35 +205,14 @@ def tie_is_there() -> None:
         holds(it in rest, f"the second page hasn't {it!r}")
 
 
-def first_reading() -> str:
-    """The page up to the notation."""
-    page = text_of(PAGE)
-    return page[: page.index("\n## The notation\n")]
 
 
-def read_in(part: str) -> float:
-    """The minutes that a part takes at 200 words and 6 lines a minute, on the page, without lists of links."""
-    text = re.sub(r"^(?:Elsewhere: .*(?:\n.+)*|#.*|[|]-.*)$", "", part, flags=re.M)
-    code = "\n".join(re.findall(r"^```\w+\n(.*?)^```$", text, re.M | re.S))
-    lines = re.findall(r"^ *(?!--|//)[^\s].*$", code, re.M)
-    words = [word for word in re.sub(r"[|]", " ", text).split() if re.search(r"\w", word)]
-    in_lines = [word for word in re.sub(r"[|]", " ", "\n".join(lines)).split() if re.search(r"\w", word)]
-    return (len(words) - len(in_lines)) / 200 + len(lines) / 6
-
-
-@test("statement: the first reading takes no longer than the page says, which is 40 minutes at most")
-def time_holds() -> None:
-    said = int(match_of(r"Reading it takes at most (\d+) minutes", " ".join(text_of(PAGE).split()))[1])
-    first = read_in(first_reading())
-    holds(first <= said <= 40, f"the first reading takes {first:.1f} minutes, and not {said}")
-
-
-# (the names of which a comment under a definition or a contract says what they mean)
+# (the names that a comment under a definition or a contract explains)
 NOTE = r"^(?:--|//)   (?! )([^:]+): "
 
 
 def shown_first() -> list[Place]:
-    """The definitions that the template puts on the first page."""
+    """Returns the definitions that the template puts on the first page."""
     found: list[Place] = []
     for words in re.findall(r"^<!-- definitions (.*) -->$", text_of(TEMPLATE), re.M):
         for piece in words.split("; "):
@@ -240,17 +222,17 @@ def shown_first() -> list[Place]:
     return found
 
 
-@test("statement: what the page names is on it, in words at least, under a definition that names it")
+@test("statement: each name in a definition of the page is defined there, or explained below a definition that uses it")
 def nothing_unsaid() -> None:
     counted = Counted()
-    read, shown = first_reading(), shown_first()
+    read, shown = text_of(PAGE).partition("\n## The notation\n")[0], shown_first()
     holds(len(shown) >= 10, f"hardly any definition is on the page: {shown}")
     said = {name for _, _, name in shown}
     for piece in re.split(r"\n\n+(?=\S)|^```.*\n", read, flags=re.M):
         noted = [name for names in re.findall(NOTE, piece, re.M) for name in names.split(", ")]
         code = re.sub(r"^ *(?:--|//).*$", "", piece, flags=re.M)
         unnamed = [name for name in noted if not re.search(rf"(?<!\w){re.escape(name.split()[0])}(?!\w)", code)]
-        same(unnamed, [], "said where it isn't named")
+        same(unnamed, [], "names that are explained under a definition that doesn't use them")
         said |= {name.rpartition(".")[2] for name in noted}
     missing = set()
     for crate, file, name in shown:
@@ -260,11 +242,11 @@ def nothing_unsaid() -> None:
             home = (crate, file, word) if word in own else counted.home(*others[word]) if word in others else None
             if home is None:
                 continue
-            # (a case is said by its type)
+            # (the explanation of a type explains its cases)
             of_type = next(iter(definitions(counted.files[home[0], home[1]][0][home[2]])))
             if home[2] not in said and of_type not in said:
                 missing.add(f"{word}, by {name} of {file}")
-    same(sorted(missing), [], "what the page names and doesn't say")
+    same(sorted(missing), [], "names without a definition or an explanation")
 
 
 def sources() -> str:
@@ -272,7 +254,7 @@ def sources() -> str:
     return "\n".join(text_of(os.path.relpath(path, TOP)) for path in paths)
 
 
-@test("statement: the laws and tests that speak for what is believed are there, and so is each law that the pages name")
+@test("statement: the laws and tests that support the explanations exist, as do all laws that the pages mention")
 def spoken_for() -> None:
     written = sources()
     said = re.findall(r"For that speak (.*?)\n\n", second(), re.S)
@@ -280,18 +262,30 @@ def spoken_for() -> None:
     named = [name for text in said for name in re.findall(r"`([a-z]\w*_\w+)`", text) if not name.startswith("ob0_")]
     holds(len(named) > 12, f"hardly any law or test is named: {named}")
     named += [name for text in (text_of(PAGE), second()) for name in re.findall(r"the laws? \[?`([a-z]\w*_\w+)`", text)]
-    same([name for name in named if f"fn {name}(" not in written], [], "laws and tests that aren't there")
+    same([name for name in named if f"fn {name}(" not in written], [], "missing laws and tests")
     files = [path for text in said for path in re.findall(r"\b(?:tests|crates)/[\w/]*\w(?:\.py)?", text)]
-    same([path for path in files if not os.path.exists(os.path.join(TOP, path))], [], "files and folders that aren't there")
+    same([path for path in files if not os.path.exists(os.path.join(TOP, path))], [], "missing files and folders")
 
 
-@test("statement: no definition that the theorem needs is left out of the two pages, counted in another way")
+@test("statement: each link of the drawn chain is marked proved, tested or trusted, and exists in the code")
+def chain_drawn() -> None:
+    drawn = match_of(r"^```\n(editor +(?:.+\n)+?)```", text_of(PAGE), re.M)[1].splitlines()
+    links = [it for it in drawn if ":" in it]
+    holds(len(links) == 6, f"the chain has {len(links)} links")
+    same([it for it in links if not re.search(r"\b(proved|tested|trusted)\b", it)], [], "links without such a word")
+    places = {"main": "ob0/src/main.rt", "Noted": "ob0_session/src/noted.rt", "serve": "ob0_session/src/serve_loop.rt", "Session": "ob0_session_server/src/session.rt"}
+    for name, file in places.items():
+        holds(any(it.startswith(name) for it in links), f"the chain lacks {name}")
+        holds(re.search(rf"\b(fn|struct) {name}\b", text_of("crates", file)), f"crates/{file} has no {name}")
+
+
+@test("statement: the two pages contain each definition that the theorem needs, as counted without their script")
 def closed_page() -> None:
     counted = Counted()
     rows_of = re.findall(r"^\| `([^`|]+)` \| .* \| `(\w+)` of `(\w+)` \|$", second(), re.M)
     closed = {counted.home(crate, file, name.split(".")[-1]) for name, file, crate in rows_of}
     roots = [("ob0_world", "Worlds", name) for name in ("IsResultOfPlaying", "IsFaultOfPlaying")]
-    roots += [("ob0_session", "ServeResults", "Serves"), ("ob0_world_determined", "ServeGuarantees", "ServeGuaranteesHoldForEveryExchange")]
+    roots += [("ob0_session", "ServeResults", "Serves"), ("ob0_world_determined", "ServeGuarantees", "ServeGuaranteesHoldForExchange")]
     needed = counted.needed(roots, closed)
     holds(len(needed) > 600, f"hardly any definition is needed: {len(needed)}")
     last = {name for part, text in fenced("agda", second()) if str(part).startswith("Part 9") for name in definitions(text)}

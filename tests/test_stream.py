@@ -1,4 +1,5 @@
-"""Bytes in, bytes out: the first conversation in every cutting, streams that end early, heads that are refused."""
+"""Tests the server's bytes: the first conversation cut in every way, input that ends early, and heads that are
+refused."""
 from __future__ import annotations
 
 import json
@@ -21,19 +22,19 @@ def ended(found: Ended, out: bytes, status: int, err: bytes = b"") -> None:
     same(found.status, status, "the status")
 
 
-@test("stream: the first conversation, all at once")
+@test("stream: the first conversation, sent all at once, gets the expected bytes")
 def at_once() -> None:
     same([len(it) for it in IN], HEADS_IN, "the lengths that come in")
     same([len(it) for it in OUT], HEADS_OUT, "the lengths that go out")
     ended(run(["serve"], INPUT), OUTPUT, 0)
 
 
-@test("stream: the first conversation, one byte at a time")
+@test("stream: the first conversation, sent one byte at a time, gets the expected bytes")
 def by_bytes() -> None:
     ended(serve_in_pieces([INPUT[at : at + 1] for at in range(len(INPUT))]), OUTPUT, 0)
 
 
-@test("stream: the first conversation, cut between the two line ends of each head")
+@test("stream: the first conversation, cut between the two line ends of each head, gets the expected bytes")
 def between_line_ends() -> None:
     cuts = [border + len(b"Content-Length: %d\r\n" % length) for border, length in zip(BORDERS, HEADS_IN)]
     pieces = [INPUT[start:end] for start, end in zip([0, *cuts], [*cuts, len(INPUT)])]
@@ -41,13 +42,13 @@ def between_line_ends() -> None:
     ended(serve_in_pieces(pieces), OUTPUT, 0)
 
 
-@test("stream: the first conversation, cut in two at each byte")
+@test("stream: the first conversation, cut in two after any byte, gets the expected bytes")
 def in_two() -> None:
     for cut in range(1, len(INPUT)):
         ended(serve_in_pieces([INPUT[:cut], INPUT[cut:]]), OUTPUT, 0)
 
 
-@test("stream: the first conversation, ended after each byte")
+@test("stream: if the first conversation stops after any byte, whole messages are answered, a partial one is Truncated")
 def ended_early() -> None:
     for end in range(len(INPUT) + 1):
         whole = BORDERS.index(end) if end in BORDERS else None
@@ -61,12 +62,12 @@ def ended_early() -> None:
             ended(serve(INPUT[:end]), out, 3, b"fault: Truncated\n")
 
 
-@test("stream: a content that ends early")
+@test("stream: a message whose content ends early stops the server with Truncated")
 def truncated() -> None:
     ended(serve(b"Content-Length: 10\r\n\r\n123456789"), b"", 3, b"fault: Truncated\n")
 
 
-@test("stream: a bad head after the first message")
+@test("stream: a bad head after the first message stops the server with BadHead")
 def bad_head() -> None:
     ended(serve(INPUT[: BORDERS[1]] + b"Content-Length: x\r\n\r\n"), frame(FIRST), 3, b"fault: BadHead\n")
 
@@ -76,7 +77,7 @@ def behind_bad_head() -> None:
     ended(serve(b"Content-Length: x\r\n\r\n" + INPUT), b"", 3, b"fault: BadHead\n")
 
 
-@test("stream: an exit before a bad head in one piece wins")
+@test("stream: if `exit` and a bad head come in one piece, the server ends with status 0")
 def exit_before_bad_head() -> None:
     ended(serve(INPUT + b"Content-Length: x\r\n\r\n"), OUTPUT, 0)
 
@@ -100,7 +101,7 @@ REFUSED = {
 }
 
 
-@test("stream: heads that are refused")
+@test("stream: a bad head, such as one with two lengths, stops the server with BadHead")
 def refused_heads() -> None:
     same(REFUSED["a head of 4,097 bytes"].index(b"[]"), 4097, "the length of that head")
     for name, given in REFUSED.items():
@@ -120,7 +121,7 @@ TAKEN = {
 }
 
 
-@test("stream: heads that are accepted")
+@test("stream: unusual but valid heads are accepted")
 def taken_heads() -> None:
     same(TAKEN["a head of 4,096 bytes"].index(b"[]"), 4096, "the length of that head")
     for name, given in TAKEN.items():
@@ -128,7 +129,7 @@ def taken_heads() -> None:
         same((found.out, found.err, found.status), (NO_MESSAGE, b"", 1), name)
 
 
-# what may replace the head `Content-Length: 33` of the last message
+# heads that may replace `Content-Length: 33` in the last message
 LAST_HEADS = {
     "small letters and a further field": b"content-length:33 \r\nX-a: b\r\n\r\n",
     "leading zeros": b"Content-Length: 0033\r\n\r\n",
@@ -138,7 +139,7 @@ LAST_HEADS = {
 }
 
 
-@test("stream: other heads of the last message of the first conversation")
+@test("stream: the last message of the first conversation may have any other valid head")
 def other_heads() -> None:
     same(len(LAST_HEADS["4,096 bytes"]), 4096, "the length of that head")
     for name, head in LAST_HEADS.items():
@@ -146,30 +147,30 @@ def other_heads() -> None:
         same((found.out, found.err, found.status), (OUTPUT, b"", 0), name)
 
 
-@test("stream: 4,095 bytes with no empty line, and the end")
+@test("stream: 4,095 bytes without an empty line, and then the end, stop the server with Truncated")
 def almost_a_bad_head() -> None:
     ended(serve(b"a" * 4095), b"", 3, b"fault: Truncated\n")
 
 
-@test("stream: a content of 16,777,216 bytes")
+@test("stream: a content of 16,777,216 bytes is accepted")
 def largest_content() -> None:
     content = b"[" + b" " * (16777216 - 2) + b"]"
     ended(serve(b"Content-Length: 16777216\r\n\r\n" + content), NO_MESSAGE, 1)
 
 
-@test("stream: a length with nothing after it takes no memory")
+@test("stream: if only two of the promised 16,777,216 bytes come, the server ends with Truncated")
 def promised_content() -> None:
     found = run(["serve"], b"Content-Length: 16777216\r\n\r\n[]")
     ended(found, b"", 3, b"fault: Truncated\n")
 
 
-@test("stream: an end of input between messages is status 1, after shutdown too")
+@test("stream: an end of input between messages gives status 1, even after shutdown")
 def end_after_shutdown() -> None:
     found = serve([initialize(), SHUTDOWN])
     same((len(unframed(found.out)), found.err, found.status), (2, b"", 1))
 
 
-@test("stream: a reader that has gone is a fault of writing")
+@test("stream: if the reader of its output has gone, the server ends with the fault Write")
 def gone_reader() -> None:
     reader, writer = os.pipe()
     os.close(reader)
@@ -184,7 +185,7 @@ def gone_reader() -> None:
 BROKEN = [b"\xff", b"\x80", b"\xc3", b"\xc0\x80", b"\xc1\xbf", b"\xe2\x82", b"\xe0\x80\xaf", b"\xed\xa0\x80", b"\xf0\x9f\x98", b"\xf4\x90\x80\x80", b"\xf8\x88\x80\x80\x80"]
 
 
-@test("stream: contents with bytes that are no UTF-8 are no JSON, wherever these stand")
+@test("stream: a content with invalid UTF-8 is answered with `not JSON`, wherever the invalid bytes are")
 def broken_utf8() -> None:
     refused = '{"error":{"code":-32700,"message":"not JSON"},"id":null,"jsonrpc":"2.0"}'
     places = [IN[1].index(it) + len(it) for it in (b"{", b'"te', b"MODULE M; ", b'"file:')]
@@ -195,7 +196,7 @@ def broken_utf8() -> None:
 
 
 def mutated(seed: int) -> bytes:
-    """The first conversation with some of its bytes changed, taken out, doubled or put in."""
+    """Returns the first conversation with some bytes changed, removed, doubled or inserted, as the seed decides."""
     chance, given = random.Random(seed), bytearray(INPUT)
     for _ in range(chance.choice([1, 1, 2, 5, 20])):
         at = chance.randrange(len(given))
@@ -205,7 +206,7 @@ def mutated(seed: int) -> bytes:
     return bytes(given)
 
 
-@test("stream: bytes that are changed at random end a conversation with one of its statuses, and each sent message is whole")
+@test("stream: randomly changed bytes end a conversation with one of its statuses, and each sent message is whole")
 def garbage() -> None:
     for seed in seeds(COUNT):
         found = serve(mutated(seed))

@@ -1,4 +1,5 @@
-"""Each public function has a comment, and a mutant or a reason why not; bin/SURFACE.md lists them by crate."""
+"""Tests that each public function has a comment, and a mutant or a reason why not. bin/SURFACE.md lists the functions
+by crate."""
 from __future__ import annotations
 
 import contextlib
@@ -8,10 +9,11 @@ import shutil
 import subprocess
 import sys
 import tempfile
-from typing import Any, Dict, List, Tuple
+from typing import Any, Dict, List, Sequence, Tuple
 from unittest import mock
 
 import common
+import edits
 import public_functions
 import reading
 from harness import TOP, Failed, holds, leave_out, same, test
@@ -28,7 +30,7 @@ def surface() -> None:
         raise Failed(ran.stdout[-3000:])
 
 
-@test("surface: the page has each crate with what it is for, and with the promises and definitions of its functions")
+@test("surface: the page describes each crate, and lists the promises and definitions of its functions")
 def made_page() -> None:
     if not shutil.which("rt"):
         leave_out("rt, which reads the sources, is missing")
@@ -44,6 +46,54 @@ def made_page() -> None:
         row = next((it for it in parts[crate].split("\n") if it.startswith("| `") and f"{name}` |" in it), "none")
         holds(words in row, f"{name} of {crate}, without {words}: {row}")
     holds(len(rows) > 400, f"{len(rows)} public functions")
+
+
+# The calls that the specification names, by crate. (A method of a trait stands under the trait.)
+PROMISED: Dict[str, str] = {
+    "ob0_frame": "Framer::new Framer::feed Framer::next Framer::finish write_frame",
+    "ob0_text": "TextStore::from_str TextStore::from_str_in TextStore::unit TextStore::len TextStore::offset TextStore::position "
+    "TextStore::replace TextStore::to_string Lines::line patch Documents::new Documents::set_unit Documents::did_open "
+    "Documents::did_change Documents::lose Documents::did_close Documents::get EditRefusal::text",
+    "ob0_rpc": "read request notice result notification error",
+    "ob0_scan": "scan is_identifier rescan",
+    "ob0_tree": "Module::tokens Module::nesting Module::identifiers",
+    "ob0_parse": "parse",
+    "ob0_scope": "resolve resolve_renamed",
+    "ob0_scope_table": "Resolved::declaration_of Resolved::faults Resolved::module Resolved::tokens",
+    "ob0_types": "check Checked::faults Checked::resolved Checked::well_typed WellTyped::checked WellTyped::constant WellTyped::shape",
+    "ob0_run": "run",
+    "ob0_refs": "at definition references hover captures",
+    "ob0_rename": "rename",
+    "ob0_inline": "inline_here inline_all",
+    "ob0_layout": "format",
+    "ob0_session_server": "Session::new Session::step Session::documents",
+    "ob0_session": "Noted::new Noted::failed serve serve_stream",
+    "ob0_world": "World::new World::new_in World::step World::steps World::play World::play_in",
+    "ob0_cli": "command",
+    "ob0_commands": "check_text run_text rename_text perform_command",
+}  # fmt: skip
+
+
+def unnamed_clauses(source: reading.Source, calls: Sequence[str]) -> List[str]:
+    """Returns the clauses of these calls that no mutant's first line cites, as 'crate::path, clause'. For a trait's
+    method it is enough that a mutant cites the clause for one type with the trait."""
+    claims, unnamed = [it.claim for it in edits.edits_of(source.crate, source) if it.claim], []
+    for call in calls:
+        [function] = [it for it in source.functions if "::".join(filter(None, (it.owner, it.name))) == call and not it.is_test]
+        peers = [it for it in source.functions if it is function or (it.trait and (it.trait, it.name) == (function.trait, function.name))]
+        named = {clause for claim in claims if any(claim.is_of(it) for it in peers) for clause in claim.clauses}
+        clauses = [it or "the clause" for it in public_functions.clauses_of(source, function)]
+        unnamed += [f"{source.crate}::{function.path}, {it}" for it in clauses if it not in named]
+    return unnamed
+
+
+@test("surface: each clause of a call in the specification is named by a mutant, or has a reason why not")
+def each_clause() -> None:
+    of_functions, of_clauses = public_functions.reasons(), public_functions.reasons(are_of_clauses=True)
+    unnamed = [it for crate, calls in PROMISED.items() for it in unnamed_clauses(reading.Source(crate), calls.split())]
+    lacking = [it for it in unnamed if it not in of_clauses and it.partition(", ")[0] not in of_functions]
+    same(lacking, [], "clauses that no mutant names, without a reason")
+    same([it for it in of_clauses if it not in unnamed], [], "reasons for clauses that a mutant names, or that don't exist")
 
 
 # Two crates: a trait of the lower one has methods on types of both.
@@ -147,7 +197,7 @@ LACKING = ["high::Pair::size", "high::Pair::write", "low::inside::Count::of", "l
 
 @contextlib.contextmanager
 def two_crates(top: str) -> Any:
-    """A folder with the two crates, in place of the repository."""
+    """Writes two made-up crates into a folder, which stands in for the repository."""
     for name, text in FILES.items():
         path = os.path.join(top, name)
         os.makedirs(os.path.dirname(path), exist_ok=True)
@@ -163,13 +213,13 @@ def two_crates(top: str) -> Any:
 
 
 def said_of(top: str) -> Tuple[int, List[str]]:
-    """The status of the script over the two crates, and the functions that it names."""
+    """Runs the script on the two crates. Returns its exit status and the functions that it lists."""
     with contextlib.redirect_stdout(io.StringIO()) as said:
         status = public_functions.main([])
     return status, sorted(it.strip() for it in said.getvalue().split("\n") if it.startswith("  "))
 
 
-@test("surface: a public function without a mutant fails, also a method of a trait of this repository, and so does a reason of none")
+@test("surface: a public function without a mutant is reported, as well as a reason for a function that doesn't exist")
 def lacking() -> None:
     with tempfile.TemporaryDirectory() as top, two_crates(top):
         same(said_of(top), (1, LACKING), "the functions that lack a mutant")
@@ -188,7 +238,7 @@ def lacking() -> None:
         holds("| `inside::Count::of` | Counts. |  | wrong-bodies/empty |" in page and "| `law` | A law. |  | law |" in page, page)
 
 
-@test("surface: the counts of mutants are written into README's sentence, and a page without it is refused")
+@test("surface: the numbers of mutants are written into README's sentence, and a page without that sentence is refused")
 def counted() -> None:
     page = "`make test` checks every proof, 1 wrong\nversions, and tries 24 of 2 others,\n3 refused in their present form."
     with mock.patch.object(public_functions, "counts", lambda: (5, 6, 7)):
@@ -202,7 +252,7 @@ def counted() -> None:
     raise Failed("a page without the sentence is accepted")
 
 
-@test("surface: a public type has its variants, or its public fields, in the order of the source")
+@test("surface: a public type is listed with its variants or public fields, in the order of the source")
 def types() -> None:
     with tempfile.TemporaryDirectory() as top, two_crates(top):
         found = {it.path: it.parts for crate in ("low", "high") for it in reading.Source(crate).public_types()}

@@ -1,5 +1,5 @@
-"""The tests in the surroundings of others: another umask, other variables, a folder that others can't enter, a shallow
-clone, an archive of the sources."""
+"""Runs the tests in other people's surroundings: another umask, other variables, a folder that other users can't enter,
+a shallow clone, and an archive of the sources."""
 from __future__ import annotations
 
 import contextlib
@@ -29,7 +29,7 @@ UNKNOWN = {
 }
 
 
-@test("surroundings: each test runs under umask 022, and its git reads no variables and no configuration of the user")
+@test("surroundings: each test runs under umask 022, and without the user's Git variables and configuration")
 def settled() -> None:
     umask = os.umask(0o022)
     same(umask, 0o022, "the umask")
@@ -46,7 +46,7 @@ def paths_below(top: str) -> list[str]:
 
 
 def unpacked(at: str) -> str:
-    """Copies the repository's files, as an archive has them."""
+    """Copies the repository's files into a folder, as unpacking an archive would. Returns the folder."""
     for it in tracked():
         os.makedirs(os.path.dirname(os.path.join(at, it)), exist_ok=True)
         copy(os.path.join(TOP, it), os.path.join(at, it))
@@ -54,7 +54,7 @@ def unpacked(at: str) -> str:
 
 
 def closed_clone(at: str) -> str:
-    """Makes a shallow clone with the present files, as umask 077 and another user make it."""
+    """Makes a shallow clone with the present files, as another user with umask 077 would. Returns its folder."""
     if os.path.exists(os.path.join(TOP, ".git")):
         subprocess.run(["git", "clone", "--quiet", "--no-checkout", "--depth=1", f"file://{TOP}", at], check=True)
         subprocess.run(["git", "reset", "--quiet"], cwd=at, check=True)
@@ -71,7 +71,7 @@ def closed_clone(at: str) -> str:
 
 
 def bystander(at: str) -> str:
-    """Makes a repository with one commit, and returns the path of its data."""
+    """Makes an unrelated repository with one commit. Returns the path of its .git folder."""
     write(os.path.join(at, "file"), "text\n")
     git = ["git", "-c", "user.name=x", "-c", "user.email=x@example.org"]
     for words in (["init", "--quiet"], ["add", "."], ["commit", "--quiet", "-m", "its own"]):
@@ -80,14 +80,14 @@ def bystander(at: str) -> str:
 
 
 def history(data: str) -> str:
-    """A repository's commits and tags, and the paths of its index."""
+    """Returns the commits and tags of a repository, and the paths in its index."""
     words = "git --git-dir={0} log --all --format=%H%d && git --git-dir={0} ls-files --stage"
     return subprocess.run(["sh", "-e", "-c", words.format(data)], check=True, stdout=subprocess.PIPE).stdout.decode()
 
 
 def hostile(room: str, data: str) -> dict[str, str]:
-    """Variables that others have: no HOME, the repository of a bystander, a private folder for temporary files, flags of make,
-    modules with the names of ours, and a configuration of git that signs commits."""
+    """Returns environment variables that could disturb the tests: no HOME, another repository's Git variables, a
+    private TMPDIR, flags of make, modules with the names of ours, and a Git configuration that signs commits."""
     kept = ("OB0", "OB0_WHOLE", "HOME", "TMPDIR")
     own = {key: value for key, value in os.environ.items() if key not in kept and not key.startswith("GIT_")}
     own.update(GIT_DIR=data, GIT_WORK_TREE=os.path.dirname(data), GIT_INDEX_FILE=os.path.join(data, "index"))
@@ -101,7 +101,8 @@ def hostile(room: str, data: str) -> dict[str, str]:
 
 
 def run_there(at: str, own: dict[str, str], *words: str) -> tuple[int, int]:
-    """Runs tests under umask 077, of which none may fail: how many passed, and how many were left out."""
+    """Runs tests under umask 077, and requires that none fails. Returns how many passed, and how many were skipped or
+    wait for a program."""
     line = ["sh", "-c", 'umask 077; exec "$@"', "sh", sys.executable, "-B", "tests/run.py", *words]
     ran = subprocess.run(line, cwd=at, env=own, stdout=subprocess.PIPE, stderr=subprocess.STDOUT, check=False)
     said = ran.stdout.decode(errors="replace")
@@ -112,7 +113,7 @@ def run_there(at: str, own: dict[str, str], *words: str) -> tuple[int, int]:
     return int(last[1]), int(last[2] or 0) + sum(map(int, re.findall(r"^(\d+) wait for a program", said, re.M)))
 
 
-@test("surroundings: the tests that need no program pass with another's clone, umask, folders and variables, and touch no bystander")
+@test("surroundings: tests that need no program pass in another user's clone, and change no other repository")
 def first_tests() -> None:
     want("git")
     if INSIDE in os.environ:
@@ -127,7 +128,7 @@ def first_tests() -> None:
         same(history(data), before, "the bystander's history")
 
 
-@test("surroundings: in an archive of the sources the tests of releases, pages and examples pass")
+@test("surroundings: the tests of releases, pages and examples pass in an archive of the sources")
 def archive() -> None:
     if INSIDE in os.environ:
         leave_out("this run is the one in other surroundings")
@@ -140,7 +141,7 @@ def archive() -> None:
         words = ["release: e", "release: without git", "sources: each search", "pictures: the plots", "shell: the links"]
         passed, _ = run_there(at, own, *words, "exercises: there are twelve", "examples: there are")
         holds(passed >= len(words) + 2, f"{passed} passed")
-        same(os.listdir(own["TMPDIR"]), [], "what is left in the folder for temporary files")
+        same(os.listdir(own["TMPDIR"]), [], "the remaining temporary files")
 
 
 @test("surroundings: a folder in which tests would fail isn't used for temporary files, and the reason is printed")
@@ -160,7 +161,7 @@ def temporary_folders() -> None:
                 same(common.unfit(room), why, f"for the user {user}")
 
 
-@test("surroundings: temporary files go into the first folder that fits, and without one nothing runs")
+@test("surroundings: temporary files go into the first usable folder, and if there is none nothing runs")
 def chosen_folder() -> None:
     for good, status in (("/var/tmp", None), ("none", 2)):
         unfit: Callable[[str], str] = lambda it: "" if it == good else "it is odd"  # pylint: disable=cell-var-from-loop
@@ -175,7 +176,7 @@ def chosen_folder() -> None:
     same((os.environ["TMPDIR"], tempfile.gettempdir()), ("/var/tmp", "/var/tmp"), "the folder")
 
 
-@test("surroundings: a test that wants another user is left out, by name, if root can't become one")
+@test("surroundings: if root can't switch to another user, a test that needs one is skipped, with the reason")
 def no_other_user() -> None:
     with mock.patch.dict(editors.TOOLS, {"another user": (lambda: False, "")}), mock.patch.dict(os.environ):
         os.environ.pop("OB0_WHOLE", None)

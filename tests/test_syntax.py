@@ -1,4 +1,4 @@
-"""Diagnostics of the parser: the first token that can't be there, and what was expected instead."""
+"""Tests the parser's diagnostics: they are at the first unexpected token, and say what was expected instead."""
 from __future__ import annotations
 
 from harness import Server, diagnostic, did_open, ends, frames, initialize, on_file, same, serve, test
@@ -37,14 +37,14 @@ EXPECTED = {
 }
 
 
-@test("syntax: the first token that can't stand, and what was expected")
+@test("syntax: an error is reported at the first unexpected token, with what was expected instead")
 def expected() -> None:
     with Server() as server:
         for text, (where, what) in EXPECTED.items():
             same(server.notify(did_open(text)), [diagnostic("Syntax", f"expected {what}", where)], repr(text))
 
 
-@test("syntax: the empty text, byte by byte")
+@test("syntax: the diagnostic of the empty text is, byte by byte, as expected")
 def empty() -> None:
     wanted = (
         b'{"jsonrpc":"2.0","method":"textDocument/publishDiagnostics","params":{"diagnostics":[{"code":"Syntax",'
@@ -55,7 +55,7 @@ def empty() -> None:
     same(found.contents()[1].encode(), wanted)
 
 
-@test("syntax: if there are faults of scanning, only these are reported")
+@test("syntax: if a text has lexical faults, only these are reported")
 def scanning_first() -> None:
     with Server() as server:
         same(server.notify(did_open("MODULE 12ab")), [diagnostic("NumberJoinsLetter", "letter after number", "0:7-0:11")])
@@ -70,7 +70,7 @@ DEEP = {
 }
 
 
-@test("syntax: 100 of a construct inside one another are accepted, the 101st is too deep")
+@test("syntax: 100 nested constructs of one kind are accepted, and the 101st is too deep")
 def deep() -> None:
     with Server() as server:
         for name, (before, opened, middle, closed, after, where) in DEEP.items():
@@ -79,7 +79,7 @@ def deep() -> None:
                 same(server.notify(did_open(text)), wanted, f"{depth} of {name}")
 
 
-@test("syntax: chains of 100,000 aren't nested")
+@test("syntax: long chains, such as 100,000 statements, don't count as nested")
 def chains() -> None:
     count = 100000
     texts = {
@@ -101,6 +101,6 @@ def chains() -> None:
         same([it for it in found if it["code"] in ("Syntax", "TooDeep")], [], "selectors")
 
 
-@test("syntax: `check` reports the place at which the text ends early")
+@test("syntax: `check` reports a text that ends early at the position of its end")
 def checked() -> None:
     ends(on_file("check", ""), "0:0: Syntax: expected MODULE\n", 1)

@@ -1,6 +1,5 @@
-"""The files of editors/ that colour, detect and indent.
-
-Each has the words of the scanner and of the language, and each is read by the tool that uses it, where that is here."""
+"""Tests the files in editors/ for colouring, file types and indentation: each lists the language's reserved words, and
+each works in the tool that reads it, if that is installed."""
 from __future__ import annotations
 
 import functools
@@ -24,12 +23,12 @@ PREDECLARED = {"INTEGER", "BOOLEAN", "TRUE", "FALSE", "Read", "Write", "WriteLn"
 
 @functools.lru_cache(None)
 def reserved() -> list[str]:
-    """The reserved words, as the scanner has them."""
+    """Returns the reserved words that the scanner's source lists."""
     found = re.findall(r'ReservedWord::[A-Z][a-z]+ => "([A-Z]+)"', text_of("crates", "ob0_scan", "src", "lexeme.rt"))
     return sorted(found)
 
 
-@test("syntax files: the language's page has the scanner's reserved words")
+@test("syntax files: docs/LANGUAGE.md lists the scanner's reserved words")
 def page() -> None:
     block = match_of(r"The reserved words:\n\n```\n(.*?)```", text_of("docs", "LANGUAGE.md"), re.S)[1]
     same(sorted(block.split()), reserved())
@@ -99,7 +98,7 @@ VAR Begin: INTEGER; BEGIN Begin := 12 DIV 3; Write(4x) END M.
 """
 
 
-@test("syntax files: Kate's, by KDE's highlighter")
+@test("syntax files: KDE's highlighter colours a sample with Kate's file as expected")
 def kate() -> None:
     want("kate-syntax-highlighter")
     with temporary() as room:
@@ -137,7 +136,7 @@ END M.
 """
 
 
-@test("syntax files: what Kate folds, by KDE's highlighter")
+@test("syntax files: KDE's highlighter folds a module with Kate's file as expected")
 def kate_folds() -> None:
     want("kate-syntax-highlighter")
     with temporary() as room:
@@ -161,14 +160,14 @@ def kate_folds() -> None:
     same(sorted(folds), [(0, 18), (2, 4), (5, 6), (7, 16), (9, 15), (10, 11), (10, 14), (11, 12)], "the lines of each fold")
 
 
-@test("syntax files: the lines of Qt Creator's page copy Kate's")
+@test("syntax files: the commands on Qt Creator's page install Kate's file")
 def qtcreator() -> None:
     with temporary() as room:
         at_home(room, "qtcreator")
         same(text_of(room, ".local/share/org.kde.syntax-highlighting/syntax/oberon0.xml"), text_of("editors", "kate", "oberon0.xml"), "the file")
 
 
-@test("syntax files: GtkSourceView's, by the library")
+@test("syntax files: the GtkSourceView library highlights a sample as expected")
 def gtksourceview() -> None:
     want("GtkSourceView", "PyGObject", "MIME types")
     with temporary() as room:
@@ -188,7 +187,7 @@ def gtksourceview() -> None:
     same(colour("BEGIN"), colour("DIV"), "the colour of reserved words")
 
 
-@test("syntax files: nano's colours")
+@test("syntax files: nano colours a sample as expected")
 def nano() -> None:
     want("nano")
     with temporary() as room:
@@ -223,7 +222,7 @@ def nano_lints() -> None:
             screen.shows(rb"line +4/.*col +12/", "the line and the column of the error")
 
 
-@test("syntax files: TextMate's, by the regular expressions of its kind")
+@test("syntax files: the regular expressions of the TextMate grammar colour a sample as expected")
 def textmate() -> None:
     want("Ruby")
     with temporary() as room:
@@ -327,7 +326,7 @@ END B.
 
 
 def by_vim(editor: str, words: list[str], name: str) -> None:
-    """Vim's files, in Vim or Neovim: file types, colours, :make, indentation."""
+    """Tests file types, colours, :make and indentation in Vim or Neovim."""
     need_program()
     with temporary() as room:
         own = at_home(room, editor)
@@ -364,21 +363,21 @@ def by_vim(editor: str, words: list[str], name: str) -> None:
     same(found["matched"], 1, "the line that % on the module's END leads to")
 
 
-@test("syntax files: Vim's file types, colours, :make and indentation, in Vim")
+@test("syntax files: Vim's file types, colours, :make and indentation work in Vim")
 def in_vim() -> None:
     want("Vim")
     by_vim("vim", ["vim.nox", "-n", "-i", "NONE", "-u", "RC"], "Vim")
 
 
-@test("syntax files: Vim's file types, colours, :make and indentation, in Neovim")
+@test("syntax files: Vim's file types, colours, :make and indentation work in Neovim")
 def in_neovim() -> None:
     want("Neovim")
     by_vim("neovim", ["nvim", "-n", "-i", "NONE", "-u", "RC"], "Neovim")
 
 
 def helped(editor: str, words: list[str], name: str) -> None:
-    """Vim's help page, in Vim or Neovim, which were set up by the lines of their page: what `:helptags` finds in it, and what `:help`
-    shows."""
+    """Sets an editor up by the commands on its page. Then tests that `:helptags` indexes Vim's help page and that
+    `:help` shows it."""
     with temporary() as room:
         own = at_home(room, editor)
         report, page = os.path.join(room, "report"), text_of("editors", "vim", "doc", "ob0.txt")
@@ -394,21 +393,21 @@ def helped(editor: str, words: list[str], name: str) -> None:
         same(sorted({*re.findall(r"\|(\S+?)\|", page)} - {*tags}), [":clist"], "what the page links to, besides itself")
 
 
-@test("syntax files: `:help ob0` in Vim, and each of its tags, after `:helptags ALL`")
+@test("syntax files: after `:helptags ALL`, Vim finds `:help ob0` and each of its tags")
 def help_in_vim() -> None:
     want("Vim")
     helped("vim", ["vim.nox", "-n", "-i", "NONE"], "Vim")
 
 
-@test("syntax files: `:help ob0` in Neovim, and each of its tags, after `:helptags ALL`")
+@test("syntax files: after `:helptags ALL`, Neovim finds `:help ob0` and each of its tags")
 def help_in_neovim() -> None:
     want("Neovim")
     helped("neovim", ["nvim", "-n", "-i", "NONE"], "Neovim")
 
 
 def managed(words: list[str], name: str, folders: list[str], lines: list[str], shell: str = "", helptags: str = "helptags ALL") -> None:
-    """What Vim or Neovim does with a module and `:help ob0`, if copies of folders of editors/ are in ~/ob0, after these commands of a
-    shell, with these lines in its settings."""
+    """Tests a plugin manager: copies folders of editors/ to ~/ob0, runs the shell commands, and checks that Vim or
+    Neovim with these settings recognizes a module and finds `:help ob0`."""
     with temporary() as room:
         # (without the program: an editor that ends at once would end the server while it starts)
         kept = {key: value for key, value in os.environ.items() if not key.startswith("XDG_")}
@@ -427,42 +426,42 @@ def managed(words: list[str], name: str, folders: list[str], lines: list[str], s
         same(json.loads(text_of(report)), ["ob0", 2, 2, 1, len(folders) - 1, "ob0.txt"], f"a module in {name}")
 
 
-@test("syntax files: Vim takes its files from a folder in 'runtimepath', where plugin managers put it")
+@test("syntax files: Vim finds the files in a folder of 'runtimepath', as plugin managers install them")
 def managed_in_vim() -> None:
     want("Vim")
     managed(["vim.nox"], "Vim", ["vim"], ["set runtimepath+=~/a\\ copy"], "mv ob0/editors/vim 'a copy'")
 
 
-@test("syntax files: Neovim takes its files from folders in 'runtimepath', where plugin managers put them")
+@test("syntax files: Neovim finds the files in folders of 'runtimepath', as plugin managers install them")
 def managed_in_neovim() -> None:
     want("Neovim")
     lines = ["set runtimepath+=~/a\\ copy/vim", "set runtimepath+=~/a\\ copy/neovim"]
     managed(["nvim"], "Neovim", ["vim", "neovim"], lines, "mv ob0/editors 'a copy'")
 
 
-# what Debian's Pathogen needs in Vim's settings
+# the lines in Vim's settings for Debian's Pathogen
 PATHOGEN = [f"set runtimepath+={os.path.dirname(os.path.dirname(editors.PATHOGEN))}", "execute pathogen#infect()"]
 
 
 def by_pathogen(editor: str) -> str:
-    """The commands for Pathogen on an editor's page."""
-    (found,) = (it for it in snippets.snippets(editor, "") if "/bundle/" in it)
+    """Returns the commands for Pathogen on Vim's page, which gives one block for each of the two editors."""
+    (found,) = (it for it in snippets.snippets("vim", "") if "vim/bundle/" in it and ("neovim" in it) == (editor == "neovim"))
     return found
 
 
-@test("syntax files: Pathogen takes Vim's files by the lines of their page")
+@test("syntax files: Pathogen loads the files in Vim after the commands on their page")
 def pathogen_in_vim() -> None:
     want("Vim", "Pathogen")
     managed(["vim.nox"], "Vim", ["vim"], PATHOGEN, by_pathogen("vim"), "Helptags")
 
 
-@test("syntax files: Pathogen takes Neovim's files by the lines of their page")
+@test("syntax files: Pathogen loads the files in Neovim after the commands on their page")
 def pathogen_in_neovim() -> None:
     want("Neovim", "Pathogen")
     managed(["nvim"], "Neovim", ["vim", "neovim"], PATHOGEN, by_pathogen("neovim"), "Helptags")
 
 
-@test("syntax files: Emacs takes its mode by package-install-file and by use-package, as its page says")
+@test("syntax files: Emacs installs its mode by package-install-file and by use-package, as its page says")
 def managed_in_emacs() -> None:
     want("Emacs", "eglot", "use-package")
     (lines,) = (it for it in snippets.snippets("emacs", "elisp") if "(use-package" in it)
@@ -481,7 +480,7 @@ def managed_in_emacs() -> None:
         same(run_plainly([*words, "-l", "init.el", *modes], own, room)[1].splitlines()[-1], "ob0-mode (eglot-ensure)", "by use-package")
 
 
-@test("syntax files: the lines for settings on Vim's help page are the same as on the editors' pages")
+@test("syntax files: the settings on Vim's help page are the same as on the editors' pages")
 def help_blocks() -> None:
     text = text_of("editors", "vim", "doc", "ob0.txt")
     blocks = ["".join(f"{it[1:]}\n" for it in found.splitlines()) for found in re.findall(r" >\n\n((?:\t.*\n)+)<", text)]
@@ -490,7 +489,7 @@ def help_blocks() -> None:
     holds(text.isascii(), "its tags would begin with their encoding")
 
 
-@test("syntax files: Emacs's mode: file types, colours, indentation, index, check and run")
+@test("syntax files: Emacs's file types, colours, indentation, index, check and run work")
 def in_emacs() -> None:
     want("Emacs")
     need_program()
@@ -507,7 +506,7 @@ def in_emacs() -> None:
         same(status, 0, said[-2000:])
 
 
-@test("syntax files: Kakoune's file type, and faults that come and go by its lint")
+@test("syntax files: Kakoune recognizes a module, and its lint shows errors and removes them once they are fixed")
 def in_kakoune() -> None:
     want("Kakoune")
     need_program()
@@ -532,11 +531,11 @@ def in_kakoune() -> None:
         same(text_of(report, "saved"), "ob0", "the type of a new file once it is saved")
         same(text_of(report, "formatted"), "MODULE N;\nBEGIN\n  WriteLn\nEND N.\n", "the text after :format")
         faulty = "MODULE N;BEGIN x END N.\n formatter returned an error (exit code 1)"
-        same(text_of(report, "faulty_formatted"), faulty, "a module with an error after :format, and what is said")
+        same(text_of(report, "faulty_formatted"), faulty, "a module with an error after :format, and the message")
         same(text_of(report, "commented"), "MODULE N; END N.\n", "the text after :comment-line")
 
 
-@test("syntax files: Kakoune's indentation, typed line by line, is the server's layout")
+@test("syntax files: a module typed line by line in Kakoune is indented as the server would format it")
 def kakoune_indents() -> None:
     want("Kakoune")
     with temporary() as room:
@@ -552,7 +551,7 @@ def kakoune_indents() -> None:
             same(text_of(file), text, f"{name}, unchanged")
 
 
-@test("syntax files: settings of Kate and VS Code name the server and files that exist")
+@test("syntax files: the settings of Kate and VS Code start the server and name files that exist")
 def settings() -> None:
     server = json.loads(text_of("editors", "kate", "settings.json"))["servers"]["oberon0"]
     same(server["command"], ["ob0", "serve"], "Kate's command")
@@ -569,7 +568,7 @@ def settings() -> None:
     json.loads(text_of("editors", "vscode", "language-configuration.json"))
 
 
-@test("syntax files: settings of Helix and kak-lsp name the server")
+@test("syntax files: the settings of Helix and kak-lsp start the server")
 def settings_in_toml() -> None:
     want("Python 3.11")
     import tomllib  # pylint: disable=import-outside-toplevel

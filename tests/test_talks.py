@@ -1,5 +1,5 @@
-"""ob0-watch on conversations with the program (tests/inputs/talks.py): what it reports of each, and that it changes no
-byte."""
+"""Runs conversations (tests/inputs/talks.py) through ob0-watch: tests what it reports about each, and that it changes
+no byte."""
 from __future__ import annotations
 
 import json
@@ -22,7 +22,7 @@ PUBLISHED = "textDocument/publishDiagnostics"
 
 
 class Editor:
-    """Plays the steps of a conversation, with a server that these words start."""
+    """Plays an editor's steps of a conversation, against a server that the given command starts."""
 
     def __init__(self, talk: Talk, words: List[str], room: str) -> None:
         self.talk, self.room, self.uri = talk, room, talks.URI
@@ -44,7 +44,7 @@ class Editor:
             self.write(frame(it))
 
     def read(self) -> bool:
-        """Takes what has come. Returns whether something has."""
+        """Reads available bytes from the server. Returns False at the end of its output."""
         assert self.process.stdout
         came = os.read(self.process.stdout.fileno(), 1 << 16)
         self.out += came
@@ -53,7 +53,7 @@ class Editor:
         return bool(came)
 
     def await_(self, ident: Any, count: int = 1) -> None:
-        """Waits until so many requests with an id are answered, and keeps the last answer."""
+        """Waits until `count` requests with this id are answered, and keeps the last answer."""
         while True:
             found = [it for it in self.came if "method" not in it and json.dumps(it.get("id")) == json.dumps(ident)]
             if len(found) >= count:
@@ -128,7 +128,7 @@ class Editor:
         pass
 
     def play(self) -> int:
-        """Plays all steps, and returns the server's status."""
+        """Plays all steps, and returns the server's exit status."""
         client = talks.CLIENT if self.talk.client is None else self.talk.client
         first = request(0, "initialize", {"processId": None, "capabilities": client, **self.talk.first})
         names = {"await": "await_", "write": "replace"}
@@ -159,12 +159,13 @@ class Editor:
 
 
 def lower(where: Message, count: int) -> Message:
-    """A range that is some lines lower."""
+    """Returns a range moved down by `count` lines."""
     return {end: place(at["line"] + count, at["character"]) for end, at in where.items()}
 
 
 def reported(talk: Talk) -> None:
-    """Plays a conversation behind ob0-watch: the report is the expected one, and the bytes are the server's own."""
+    """Plays a conversation through ob0-watch. Requires the expected report, and the bytes that the server itself
+    writes."""
     with temporary() as room:
         report = os.path.join(room, "report")
         editor = Editor(talk, [sys.executable, watched.SCRIPT, "--report", report, "--", harness.BINARY, "serve"], room)
@@ -175,13 +176,13 @@ def reported(talk: Talk) -> None:
         text = watched.complete(report)
         rows = [it.split(maxsplit=3) for it in text.splitlines()]
         found = [{it[2][:-1] for it in rows if it[1:2] == [kind]} for kind in ("BROKEN", "note")]
-        what = f"{talk.name}:\n{text}\nthe rules that are broken, and those with notes"
-        same(found, [{*talk.broken.split()}, {*talk.notes.split()}], what)
-        alone = harness.serve(editor.sent)
-        same((editor.out, status), (alone.out, alone.status), f"what the server wrote in {talk.name}, and its status")
+        names = f"{talk.name}:\n{text}\nthe rules that are broken, and the rules with notes"
+        same(found, [{*talk.broken.split()}, {*talk.notes.split()}], names)
+        direct = harness.serve(editor.sent)
+        same((editor.out, status), (direct.out, direct.status), f"the server's output in {talk.name}, and its status")
 
 
-@test("talks: each fault of an editor is reported by its rule, or the manual page says that it isn't")
+@test("talks: ob0-watch reports each fault of an editor by its rule, or its manual page says that it doesn't")
 def faulty() -> None:
     need_program()
     manual = " ".join(text_of("share", "ob0-watch.1").replace("\\-", "-").split())
@@ -191,14 +192,14 @@ def faulty() -> None:
         same(bool(talk.manual), not talk.broken, f"whether the manual page has to say something of {talk.name}")
 
 
-@test("talks: nothing is reported of conversations that keep all rules in unusual ways")
+@test("talks: ob0-watch reports nothing about unusual conversations that keep all rules")
 def kept() -> None:
     need_program()
     for talk in talks.KEPT:
         reported(talk)
 
 
-@test("talks: there are 28 with a fault and 22 without")
+@test("talks: there are 28 conversations with a fault and 22 without")
 def counted() -> None:
     names = [it.name for it in (*talks.FAULTS, *talks.KEPT)]
     same((len(talks.FAULTS), len(talks.KEPT), len({*names})), (28, 22, 50), "the conversations, and their names")

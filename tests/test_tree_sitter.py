@@ -1,4 +1,5 @@
-"""The grammar of editors/tree-sitter: compiled by cc, and read by Neovim, which has tree-sitter's library."""
+"""Tests the grammar in editors/tree-sitter: cc compiles its parser, and Neovim, which contains the tree-sitter library,
+parses with it."""
 from __future__ import annotations
 
 import functools
@@ -46,7 +47,7 @@ LEXICAL = {"BadChar", "NumberJoinsLetter"}
 
 
 def compiled(room: str) -> str:
-    """The parser as a library in a folder of the test's own."""
+    """Compiles the parser. Returns the path of the library in the temporary folder."""
     want("cc", "Neovim")
     library = os.path.join(room, "oberon0.so")
     sources = [os.path.join(FOLDER, "src", it) for it in ("parser.c", "scanner.c")]
@@ -58,7 +59,8 @@ def compiled(room: str) -> str:
 
 @functools.lru_cache(None)
 def read_by_neovim(texts: tuple[str, ...]) -> Any:
-    """Which of the texts (a tuple) have an error, their trees, and what the queries find in the sample."""
+    """Parses the texts in Neovim. Returns whether each has an error, the trees, and what the queries capture in
+    SAMPLE."""
     with temporary() as room:
         write(os.path.join(room, "given"), json.dumps({"texts": texts, "text": SAMPLE, "queries": QUERIES}))
         own = {**os.environ, "HOME": room, "OB0_PARSER": compiled(room), "OB0_QUERIES": os.path.join(FOLDER, "queries")}
@@ -72,13 +74,14 @@ def read_by_neovim(texts: tuple[str, ...]) -> Any:
 
 
 def correct_texts() -> list[str]:
-    """The modules of the examples, of the answers to the exercises, and of the tutorial, but for the one without a tree."""
+    """Returns the modules of the examples, the answers to the exercises and the tutorial, except the module with a
+    syntax error."""
     answers = os.path.join("tests", "answers")
     found = [text_of(it) for it in [*examples(), *(os.path.join(answers, it) for it in names_in(answers))]]
     return found + [text for language, text in fenced("docs/TUTORIAL.md") if language == "oberon" and "MODULE Broken" not in text]
 
 
-@test("tree-sitter: the modules of examples, answers and the tutorial have a tree without an error")
+@test("tree-sitter: the modules of the examples, answers and tutorial are parsed without an error")
 def trees() -> None:
     texts = tuple(correct_texts())
     same([text[:40] for text, faulty in zip(texts, read_by_neovim(texts)["faulty"]) if faulty], [], "those with an error")
@@ -88,7 +91,7 @@ def codes(server: Server, text: str) -> set[str]:
     return {it["code"] for it in server.notify(did_open(text))}
 
 
-@test("tree-sitter: of random texts those have an error that have a fault of scanning or syntax")
+@test("tree-sitter: the parser finds an error in the same random texts as ob0's scanner and parser")
 def agrees() -> None:
     need_program()
     texts = [random_texts.changed_module(seed, swap) for seed in range(100) for swap in (False, True)]
@@ -99,12 +102,13 @@ def agrees() -> None:
             unclear = found & OTHER_FAULTS
             # (an open comment goes to the end of the text, so END is missing)
             wanted.append(None if unclear else bool(found & {"Syntax", "OpenComment", *LEXICAL}))
-    holds(wanted.count(True) > 50 and wanted.count(False) > 50, f"{wanted.count(True)} with and {wanted.count(False)} without a fault")
+    invalid, valid = wanted.count(True), wanted.count(False)
+    holds(invalid > 50 and valid > 50, f"{invalid} texts with such an error, {valid} without")
     got = read_by_neovim(tuple(texts))["faulty"]
     same([text for text, due, came in zip(texts, wanted, got) if due is not None and due != came], [], "the texts that are read differently")
 
 
-@test("tree-sitter: colours of a sample by the queries of Neovim and of Helix, folds in Neovim, and Helix's indents are read")
+@test("tree-sitter: Neovim's and Helix's queries find the expected colours and folds, and Helix's indents are read")
 def queries() -> None:
     found = read_by_neovim((SAMPLE,))
     same(found["faulty"], [False], "the sample")
@@ -121,7 +125,8 @@ def queries() -> None:
 
 
 def corpus() -> list[tuple[str, str, str]]:
-    """The cases of test/corpus: of each its name, its text and its tree, which is empty if the text has an error."""
+    """Returns the name, the text and the tree of each case in test/corpus. The tree is empty if an error is
+    expected."""
     found = []
     for it in sorted(os.listdir(os.path.join(FOLDER, "test", "corpus"))):
         parts = re.split(r"^=+\n(.*\n(?::error\n)?)=+\n", text_of(FOLDER, "test", "corpus", it), flags=re.M)
@@ -132,7 +137,7 @@ def corpus() -> list[tuple[str, str, str]]:
     return found
 
 
-@test("tree-sitter: each text of test/corpus has the tree that stands there, or an error")
+@test("tree-sitter: each text of test/corpus is parsed to the tree given there, or has the expected error")
 def trees_of_corpus() -> None:
     cases = corpus()
     found = read_by_neovim(tuple(text for _, text, _ in cases))
@@ -143,7 +148,7 @@ def trees_of_corpus() -> None:
     holds(len(cases) > 8, f"{len(cases)} cases")
 
 
-@test("tree-sitter: its files follow its conventions, and have the grammar's name")
+@test("tree-sitter: its files follow tree-sitter's conventions, and all use the grammar's name")
 def conventions() -> None:
     about = json.loads(text_of(FOLDER, "tree-sitter.json"))
     (grammar,) = about["grammars"]
@@ -169,7 +174,7 @@ def words() -> None:
         same(sorted(in_query), sorted(block.split()), f"the words that {name} colours")
 
 
-@test("tree-sitter: the lines of its page and of Helix's compile it and copy its queries")
+@test("tree-sitter: the commands on its page and on Helix's page compile the parser and copy its queries")
 def installed() -> None:
     want("cc")
     for page, library, queries_at, own in (
@@ -184,7 +189,7 @@ def installed() -> None:
             same({it: text_of(room, queries_at, it) for it in os.listdir(os.path.join(room, queries_at))}, wanted, page)
 
 
-@test("tree-sitter: parser.c, grammar.json and node-types.json are what the command `tree-sitter` makes of grammar.js")
+@test("tree-sitter: parser.c, grammar.json and node-types.json are what `tree-sitter generate` makes of grammar.js")
 def generated() -> None:
     want("tree-sitter 0.22")  # (tree-sitter-cli of Debian 13)
     with temporary() as room:

@@ -1,4 +1,4 @@
-"""docs/TUTORIAL.md: its modules, what is typed and printed there, and its tables."""
+"""Tests docs/TUTORIAL.md: its modules, its commands and their output, and its tables."""
 from __future__ import annotations
 
 import os
@@ -15,31 +15,31 @@ from snippets import fenced
 
 PAGE = os.path.join("docs", "TUTORIAL.md")
 # modules that show an error
-FAULTY = ["Broken", "Mended", "Types"]
+FAULTY = ["Broken", "Repaired", "Types"]
 VALUES = {"TRUE": "1", "FALSE": "0"}
 
 
 def modules() -> dict[str, str]:
-    """The modules of the page, by their names."""
+    """Returns the page's modules by name."""
     found = [text for language, text in fenced(PAGE) if language == "oberon"]
     return {match_of(r"MODULE (\w+);", it)[1]: it for it in found}
 
 
 def typed(block: str) -> list[tuple[str, str]]:
-    """Pairs of a command and what it prints, in a block of the page."""
+    """Returns each command in a console block of the page, with its output."""
     parts = (it.partition("\n") for it in re.split(r"^\$ ", block, flags=re.M)[1:])
     return [(command, printed) for command, _, printed in parts]
 
 
 def rows(head: str) -> list[list[list[str]]]:
-    """The code in the cells of the rows of each table that begins with this head."""
+    """Returns the texts in backticks in each cell, for all rows of the tables with this head."""
     tables = text_of(PAGE).split(f"{head}\n")[1:]
     holds(tables, f"there is no table {head}")
     lines = [line for table in tables for line in table.partition("\n\n")[0].splitlines()[1:]]
     return [[re.findall(r"`([^`]*)`", cell) for cell in line.split("|")[1:-1]] for line in lines]
 
 
-@test("tutorial: every command on the page prints what it has there")
+@test("tutorial: every command on the page prints the output shown there")
 def commands() -> None:
     need_program()
     blocks = [text for language, text in fenced(PAGE) if language == "console"]
@@ -58,7 +58,7 @@ def commands() -> None:
     same(sorted(used), sorted(modules()), "the modules that a command on the page names")
 
 
-@test("tutorial: its modules are valid and formatted as by the server, except those that show an error")
+@test("tutorial: its modules are valid and formatted as the server would, except those that show an error")
 def laid_out() -> None:
     with Server() as server:
         for name, text in modules().items():
@@ -78,14 +78,14 @@ def expressions() -> None:
         ends(on_file("run", f"MODULE M; BEGIN {shown} END M."), f" {VALUES.get(value, value)}", 0)
 
 
-@test("tutorial: the ends of a run are the language's")
+@test("tutorial: its table of the ends of a run lists the language's, except Done")
 def run_ends() -> None:
     named = [it[0][0] for it in rows("| The run ends with | because |")]
     listed = re.findall(r"^\| (\w+) \|", text_of("docs", "LANGUAGE.md").partition("| End | Because |")[2].partition("\n\n")[0], re.M)
     same(named, [it for it in listed if it != "Done"], "the ends")
 
 
-@test("tutorial: what it gives as no list of whole numbers is none, and what it says to write is one")
+@test("tutorial: inputs that the page calls wrong are refused, and inputs as it recommends are read")
 def numbers() -> None:
     page = " ".join(text_of(PAGE).split())
     refused = match_of(r"`([^`]*)`, `([^`]*)` or `([^`]*)` give the same\. \*\*Write whole numbers with spaces or line ends", page)
@@ -95,7 +95,7 @@ def numbers() -> None:
         ends(on_file("run", modules()["Rectangle"], given=given.encode()), f" 12 {14 if given[0] == '3' else -14}\n", 0)
 
 
-@test("tutorial: what it translates from other languages is in the language")
+@test("tutorial: the Oberon-0 column of its table of translations is valid")
 def translated() -> None:
     found = [it[1] for it in rows("| C, Java, Python, Pascal | Oberon-0 |")]
     holds(len(found) >= 12, f"there are {len(found)}")

@@ -1,4 +1,4 @@
-"""The extension for VS Code as a package: its manifest, its indentation, and the archive that `make package` makes of it."""
+"""Tests the VS Code extension: its manifest, its indentation rules, and the archive that `make package` makes."""
 from __future__ import annotations
 
 import io
@@ -19,7 +19,7 @@ from homes import temporary, write
 FOLDER = os.path.join("editors", "vscode")
 
 
-@test("VS Code: its indentation of each line of the examples, by the line above and the line's own words, is the layout's")
+@test("VS Code: the indentation rules indent each line of the examples as the formatter does")
 def indentation() -> None:
     rules = json.loads(text_of(FOLDER, "language-configuration.json"))["indentationRules"]
     increase, decrease = (re.compile(rules[f"{it}IndentPattern"]) for it in ("increase", "decrease"))
@@ -36,7 +36,7 @@ def indentation() -> None:
     holds(count > 400, f"{count} lines")
 
 
-@test("VS Code: the manifest lists files that exist, registered commands, and what may run in a folder that isn't trusted")
+@test("VS Code: the manifest's files exist, its commands are registered, and an untrusted folder can't set ob0.path")
 def conventions() -> None:
     about = json.loads(text_of(FOLDER, "package.json"))
     contributed, program = about["contributes"], text_of(FOLDER, about["main"])
@@ -63,7 +63,8 @@ def conventions() -> None:
 
 
 def stand_ins(room: str) -> vsix.Modules:
-    """Modules that aren't the real ones: the client, one that it needs with a page of Debian's, and one that nobody needs."""
+    """Writes made-up Node modules: the client, a module that it needs with a Debian copyright file, and one that
+    nothing needs. Returns what vsix.py finds of them."""
     nodes = os.path.join(room, "usr", "share", "nodejs")
     write(os.path.join(nodes, vsix.CLIENT, "package.json"), json.dumps({"version": "9.0.0", "dependencies": {"low": "^1"}}))
     write(os.path.join(nodes, vsix.CLIENT, "lib", "node", "end.sh"), "#!/bin/sh\n")
@@ -81,7 +82,7 @@ def made(found: vsix.Modules) -> dict[str, bytes]:
         return package.extension()
 
 
-@test("VS Code: the package has the extension with its modules, their notices, an entry for each file, and the same bytes each time")
+@test("VS Code: the package contains the extension, its modules and their notices, and has the same bytes each time")
 def packed() -> None:
     with temporary() as room, mock.patch.dict(os.environ, {"SOURCE_DATE_EPOCH": "1800000000"}):
         found = stand_ins(room)
@@ -111,7 +112,7 @@ def packed() -> None:
         same({os.path.splitext(it)[1] for it in names if it != "[Content_Types].xml"} - endings, set(), "endings without a kind")
 
 
-@test("VS Code: a module that is missing or has no notice isn't packed, and without the client no package is made")
+@test("VS Code: if a module is missing or has no notice, packing stops; without the client no package is made")
 def not_packed() -> None:
     with temporary() as room:
         found = stand_ins(room)

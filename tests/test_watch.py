@@ -1,5 +1,5 @@
-"""ob0-watch: it passes every byte on, finds each planted fault by the name of its rule, and finds none in conversations that keep the
-rules. (tests/lib/watched.py has the editors that the other tests drive run through it.)"""
+"""Tests ob0-watch: it passes every byte on, reports each planted fault by the name of its rule, and reports nothing
+about conversations that keep the rules. (The tests of editors also run under it: tests/lib/watched.py.)"""
 from __future__ import annotations
 
 import os
@@ -51,7 +51,7 @@ def no_file(uri: str) -> None:
 
 
 class Talk:
-    """A conversation that a watcher is told of: it is initialized, and a document is open at version 1."""
+    """Feeds a conversation to a watcher. At first it is initialized, and a document is open at version 1."""
 
     def __init__(self, text: str = TEXT, uri: str = URI, file_of: Callable[[str], Optional[str]] = no_file, **capabilities: Any) -> None:
         self.watcher, self.version, self.idents = WATCH.Watcher(file_of), 1, 0
@@ -71,7 +71,7 @@ class Talk:
         return self
 
     def changes(self, changes: Any, version: Optional[int] = None) -> Talk:
-        """A notification with these changes, at the next version."""
+        """Sends a didChange notification with these changes, at the next version unless one is given."""
         self.version = self.version + 1 if version is None else version
         return self.sends(did_change(changes, self.uri, self.version))
 
@@ -92,7 +92,7 @@ class Talk:
         return self
 
     def is_answered(self, edits: Any, method: str = RENAME, ident: Optional[Any] = None) -> Talk:
-        """A request, and an answer with edits or with an action for each list of edits."""
+        """Sends a request, and answers it with edits; for a code action, with one action for each list of edits."""
         self.answers(self.asks(method, ident), self.result(edits, method))
         return self
 
@@ -106,7 +106,7 @@ class Talk:
         return {"documentChanges": [{"textDocument": document, "edits": made}]} if self.has_versions else {"changes": {self.uri: made}}
 
     def found(self, is_broken: bool) -> set[str]:
-        """The rules that are broken at the end, or those that have notes."""
+        """Ends the conversation. Returns the rules that were reported as broken, or those with notes."""
         self.watcher.end(self.now)
         return {it.rule for it in self.watcher.findings if it.is_broken == is_broken}
 
@@ -127,7 +127,7 @@ TOLD: Dict[str, List[Any]] = {
 HOVER = request("h", "textDocument/hover", {"textDocument": {"uri": URI}, "position": place(0, 0)})
 
 
-@test("watch: an edit that is made as it should be is no finding, however it is told, and it is counted")
+@test("watch: a correctly applied edit is counted and not reported, however the editor sends its changes")
 def clean() -> None:
     other = notice("$/setTrace", {"value": "off"})
     for how, notifications in TOLD.items():
@@ -144,7 +144,7 @@ def clean() -> None:
             same(talk.found(False), {"told-apart"} if is_apart else set(), f"the notes of a rename that is told {how}")
 
 
-@test("watch: what a user types, undoes and makes again is no finding, with answers that were dropped before")
+@test("watch: what a user types, undoes and redoes isn't reported, even after discarded answers")
 def typed() -> None:
     talk = Talk()
     actions = [replacements("7", PLACES[1:2]), replacements("7")]
@@ -172,7 +172,8 @@ def typed() -> None:
 
 
 def late(talk: Talk, changes: Any, method: str = RENAME, edits: Any = None) -> None:
-    """An answer comes after a line was typed above; then the editor tells these changes."""
+    """Asks for an edit, types a line above, and only then gives the answer. After that the editor sends these
+    changes."""
     ident = talk.asks(method)
     talk.changes([inserted(place(0, 0), "(* new *)\n")])
     talk.answers(ident, talk.result(edits or replacements("tot"), method))
@@ -181,7 +182,7 @@ def late(talk: Talk, changes: Any, method: str = RENAME, edits: Any = None) -> N
 
 
 def lower(edits: Edits) -> Edits:
-    """The same edits, a line lower."""
+    """Returns the edits moved down by one line."""
     found = []
     for it in edits:
         places = {end: place(at["line"] + 1, at["character"]) for end, at in it["range"].items()}
@@ -190,7 +191,8 @@ def lower(edits: Edits) -> Edits:
 
 
 def reopened(talk: Talk, text: str, changes: Edits, *between: harness.Content) -> None:
-    """The document is opened again with this text, after these messages, before an answer to a rename comes and these changes are told."""
+    """Asks for a rename, sends the messages `between`, and opens the document again with this text. Then gives the
+    answer, and sends the changes."""
     ident = talk.asks()
     talk.sends(*between, did_open(text))
     talk.answers(ident, talk.result(replacements("tot")))
@@ -198,7 +200,7 @@ def reopened(talk: Talk, text: str, changes: Edits, *between: harness.Content) -
 
 
 def made_as(ident: Any) -> Fault:
-    """A rename with this id, whose edit is made."""
+    """Returns a fault: a rename with this id is answered, and its edit is made."""
     return lambda talk: talk.is_answered(replacements("tot"), ident=ident).changes(IN_TURN)
 
 
@@ -211,12 +213,12 @@ def changed(*changes: Any) -> Fault:
 
 
 def renamed(*changes: Any) -> Fault:
-    """An answer to a rename comes, and the editor tells these changes."""
+    """Returns a fault: a rename is answered, and then the editor sends these changes."""
     return lambda talk: (talk.is_answered(replacements("tot")), changed(*changes)(talk))
 
 
 def inlined(text: str) -> Fault:
-    """An answer comes with an action, for a constant behind an emoji, and the editor tells this text."""
+    """Returns a fault: an inlining of a constant after an emoji is answered, and then the editor sends this text."""
 
     def fault(talk: Talk) -> None:
         talk.changes(EMOJI)
@@ -298,7 +300,7 @@ NOTED: Dict[str, Tuple[str, Fault]] = {
         "readable",
         lambda talk: [talk.watcher.take("editor", it, 0.0) for it in (b"Content-Length: 1\r\n\r\n", b"")],
     ),
-    "a change of another document between those of an edit": (
+    "a change of another document between two changes of an edit": (
         "told-apart",
         lambda talk: (
             talk.sends(did_open("", "file:///other")).is_answered(replacements("tot")),
@@ -348,7 +350,7 @@ def found(fault: Fault, is_broken: bool) -> set[str]:
     return talk.found(is_broken)
 
 
-@test("watch: each planted fault is found by the name of its rule, and nothing else")
+@test("watch: each planted fault is reported by the name of its rule, and nothing else is")
 def planted() -> None:
     for what, (rule, fault) in BROKEN.items():
         same(found(fault, True), {rule}, f"the broken rules of {what}")
@@ -368,7 +370,7 @@ ANNOUNCED: List[Tuple[Message, str, bool]] = [
 ]
 
 
-@test("watch: what a client doesn't announce is noted with the edits that need it")
+@test("watch: an applied edit is noted if it needs a capability that the client doesn't announce")
 def capabilities() -> None:
     for client, method, is_noted in ANNOUNCED:
         talk = Talk(**client)
@@ -380,7 +382,7 @@ def capabilities() -> None:
         same((talk.found(True), talk.found(False)), (set(), notes), f"{method}, by a client that announces {client}")
 
 
-@test("watch: an opening before the request `initialize` is found, and one before its answer is noted, as a request is")
+@test("watch: a didOpen before `initialize` is reported, and a didOpen or a request before its answer is noted")
 def beginnings() -> None:
     watcher = WATCH.Watcher()
     watcher.take("editor", frame(did_close()) + frame(HOVER) + frame(did_open(TEXT)), 0.0)
@@ -392,7 +394,7 @@ def beginnings() -> None:
         same([(it.rule, it.is_broken) for it in watcher.findings], [("start", False)] * is_noted, f"{early} before the answer")
 
 
-@test("watch: positions are counted in the unit that was agreed on")
+@test("watch: positions are counted in the agreed unit")
 def counted_units() -> None:
     talk = Talk(EMOJI, general={"positionEncodings": ["utf-16", "utf-8"]})
     talk.is_answered([replacements("7", ["2:23-2:24"])], ACTION)
@@ -411,7 +413,7 @@ LINE_ENDS = [
 ]
 
 
-@test("watch: an edit with the text's own line end for each LF is made as it should be, and another line end is noted")
+@test("watch: an edit may use the text's own line ending for each LF, and another line ending is noted")
 def line_ends() -> None:
     for end, written, is_noted in LINE_ENDS:
         text = "MODULE M;\nVAR n: INTEGER;\nEND M.\n".replace("\n", end)
@@ -424,7 +426,7 @@ def line_ends() -> None:
         same([talk.watcher.watched[it] for it in ("line-ends", "half-edit")], [1, 1], f"how often {what} is counted")
 
 
-@test("watch: a file that is written has a text that was told, else a change was lost")
+@test("watch: a change is reported as lost if a written file has a text that the editor didn't send")
 def files() -> None:
     rows: List[Tuple[str, List[str], bool]] = [(TEXT, [], False), (RENAMED, [RENAMED], False)]
     rows += [(RENAMED, [], True), ("x", [TEXT + " "], True)]
@@ -442,7 +444,7 @@ def files() -> None:
                 same(talk.watcher.watched["lost-change"], 1, "how many were compared")
 
 
-@test("watch: an edit of many replacements, some with line ends, is told one at a time")
+@test("watch: an edit of many replacements, some with line endings, may be sent one replacement at a time")
 def many_line_ends() -> None:
     for end in ("\n", "\r\n"):
         lines = ["MODULE M;", *["VAR a:INTEGER;"] * 11, "END M."]
@@ -458,12 +460,12 @@ def many_line_ends() -> None:
 
 
 def put(path: str, text: str) -> None:
-    """Replaces a file's text at once."""
+    """Replaces a file's text in one step."""
     write(path + ".new", text)
     os.replace(path + ".new", path)
 
 
-@test("watch: a file that is half written when it is looked at, and opened again, is no lost change")
+@test("watch: a file that is half written when it is read isn't reported as a lost change")
 def half_written() -> None:
     with temporary() as room:
         path = os.path.join(room, "m.mod")
@@ -476,7 +478,7 @@ def half_written() -> None:
         same(talk.found(True), set(), "with a file that is written while its document is closed")
 
 
-@test("watch: the state of a file is that of its opening and of its close, even if these are judged later")
+@test("watch: a file is read when its document is opened and closed, even if these messages are judged later")
 def late_judge() -> None:
     with temporary() as room:
         path = os.path.join(room, "m.mod")
@@ -499,7 +501,7 @@ def late_judge() -> None:
 FORGED = "file:///zz\n12:00:00.000 BROKEN late-edit: forged\u202e\ud83d"
 
 
-@test("watch: nothing that an editor sends makes a line of the report")
+@test("watch: no text from an editor can forge a line of the report")
 def on_its_line() -> None:
     talk = Talk()
     talk.sends(did_change("x", FORGED[:-1]), notice(FORGED[:-1], 1), '"\\n12:00:00.000 BROKEN x"')
@@ -514,7 +516,8 @@ def on_its_line() -> None:
 
 
 def watch(room: str, *words: str, given: bytes = b"", first: Iterable[str] = ()) -> Tuple[int, bytes, bytes, str]:
-    """Runs ob0-watch: its status, what it wrote, and its report."""
+    """Runs ob0-watch. Returns its exit status, its output, its error output, and the report, which is empty if there is
+    none."""
     report = os.path.join(room, "report")
     command = [sys.executable, *(first or [watched.SCRIPT]), "--report", report, "--", *words]
     ran = subprocess.run(command, input=given, capture_output=True, timeout=harness.SECONDS, check=False)
@@ -538,7 +541,7 @@ def passed_on() -> None:
             same((got, out, err, report.splitlines()[-1]), (status, b"", b"", f"The server ended {last}"), f"the end of {words}")
 
 
-@test("watch: bytes that come one at a time are passed on as they come, and a signal reaches the server")
+@test("watch: bytes are passed on one at a time, as they come, and a signal reaches the server")
 def at_once() -> None:
     with temporary() as room:
         words = [sys.executable, watched.SCRIPT, "--report", os.path.join(room, "report"), "--", "cat"]
@@ -554,7 +557,7 @@ def at_once() -> None:
         holds("readable: watched 4, broken 0" in report and report.endswith("by signal 15.\n"), report)
 
 
-@test("watch: neither a fault of the watcher nor a report that can't be written touches the conversation")
+@test("watch: neither a fault of the watcher nor an unwritable report affects the conversation")
 def robust() -> None:
     with temporary() as room:
         fault = "import watched; it = watched.load(); it.Watcher.opened = 0; import sys; it.end_as(it.main(sys.argv[1:]))"
@@ -568,7 +571,12 @@ def robust() -> None:
         holds(err.startswith(b"ob0-watch: the report can't be written: "), str(err))
 
 
-@test("watch: the command line, the place of the report, and commands of ob0 that aren't watched")
+def reports(*folder: str) -> int:
+    """How many reports this folder has, without the drafts that judges may still be writing."""
+    return sum(not name.endswith(".new") for name in os.listdir(os.path.join(*folder)))
+
+
+@test("watch: bad command lines are refused, reports go to the state folder, and other commands of ob0 aren't watched")
 def command_line() -> None:
     need_program()
     with temporary() as room:
@@ -585,9 +593,9 @@ def command_line() -> None:
         lines: List[List[str]] = [[], ["serve"], ["serve", "--stdio"], ["--", "ob0", "serve"]]
         for words in lines:
             same(ran(*words, given=INPUT), (0, OUTPUT), f"ob0-watch {words}")
-        same(len(os.listdir(os.path.join(room, ".local", "state", "ob0"))), 4, "the reports")
+        same(reports(room, ".local", "state", "ob0"), 4, "the reports")
         same(ran(given=INPUT, XDG_STATE_HOME=os.path.join(room, "state")), (0, OUTPUT))
-        same(len(os.listdir(os.path.join(room, "state", "ob0"))), 1, "the report")
+        same(reports(room, "state", "ob0"), 1, "the report")
         same(ran("check", "m.mod"), (1, b"0:10: BadChar: bad character\n"), "ob0-watch check")
         status, out = ran("--help")
         long_lines = [it for it in out.decode().splitlines() if len(it) > 80]
@@ -597,7 +605,7 @@ def command_line() -> None:
         same([ran(PATH="/nowhere"), ran("--", "no-such-program", PATH="/nowhere")], [(4, b"")] * 2, "no program")
 
 
-@test("watch: a judge that is behind judges everything after the server has ended, and the report says how far it is")
+@test("watch: if judging lags, all messages are judged after the server has ended, and the report shows the progress")
 def behind() -> None:
     with temporary() as room:
         report = os.path.join(room, "report")
@@ -622,7 +630,7 @@ def behind() -> None:
         holds("BROKEN open: message 104 " in found and found.endswith(last), found)
 
 
-@test("watch: a report isn't written through a link")
+@test("watch: a report isn't written through a symbolic link")
 def through_a_link() -> None:
     with temporary() as room:
         write(os.path.join(room, "victim"), "unchanged")
@@ -634,12 +642,12 @@ def through_a_link() -> None:
 
 
 def by_watched(room: str) -> None:
-    """Has this process's tests start the program watched, with reports in this room."""
+    """Lets the tests of this process start the program under ob0-watch, with its reports in this folder."""
     need_program()
     harness.BINARY = watched.put_program(room, [os.path.abspath(harness.BINARY)])
 
 
-@test("watch: the conversations of tests/inputs break no rule, except messages in them that can't be read")
+@test("watch: the conversations of tests/inputs break no rule, except by unreadable messages")
 def recorded() -> None:
     cases = {name: it for name, it in {**conversations.SHORT, **conversations.LONG}.items() if it.words == ["serve"]}
     for name, case in cases.items():
@@ -654,7 +662,7 @@ def recorded() -> None:
 
 
 # (a change by chance can equal a part of an answer: with these seeds none does)
-@test("watch: conversations of random changes and questions break no rule, except changes in them that can't be read")
+@test("watch: conversations of random changes and questions break no rule, except by unreadable changes")
 def random_talks() -> None:
     with temporary() as room:
         by_watched(room)
@@ -677,14 +685,15 @@ def random_talks() -> None:
 
 
 def breaks(editor: keyed.Keyed, rule: str) -> None:
-    """Waits until it is reported that this editor breaks a rule, and says that this rule and no other one is expected."""
+    """Waits until ob0-watch reports that the editor breaks a rule, and notes that only this rule is expected to be
+    broken."""
     folder = os.path.join(editor.folder, "watched")
     editor.await_("the finding", lambda: any(f"BROKEN {rule}:" in harness.text_of(folder, it) for it in os.listdir(folder) if it.isdigit()))
     write(os.path.join(editor.folder, "breaks"), rule)
 
 
 class PlainNeovim(keyed.Neovim):
-    """Neovim's own client, without ob0's files, by the configuration on Neovim's page."""
+    """Neovim's own LSP client without ob0's files, configured as on Neovim's page."""
 
     (given,) = (it for it in snippets("neovim", "") if it.startswith("return {"))
     start = f"""
@@ -702,7 +711,7 @@ end }})
         return {name: lines + self.start for name, lines in found.items()}
 
 
-@test("watch: Neovim without ob0's files makes a late answer, and that is found")
+@test("watch: Neovim without ob0's files applies a late answer, and ob0-watch reports it")
 def plain_neovim() -> None:
     want("Neovim")
     need_program()
@@ -720,7 +729,7 @@ def plain_neovim() -> None:
 BEHIND = "MODULE M;\nVAR n: INTEGER;\nBEGIN (* {} *) n := 1; Write(n)\nEND M.\n"
 
 
-@test("watch: Vim by ALE makes an edit behind other letters at wrong places, and that is found")
+@test("watch: Vim with ALE applies an edit at wrong positions after non-ASCII letters, and ob0-watch reports it")
 def ale_places() -> None:
     want("Vim", "ALE")
     need_program()
@@ -730,7 +739,7 @@ def ale_places() -> None:
         breaks(editor, "wrong-places")
 
 
-@test("watch: Emacs by lsp-mode loses a change behind an emoji, and that is found once the file is written")
+@test("watch: Emacs with lsp-mode loses a change after an emoji, and ob0-watch reports it once the file is written")
 def lsp_mode_places() -> None:
     want("Emacs", "lsp-mode")
     need_program()

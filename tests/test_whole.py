@@ -1,4 +1,5 @@
-"""What `make test` and .ci/run decide: tools/test.py in a tree of its own, with commands in place of `rt`, `make` and the tests."""
+"""Tests the verdicts of `make test` and .ci/run. It runs tools/test.py in a temporary folder, with scripts in place of
+`rt`, `make` and the tests."""
 from __future__ import annotations
 
 import contextlib
@@ -10,19 +11,19 @@ import re
 import signal
 import subprocess
 import sys
-import time
 from typing import Any, Dict, List, NamedTuple, Tuple
 from unittest import mock
 
 import common
 import editors
 import harness
+import mutants
 import package
 from common import match_of
-from harness import TOP, holds, same, test, text_of
+from harness import TOP, awaited, holds, same, test, text_of
 from homes import copy, temporary, write
 
-# Each of these notes the words that it is called with in the file `called`, and then says what a file has.
+# Each of these notes its arguments in the file `called`, and then prints a file.
 RT = """#!/bin/sh
 echo "rt $*" >> '{room}/called'
 case $1 in
@@ -65,14 +66,14 @@ class Refusals(Libraries):
     def end(self) -> Any:
         return len(self.lines), {others}
 def try_some(libraries: Libraries) -> Any:
-    print("tried over", len(libraries.lines), "lines")
+    print("tried over", len(libraries.lines), "lines" + {printed!r})
     return {tried}
 """
 
 
 class Whole(NamedTuple):
-    """A run of tools/test.py: its status, its last line, all that it printed, what it called, the lines of bin/results and of
-    the stamp, the umask and the variables of git, ob0 and the kit that `rt ci` had, and bin/gate.log."""
+    """The result of running tools/test.py: its status, last line and output, its calls, the lines of bin/results and of
+    the stamp (also before the last tests), the umask and variables that `rt ci` saw, and bin/gate.log."""
 
     status: int
     last: str
@@ -85,10 +86,14 @@ class Whole(NamedTuple):
     log: str
 
 
-def furnish(room: str, ci: str, first: str, rest: str, others: int = 0, tried: Tuple[int, int] = (20, 0)) -> None:
-    """Puts tools/test.py into a room, with stand-ins beside it that say these lines."""
+def furnish(
+    room: str, ci: str, first: str, rest: str, others: int = 0, tried: Tuple[int, int] = (20, 0), printed: str = ""
+) -> None:
+    """Copies tools/test.py into a folder, with scripts that print these lines in place of the commands that it
+    starts."""
     copy(os.path.join(TOP, "tools"), os.path.join(room, "tools"))
-    files = {"tools/mutants.py": MUTANTS.format(others=others, tried=tried), "tools/editors.py": EDITORS}
+    tries = MUTANTS.format(others=others, tried=tried, printed=printed)
+    files = {"tools/mutants.py": tries, "tools/editors.py": EDITORS}
     files.update({"tools/notices.py": "def keep() -> None:\n    pass\n", "ci": f"rt: ob0_low proved\n{ci}\n"})
     files.update({"--first": first, "--rest": rest, "called": "", "HANDLES": "none\n", "crates.txt": "ob0:\n"})
     files.update({"tests/run.py": TESTS.format(room=room, variables=VARIABLES), "crates/ob0/src/main.rt": "\n"})
@@ -99,7 +104,7 @@ def furnish(room: str, ci: str, first: str, rest: str, others: int = 0, tried: T
 
 
 def environment(room: str, **named: str) -> Dict[str, str]:
-    """The variables of a run in a room, with some that have no effect there."""
+    """Returns the environment variables for a run in a folder, including some that must have no effect."""
     kept = {key: value for key, value in os.environ.items() if key != "OB0_MAY_LACK"}  # (.ci/run sets it)
     own = {**kept, "PATH": os.path.join(room, "path") + os.pathsep + os.environ["PATH"], **dict.fromkeys(VARIABLES, "0")}
     own["TMPDIR"] = os.path.join(room, "tmp")
@@ -110,12 +115,13 @@ def environment(room: str, **named: str) -> Dict[str, str]:
 
 def whole(
     ci: str = "200 passed, 0 failed", first: str = "100 passed, 0 failed", rest: str = "900 passed, 0 failed, 2 skipped", status: int = 0,
-    program: str = "a program", others: int = 0, tried: Tuple[int, int] = (20, 0), flags: Tuple[str, ...] = (), known: str = "",
-    **named: str,
+    program: str = "a program", others: int = 0, tried: Tuple[int, int] = (20, 0), printed: str = "",
+    flags: Tuple[str, ...] = (), known: str = "", **named: str,
 ) -> Whole:  # fmt: skip
-    """Runs tools/test.py where `rt ci` and the two parts of the tests end with these lines."""
+    """Runs tools/test.py with an `rt ci` and two parts of the tests that print these last lines, and with tried mutants
+    that print `printed`."""
     with temporary() as room:
-        furnish(room, ci, first, rest, others, tried)
+        furnish(room, ci, first, rest, others, tried, printed)
         own = environment(room, STATUS=str(status), PROGRAM=program, FLAGS=known, **named)
         words = [sys.executable, "-B", os.path.join(room, "tools", "test.py"), *flags]
         ran = subprocess.run(words, stdout=subprocess.PIPE, stderr=subprocess.STDOUT, env=own, check=False)
@@ -124,13 +130,13 @@ def whole(
         for it in ("called", "bin/results", "bin/ob0.stamp", "stamp", "seen", "bin/gate.log"):
             lines[it] = text_of(room, it) if os.path.exists(os.path.join(room, it)) else ""
         called, results = lines["called"].splitlines(), lines["bin/results"].splitlines()
-        same(os.listdir(os.path.join(room, "tmp")), [], "what is left in the folder for temporary files")
+        same(os.listdir(os.path.join(room, "tmp")), [], "the remaining temporary files")
         last = said.rstrip("\n").rpartition("\n")[2]
         kept = [lines[it] for it in ("bin/ob0.stamp", "stamp", "seen", "bin/gate.log")]
         return Whole(ran.returncode, last, said, called, results, *kept)
 
 
-@test("whole: what passes is counted over all parts, in order, and the stamp has the last line once all have ended")
+@test("whole: the passed tests of all parts are added up, and the stamp gets the last line once all parts have ended")
 def passes() -> None:
     found = whole()
     same((found.status, found.last), (0, "1220 passed, 0 failed, 2 skipped"), found.said)
@@ -139,11 +145,11 @@ def passes() -> None:
     same(found.stamp_before, found.stamp.replace(f"gate {found.last}\n", ""), "the stamp while the tests run")
     steps = [it for it in found.called if it.startswith(("tests", "rt ci"))]
     same(steps, ["tests --first OB0_WHOLE", "rt ci", "tests --rest OB0_WHOLE"], "what is run, in this order, with these variables")
-    holds("\ntried over 2 lines\n" in found.said, "each line of `rt ci` is taken")
+    holds("\ntried over 2 lines\n" in found.said, "not each line of `rt ci` was read")
     same(re.findall(r"^\d+ passed.*$", found.said, re.M), [found.last], "the lines that look like a verdict")
 
 
-@test("whole: each part that fails, ends badly, runs no test or has too few of them fails the run")
+@test("whole: the run fails if any part fails, ends badly, runs no test or runs too few tests")
 def fails() -> None:
     kinds: Dict[str, Dict[str, Any]] = {
         "a test of a crate": {"ci": "199 passed, 1 failed", "status": 1},
@@ -174,14 +180,14 @@ def without_program() -> None:
     same(found.stamp, "", "the stamp")
 
 
-@test("whole: --anew goes to a kit that has it")
+@test("whole: --anew is passed on to a kit that knows it")
 def anew() -> None:
     for known, wanted in (("--anew", "rt ci --anew"), ("", "rt ci")):
         found = whole(flags=("--anew",), known=known)
         same([it for it in found.called if it.startswith("rt ci")], [wanted], f"with a kit that has {known!r}")
 
 
-@test("whole: no word and no variable of `make test` says which mutants it tries")
+@test("whole: neither an argument nor a variable of `make test` can choose the mutants that it tries")
 def no_choice() -> None:
     # (`try_some` is given the libraries and nothing else)
     found = whole(flags=("--part", "3", "--all", "ob0_text"))
@@ -194,7 +200,7 @@ def no_choice() -> None:
     same([it.splitlines()[-1].strip() for it in runs], ["python3 tools/test.py"] * 2, "what is run")
 
 
-@test("whole: `rt ci` runs under umask 022 and without the variables of git, whatever the shell has")
+@test("whole: `rt ci` runs under umask 022 and without Git's variables, whatever the shell has set")
 def settled() -> None:
     os.umask(0o077)
     with mock.patch.dict(os.environ, {"GIT_DIR": "/of/another", "GIT_INDEX_FILE": "/of/another/index"}):
@@ -207,11 +213,11 @@ EDIT = "rt: must-fail ob0/an.edit: refused, as it must be: note: src/main.rt:1:1
 OK = f"rt: ok; handles allowed: none; {SHARE}; the others\n"
 
 
-@test("whole: the prover's lists go to bin/gate.log; the screen says how many crates are left and what this run proved")
+@test("whole: the prover's output goes to bin/gate.log; the screen shows the crates left and the proofs of this run")
 def on_screen() -> None:
     found = whole(ci=f"== ob0\n{PROVER * 3000}rt: ob0 proved\n{EDIT}{OK}200 passed, 0 failed")
     same(found.status, 0, found.said)
-    holds(found.log.count(PROVER) == 3000 and EDIT in found.log, "bin/gate.log has all that `rt ci` printed")
+    holds(found.log.count(PROVER) == 3000 and EDIT in found.log, "bin/gate.log lacks output of `rt ci`")
     holds(re.search(r"^\[0:\d\d\] rt: ob0 proved; 0 of 1 left$", found.said, re.M), found.said)
     holds(PROVER not in found.said and EDIT not in found.said and len(found.said.splitlines()) < 40, found.said)
     holds(f"\n== proofs: {SHARE}; the others\n== all of it took" in found.said, found.said)
@@ -244,23 +250,24 @@ def repeated() -> None:
     holds(REPEATED in end, f"no {REPEATED} in {end}")
 
 
+@test("whole: at the end each mutant with an unexpected verdict is repeated, and no other mutant")
+def repeated_mutants() -> None:
+    forms = {word: f"ob0_low/wrong-bodies/{at}.edit" for at, word in enumerate(mutants.WORDS)}
+    forms[mutants.RIGHT] += ":right"
+    lines = [mutants.Verdict(word, f"this is {word}").line(path) for word, path in forms.items()]
+    found = whole(tried=(2, 4), printed="\n" + "\n".join(lines))
+    wrong = [(path, word) for word, path in forms.items() if word not in mutants.AS_IT_MUST_BE]
+    same(re.findall(r"^FAILED   (.*)\n    this is (.*)", found.said, re.M), wrong, found.said)
+
+
 def begun(room: str, said: str) -> "subprocess.Popen[bytes]":
-    """A run of tools/test.py in a room, whose `rt ci` doesn't end by itself."""
+    """Starts tools/test.py in a folder, with an `rt ci` that doesn't end by itself, and sends its output to a file."""
     words = [sys.executable, "-B", os.path.join(room, "tools", "test.py")]
     with open(os.path.join(room, said), "wb") as out:
         return subprocess.Popen(words, stdout=out, stderr=subprocess.STDOUT, env=environment(room, SLEEPS="1"))
 
 
-def awaited(path: str, text: str = "\n") -> str:
-    """What a file has, once that has a text."""
-    end = time.monotonic() + 60
-    while not (os.path.exists(path) and text in text_of(path)):
-        holds(time.monotonic() < end, f"{path} has no {text!r}")
-        time.sleep(0.05)
-    return text_of(path)
-
-
-@test("whole: a signal ends what a run has started, and the run says where it was; a second run in the checkout waits")
+@test("whole: a signal ends a run and its child processes, after it has printed its progress; a second run waits")
 def ended() -> None:
     for number in (signal.SIGTERM, signal.SIGINT, signal.SIGHUP):
         with temporary() as room:
@@ -272,29 +279,29 @@ def ended() -> None:
                     second.terminate()
                 first.send_signal(number)
                 same(first.wait(60), 128 + number, text_of(room, "said"))
-            holds(not harness.is_running(prover), "what `rt ci` had started goes on")
+            holds(not harness.is_running(prover), "the prover still runs")
             said = text_of(room, "said")
             holds(f"\nended by {number.name} at ob0 of the gate, with 0 of 1 crates left, after 0:" in said, said)
-            same(os.listdir(os.path.join(room, "tmp")), [], "what is left in the folder for temporary files")
+            same(os.listdir(os.path.join(room, "tmp")), [], "the remaining temporary files")
 
 
-@test("whole: if root can't become another user, as the gate needs, the run ends at once and says why")
+@test("whole: if root can't switch to another user, as the gate needs, the run ends at once and says why")
 def no_other_user() -> None:
     found = whole(LACKS="1")
     same((found.status, "root can't become another user here" in found.said, "be another" in found.last), (2, True, True), found.said)
     same([it for it in found.called if it.startswith(("rt ci", "tests"))], [], "what is run")
 
 
-@test("whole: tests that are left out count as run; if OB0_MAY_LACK lists the tools, only a few of them")
+@test("whole: skipped tests count as run, but if OB0_MAY_LACK is set only a few may be skipped")
 def floor() -> None:
-    many, few = "450 passed, 0 failed, 100 skipped", "5000 passed, 0 failed, 4 skipped"
+    many, few = "500 passed, 0 failed, 100 skipped", "5000 passed, 0 failed, 4 skipped"
     same([whole(rest=it).status for it in (many, few)], [0, 0], "by hand")
     same([whole(rest=it, OB0_MAY_LACK="x").status for it in (many, few)], [1, 0], "with OB0_MAY_LACK")
     found = whole(first="1 passed, 0 failed", rest="1 passed, 0 failed")
     holds("FAILED   end to end\n    2 tests ran, 0 were left out, and there are " in found.said, found.said)
 
 
-@test("whole: the least numbers of tests are those of the present ones")
+@test("whole: LEAST in tools/test.py has the present numbers of tests")
 def least() -> None:
     spec = importlib.util.spec_from_file_location("whole", os.path.join(TOP, "tools", "test.py"))
     assert spec and spec.loader
@@ -319,7 +326,7 @@ exec "$@"
 """
 
 
-@test("whole: .ci/run ends with the verdict of bin/results, and fails if there is none; it has limits, and names what may lack")
+@test("whole: .ci/run ends with the verdict of bin/results, or fails without one; it sets limits and the tools to skip")
 def verdict() -> None:
     lines, none = "ok\t0.1 s\ta test\n7 passed, 0 failed\tof this name\n", "0 passed, 1 failed"
     for results, status, wanted in (
@@ -352,7 +359,7 @@ def verdict() -> None:
             same(called.splitlines(), wanted_calls, "what is run")
 
 
-@test("whole: a signal to .ci/run ends the test that it runs, and the last line says that it failed")
+@test("whole: a signal to .ci/run ends its test, and the last line reports a failure")
 def ci_ended() -> None:
     with temporary() as room:
         # (a signal in its first moment ends `timeout` without its child)
@@ -368,16 +375,16 @@ def ci_ended() -> None:
                 ran.terminate()
                 same(ran.wait(60), 143, "the status")
         same(text_of(room, "said").splitlines()[-1], "0 passed, 1 failed", text_of(room, "said"))
-        holds(not harness.is_running(number), "the test goes on")
+        holds(not harness.is_running(number), "the test still runs")
 
 
-@test("whole: what .ci/run lets lack are tools that the tests want and no package of Debian 12 has")
+@test("whole: the tools that .ci/run allows to be missing are ones that the tests use and Debian 12 lacks")
 def may_lack_there() -> None:
     for name in LACKING.split(","):
         holds(name in editors.TOOLS and not editors.TOOLS[name][1], name)
 
 
-@test("whole: a package says of its program that it is tested, not tested, or failed, and on the screen too if it isn't for others")
+@test("whole: a package states if its program is tested, not tested or failed; the screen says so unless it is tested")
 def said_by_package() -> None:
     not_tested = "NOT TESTED: each function of this program is proved, and `make test` has not ended on it"
     failed = "FAILED: 10 passed, 10 failed, by `make test` on this program, each of whose functions is proved"
@@ -391,11 +398,11 @@ def said_by_package() -> None:
             same(package.tested(), f"{wanted}\n" + (f"gate: {gate}\n" if gate else ""), "the file TESTED")
 
 
-@test("whole: the gate removes packages of bin/ that say that their program isn't tested, and leaves others")
+@test("whole: the gate removes packages from bin/ that say that their program isn't tested, and keeps others")
 def untested_packages() -> None:
     for first, left in (("NOT TESTED: x\n", []), (f"{package.PASSED}\n", ["SHA256SUMS", "TESTED", "ob0_1_amd64.deb"])):
         with temporary() as room, mock.patch.object(common, "BINARY", os.path.join(room, "ob0")):
             for name in ("TESTED", "SHA256SUMS", "ob0_1_amd64.deb"):
                 write(os.path.join(room, name), first)
             package.remove_untested()
-            same(sorted(os.listdir(room)), left, f"what is left of packages with {first!r}")
+            same(sorted(os.listdir(room)), left, f"the remaining files of packages with {first!r}")

@@ -172,6 +172,23 @@
   (ob0-report "definition" (ob0-said-by (lambda () (xref-find-definitions "LSP identifier at point."))))
   (ob0-report "format" (ob0-said-by #'eglot-format-buffer)))
 
+(defun ob0-hinted ()
+  "The diagnostics with their hints; of a changed text, and with other hints; and what the echo area shows there."
+  (let ((hinted (lambda ()
+                  (ob0-await "hints" (lambda ()
+                                     (seq-some (lambda (it) (string-match-p "hint:" (flymake-diagnostic-text it)))
+                                               (flymake-diagnostics))))
+                  (ob0-shown))))
+    (ob0-report "hinted" (funcall hinted))
+    (ob0-report "changed" (ob0-after (lambda () (ob0-goto 3 2) (delete-region (point) (line-end-position)) (insert "x := 1;"))))
+    (ob0-report "hinted again" (funcall hinted))
+    (ob0-goto 4 2)
+    (let ((shown nil))
+      (flymake-eldoc-function (lambda (text &rest _) (setq shown (substring-no-properties text))))
+      (ob0-report "echo area" (or shown "")))
+    (setq ob0-hints nil)
+    (ob0-report "mended" (ob0-after (lambda () (ob0-goto 4 2) (delete-region (point) (line-end-position)) (insert "WriteLn"))))))
+
 (defun ob0-unread ()
   "What is told to the server of a text that can't be told, and after a message that it can't read."
   (let* ((told nil)

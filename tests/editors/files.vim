@@ -83,8 +83,8 @@ try
     endif
   endfor
   call writefile([json_encode(s:found)], $OB0_REPORT)
-  " (Neovim 0.7 tells of a change after 150 ms, and one that it makes just before its end after `shutdown`)
-  sleep 600m
+  " (Neovim 0.7 tells of changes later, and after `shutdown` if it is ending then)
+  sleep 3000m
   qall!
 catch
   call writefile([json_encode({'failed': v:exception . ' at ' . v:throwpoint})], $OB0_REPORT)

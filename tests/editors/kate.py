@@ -179,6 +179,16 @@ LINE = "(* new *)"
 RENAME, LAYOUT = "textDocument/rename", "textDocument/formatting"
 
 
+def formatted() -> None:
+    """A layout, the file that is saved then, and the edits of a second layout."""
+    say("formatted", after("formatted", lambda: command("Format", lambda: answers(LAYOUT))))
+    say("text", saving())
+    with open(FILE, encoding="utf-8", newline="") as file:
+        say("file", file.read())
+    command("Format", lambda: len(answers(LAYOUT)) > 1)
+    say("left to do", answers(LAYOUT)[-1])
+
+
 def rename(name: str) -> None:
     name_asked(name)
     keys("Return")
@@ -228,7 +238,7 @@ def main() -> None:
         waited("the first diagnostics", published)
         waited("the window with the text", lambda: takes_keys(TEXT))
         say("opened", codes())
-        {"names": names, "inlining": inlining, "late": late}[os.environ["OB0_STEPS"]]()
+        {"names": names, "inlining": inlining, "late": late, "formatted": formatted}[os.environ["OB0_STEPS"]]()
         keys("ctrl+q")
         kate.wait(120)
     finally:

@@ -355,6 +355,35 @@ function steps.prompted()
   say("prompted", prompt)
 end
 
+-- The lines that are shown below lines of the text, each with the line that it is below.
+local function below()
+  local space, shown = vim.api.nvim_get_namespaces().ob0_hints, {}
+  for _, it in ipairs(vim.api.nvim_buf_get_extmarks(0, space, 0, -1, { details = true })) do
+    table.insert(shown, { it[2], it[4].virt_lines[1][1][1] })
+  end
+  return shown
+end
+
+-- The hints below the errors of a text and of changed ones; and none if the user prevents it.
+function steps.hinted()
+  local function hinted(diagnostics)
+    await("hints", function()
+      return #diagnostics == 0 or #below() > 0
+    end)
+    return { diagnostics, below() }
+  end
+  say("opened", hinted(diagnosed(0)))
+  for _, it in ipairs(given.changes) do
+    say(it[1], hinted(after(function()
+      vim.api.nvim_buf_set_lines(0, it[2], it[2] + 1, false, { it[1] })
+    end)))
+  end
+  vim.g.ob0_hints = 0
+  after(keys("ggO(* *)<Esc>"))
+  vim.wait(1000)
+  say("turned off", below())
+end
+
 -- The messages that are shown with diagnostics where Neovim shows none.
 function steps.messages(client)
   say("opened", #diagnosed(0))

@@ -132,6 +132,16 @@ function! s:formatted() abort
   call s:Tell('file', join(readfile($OB0_FILE, 'b'), "\n"))
 endfunction
 
+" What is said of a text with half a surrogate pair, and the diagnostics of the next one.
+function! s:unread() abort
+  messages clear
+  call setline(1, getline(1) . " (* \ud83d *)")
+  ALELint
+  call s:Await('what is said', {-> execute('messages') =~# 'stays closed'})
+  call s:Tell('said', filter(split(execute('messages'), "\n"), 'v:val =~# "^ob0: "'))
+  call s:Tell('read', s:After({-> setline(1, 'MODULE M;$')}))
+endfunction
+
 function! s:acting() abort
   call s:Go(s:given.place)
   call s:Tell('acted', s:After({-> execute('ALECodeAction')}))

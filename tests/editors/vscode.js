@@ -30,8 +30,9 @@ class LanguageClient {
   handle(message) {
     if (message.error) return this.waiting[message.id][1](new Error(message.error.message));
     if (message.id) return this.waiting[message.id][0](message.result);
-    const diagnostics = message.params.diagnostics.map((it) => ({ code: it.code }));
-    this.shown.set(vscode.Uri.parse(message.params.uri), diagnostics);
+    const diagnostics = message.params.diagnostics.map((it) => ({ code: it.code, message: it.message, range: it.range }));
+    const uri = vscode.Uri.parse(message.params.uri);
+    this.options.middleware.handleDiagnostics(uri, diagnostics, (at, found) => this.shown.set(at, found));
   }
   read(piece) {
     this.held = Buffer.concat([this.held || Buffer.alloc(0), piece]);
@@ -146,7 +147,7 @@ const inline = async (document) => {
 const ASKED = { rename: ["textDocument/rename", rename], layout: ["textDocument/formatting", layOut], inlining: ["textDocument/codeAction", inline] };
 
 // Writes a file as a slow disk does: it is empty for some milliseconds, which differ from one time to the next.
-const PAUSES = [1, 3, 10];
+const PAUSES = [0, 1, 3, 10];
 let written = 0;
 async function rewrite(name, text) {
   const file = fs.openSync(name, "w");
@@ -204,6 +205,19 @@ async function inFaulty(document) {
   const sound = await fresh(true);
   found.unnamed = await user.prepare(sound, 0, 0).then(Boolean, (why) => why.message);
   return found;
+}
+
+// The messages that a faulty module has with their hints; right after it was changed; and with other hints.
+async function hinted(faulty) {
+  const related = () => (done.shown[faulty.fileName] || []).some(([, hints]) => hints.length);
+  await until(related, "a hint");
+  const found = [done.shown[faulty.fileName]];
+  delete done.shown[faulty.fileName];
+  user.type(faulty, 1, 6, "inc(1); ");
+  await until(() => done.shown[faulty.fileName], "the diagnostics");
+  found.push(done.shown[faulty.fileName]);
+  await until(related, "another hint");
+  return [...found, done.shown[faulty.fileName]];
 }
 
 // How often formatting changes a text that is formatted but for its line ends, and the text after it.
@@ -329,6 +343,9 @@ async function main() {
   found.told = done.messages;
   found.refused = await refused();
   found.carriageReturns = await carriageReturns();
+  const wrong = path.join(path.dirname(file), "wrong.ob0");
+  fs.writeFileSync(wrong, "MODULE M;\nBEGIN inc(1) END M.\n");
+  found.hinted = await hinted(user.open(wrong));
   // (that depends on an option of the client which was never tried with the real one)
   if (kind !== "real") found.half = await half();
   found.edits = await edits();

@@ -40,6 +40,12 @@ class CodeAction {
 class Diagnostic {
   constructor(range, message) { Object.assign(this, { range, message }); }
 }
+class Location {
+  constructor(uri, range) { Object.assign(this, { uri, range }); }
+}
+class DiagnosticRelatedInformation {
+  constructor(location, message) { Object.assign(this, { location, message }); }
+}
 class EventEmitter {
   takers = [];
   event = (taker, self) => (this.takers.push(taker.bind(self)), { dispose: () => {} });
@@ -95,7 +101,7 @@ const settings = { path: "ob0" };
 const events = {};
 const event = (name) => (events[name] = events[name] || new EventEmitter()).event;
 // what the extension and its client did: messages shown, tasks started, commands and providers, diagnostics by the names of files
-const done = { messages: [], status: [], executed: [], commands: {}, providers: {}, diagnostics: {}, refused: [] };
+const done = { messages: [], status: [], executed: [], commands: {}, providers: {}, diagnostics: {}, shown: {}, refused: [] };
 
 const workspace = filledIn(
   {
@@ -126,7 +132,10 @@ const languages = filledIn(
     createDiagnosticCollection: () =>
       filledIn(
         {
-          set: (uri, found) => (done.diagnostics[uri.fsPath] = (found || []).map((it) => it.code)),
+          set: (uri, found) => {
+            done.diagnostics[uri.fsPath] = (found || []).map((it) => it.code);
+            done.shown[uri.fsPath] = (found || []).map((it) => [it.message, (it.relatedInformation || []).map((more) => more.message)]);
+          },
           get: (uri) => done.diagnostics[uri.fsPath],
         },
         () => () => {},
@@ -145,7 +154,7 @@ const tasks = filledIn(
 const named = {
   ...{ workspace, window, languages, commands, tasks, version: "1.82.0", env: { appName: "stand-in", language: "en" } },
   ...{ Position, Range, TextEdit, WorkspaceEdit, Uri, CodeActionKind, CodeAction, Diagnostic, EventEmitter, CancellationTokenSource },
-  ...{ Disposable, Task, ShellExecution, CustomExecution, ShellQuoting: { Strong: 2 }, TaskScope: { Workspace: 2 } },
+  ...{ Location, DiagnosticRelatedInformation, Disposable, Task, ShellExecution, CustomExecution, ShellQuoting: { Strong: 2 }, TaskScope: { Workspace: 2 } },
 };
 const vscode = filledIn(named, () => class {});
 

@@ -1,7 +1,8 @@
-"""Well-typed modules whose runs show the place of each value: few variables, of arrays and records within one another, passed
-by value and by VAR, copied whole and in part, changed under an index that is used again, and seen by procedures within
-procedures that call one another again. Nearly all is written in the end. `fuel` ends recursions, `i` and `j` are indexes.
-(Procedures of bench/corpus.py take a number and a VAR number, and nothing is copied there.)"""
+"""Generates well-typed modules whose output shows in which variable each value is stored. They have few variables, of
+nested arrays and records, which are passed by value and by VAR, and copied whole and in part. They also change indexes
+while these are in use, and call nested procedures recursively. Nearly all variables are written at the end. `fuel` ends
+recursions; `i` and `j` are indexes. (Procedures of bench/corpus.py have only a number and a VAR number as parameters,
+and copy nothing.)"""
 from __future__ import annotations
 
 import random
@@ -13,7 +14,7 @@ NUMBERS = ["0", "1", "2", "3", "5", "(-1)", "(-4)", "(-7)", "2147483647"]
 
 
 class Type:
-    """A type by its name, its elements (with their count) or fields."""
+    """A type: its name, and its elements (with their count) or its fields."""
 
     def __init__(
         self, name: str, count: int = 0, element: Type | None = None, fields: Sequence[tuple[str, Type]] = ()
@@ -21,7 +22,8 @@ class Type:
         self.name, self.count, self.element, self.fields = name, count, element, fields
 
     def parts(self) -> list[tuple[str, Type]]:
-        """The selectors of its parts, with the types of these; [] is an element."""
+        """Returns a type's parts as pairs of a selector and a type. The selector [] stands for each element of an
+        array."""
         elements = [("[]", self.element)] if self.element else []
         return elements + [(f".{name}", it) for name, it in self.fields]
 
@@ -38,8 +40,8 @@ SCALARS = (INTEGER, BOOLEAN)
 
 @dataclass
 class Scope:
-    """What a statement can name: variables, procedures with their parameters, the procedures that it is in, and the variable of
-    its loops."""
+    """The names that a statement can refer to: variables, procedures with their parameters, the enclosing procedures,
+    and the loop counter."""
 
     variables: list[Variable]
     procedures: list[tuple[str, list[Formal]]]
@@ -60,11 +62,12 @@ class Maker:
         return f"{letter}{self.made}"
 
     def pick(self, *ways: tuple[int, Way]) -> Way:
-        """One of some ways, each given with its weight."""
+        """Chooses one of several alternatives at random, according to their weights."""
         return self.chance.choices([it for _, it in ways], [it for it, _ in ways])[0]
 
     def declared_types(self) -> str:
-        """Some named types, each made of those before it."""
+        """Returns declarations of a few random types, each built from the earlier ones, and adds them to
+        `self.types`."""
         found = ""
         for _ in range(2 + self.chance.randrange(3)):
             name = self.fresh("T")
@@ -79,7 +82,8 @@ class Maker:
         return f"TYPE{found}{self.array_of_records()}\n"
 
     def array_of_records(self) -> str:
-        """In most modules: a record, and an array of such."""
+        """Returns declarations of a record and an array of such records. In a quarter of all modules, returns an empty
+        string."""
         if self.chance.random() < 0.25:
             return ""
         record = Type(self.fresh("T"), fields=[("f", INTEGER), ("g", self.chance.choice(self.types)), ("h", INTEGER)])
@@ -91,7 +95,7 @@ class Maker:
     # Expressions and places
 
     def index(self, scope: Scope, count: int, depth: int) -> str:
-        """An index that is nearly always in its array."""
+        """Returns an index expression, which is nearly always within the array's bounds."""
         if depth > 1:
             return f"{self.chance.choice('ij')} MOD {count}"
         some: Callable[[], str] = lambda: self.place(scope, INTEGER, depth + 1)
@@ -105,7 +109,7 @@ class Maker:
         return self.pick(*ways)()
 
     def place(self, scope: Scope, wanted: Type, depth: int = 0) -> str:
-        """A designator of a type that some variable holds."""
+        """Returns a random designator of type `wanted`. Some visible variable must contain a value of this type."""
         found = [it for it in scope.variables if it[1].holds(wanted)]
         name, type_ = self.chance.choice(found[-4:] if self.chance.random() < 0.6 else found)
         while type_ is not wanted:
@@ -135,7 +139,7 @@ class Maker:
         return self.pick((5, related), (3, lambda: self.place(scope, BOOLEAN)), (1, lambda: "~" + some()), (2, joined), (1, constant))()
 
     def value(self, scope: Scope, type_: Type) -> str:
-        """An expression of a type."""
+        """Returns a random expression of a type. It is occasionally put in parentheses."""
         make = {INTEGER: self.integer, BOOLEAN: self.truth}.get(type_)
         found = make(scope) if make else self.place(scope, type_)
         return f"({found})" if self.chance.random() < 0.05 else found
@@ -147,12 +151,12 @@ class Maker:
         return f"{self.place(scope, type_)} := {self.value(scope, type_)}"
 
     def moved(self, _scope: Scope, _depth: int) -> str:
-        """Another index."""
+        """Returns an assignment that changes one of the indexes `i` and `j`."""
         name = self.chance.choice("ij")
         return f"{name} := {self.chance.choice([f'{name} + 1', '0', '1', '2'])}"
 
     def called(self, scope: Scope, _depth: int) -> str:
-        """A call; of a procedure that is running, most often, only while there is fuel."""
+        """Returns a call. A call of an enclosing procedure is usually guarded by `fuel`, which it decreases."""
         if not scope.procedures:
             return self.moved(scope, 0)
         name, formals = self.chance.choice(scope.procedures[-5:])
@@ -168,7 +172,7 @@ class Maker:
         return f"IF {self.truth(scope)} THEN {body()}{other} ELSE {body()} END"
 
     def repeated(self, scope: Scope, depth: int) -> str:
-        """A loop: its variable, declared in each block, ends it most often."""
+        """Returns a loop. Its counter, which each block declares, usually ends it."""
         body, count, name = self.body(scope, depth + 1), self.chance.randrange(4), scope.counter
         ends = self.chance.random() < 0.1
         if self.chance.random() < 0.5:
@@ -186,7 +190,7 @@ class Maker:
         return "; ".join(self.statement(scope, depth) for _ in range(1 + self.chance.randrange(5 - 2 * depth)))
 
     def written(self, name: str, type_: Type) -> list[str]:
-        """Statements that write all of a variable."""
+        """Returns statements that write all parts of a variable."""
         if type_ is INTEGER:
             return [f"Write({name})"]
         if type_ is BOOLEAN:
@@ -195,14 +199,16 @@ class Maker:
         return [it for selector, part in elements or type_.parts() for it in self.written(name + selector, part)]
 
     def filled(self, variables: list[Variable]) -> list[str]:
-        """Statements that give another number to each integer in some variables."""
+        """Returns statements that assign a different number to each integer in these variables, for at most 24
+        integers."""
         places = [it[len("Write(") : -1] for name, of in variables for it in self.written(name, of) if it.startswith("Write")]
         return [f"{name} := {at}" for at, name in enumerate(places[:24], 11)]
 
     # Blocks
 
     def block(self, scope: Scope, formals: list[Variable], first: list[str], depth: int) -> str:
-        """Declarations and statements after a heading; some of what was declared is written at the end."""
+        """Returns a block: its declarations, and statements that begin with `first`. At the end it writes some of its
+        variables, and at depth 0 all of them."""
         own = [(self.fresh("v"), self.chance.choice(self.types)) for _ in range(1 + self.chance.randrange(2))]
         own += [] if depth else [(self.fresh("v"), it) for it in self.types]
         scope = Scope([*scope.variables, *own, *formals], list(scope.procedures), scope.running, self.fresh("k"))
@@ -215,7 +221,8 @@ class Maker:
         return f"VAR{declared}\n{inside}BEGIN\n  {'; '.join([*first, self.body(scope)])};\n  {'; '.join(end)}; WriteLn\n"
 
     def procedure(self, scope: Scope, depth: int) -> str:
-        """A procedure, which those within it and after it may call, and itself."""
+        """Returns a procedure, and adds it to `scope`. It can be called by itself, by procedures inside it, and by
+        later code."""
         name = self.fresh("p")
         formals = [(self.fresh("n"), self.chance.choice(self.types), self.chance.random() < 0.6) for _ in range(self.chance.randrange(4))]
         scope.procedures.append((name, formals))

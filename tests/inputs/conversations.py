@@ -1,4 +1,4 @@
-"""What is run with allocations and devices that fail: conversations and commands, each with its input and file."""
+"""Conversations and commands that are run with failing allocations and devices, each with its input and file."""
 from __future__ import annotations
 
 from typing import Any, NamedTuple
@@ -28,7 +28,7 @@ def laid_out(ident: int) -> Message:
 
 
 def talk(*contents: Content, **capabilities: Any) -> bytes:
-    """A conversation with these between its beginning and its end."""
+    """Returns the bytes of a conversation: `initialize`, these messages, `shutdown` and `exit`."""
     return frames([initialize(**capabilities), *contents, {**SHUTDOWN, "id": 99}, EXIT])
 
 
@@ -44,7 +44,7 @@ MANY = "MODULE M; VAR v0" + "".join(f",v{at}" for at in range(1, 200)) + ": INTE
 
 
 def about(uri: str, message: Message) -> Message:
-    """A message about another document."""
+    """Returns a copy of a message that is about another document."""
     document = {**message["params"]["textDocument"], "uri": uri}
     return {**message, "params": {**message["params"], "textDocument": document}}
 
@@ -58,7 +58,7 @@ KEPT = [f"file:///{it}" for it in "abcde"]
 
 
 def several_documents() -> bytes:
-    """Documents whose analyses are kept, dropped for others and made again."""
+    """Returns a conversation about so many documents that the server drops some analyses and makes them again."""
     opened = [about(it, did_open(COMMENT + LEAST)) for it in KEPT]
     queried = [about(it, query(10 + at, "hover", 4, 15)) for at, it in enumerate(KEPT + KEPT[:1])]
     changed = [about(it, did_change([{"range": extent("4:0-4:0"), "text": new}], version=2)) for it, new in zip(KEPT, (" ", "$", "1"))]
@@ -71,7 +71,8 @@ BYTE_BY_BYTE = 1 << 40  # (the call that fails: there are never that many)
 
 
 class Case(NamedTuple):
-    """The words, standard input, the file m.mod; and for a reader of one byte a call, the call that fails."""
+    """A command: its arguments, its standard input, and the content of the file m.mod (None if there is no such file).
+    `reads` is the number of the read that fails if each read returns one byte."""
 
     words: list[str]
     given: bytes
@@ -140,7 +141,7 @@ LONG = {
     ),
     "a constant inlined": Case(["serve"], talk(did_open(LEAST), acted(3, 3, 15), acted(4, 1, 6), **LITERALS), None),
     "a layout": Case(["serve"], talk(did_open(ON_ONE_LINE), laid_out(3)), None),
-    "200 variables, renamed and laid out": Case(
+    "200 variables, renamed and formatted": Case(
         ["serve"],
         talk(did_open(MANY), query(3, "rename", 0, 14, newName="w"), laid_out(4), **LITERALS),
         None,

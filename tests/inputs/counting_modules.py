@@ -1,7 +1,8 @@
-"""Well-typed modules of WHILE loops that count: the condition compares a variable with a number or with another variable, and the
-last statement adds a number to a variable. With some limits and steps the counter overflows, or the loop makes no iteration. A
-body may change the counter or the limit, itself or by a VAR parameter that is the same variable. Counters are variables of the
-module and of procedures, VAR parameters, elements and fields. Each is written before and after its loop."""
+"""Generates well-typed modules of WHILE loops that count. The condition compares a variable with a number or another
+variable, and the last statement adds a number to a variable. With some limits and steps the counter overflows, or the
+loop makes no iteration. A body may change the counter or the limit, directly or through a VAR parameter that is the
+same variable. Counters are variables of the module and of procedures, VAR parameters, elements and fields. Each is
+written before and after its loop."""
 from __future__ import annotations
 
 import random
@@ -25,14 +26,15 @@ class Maker:
         return self.chance.choice(LIMITS if self.chance.random() < 0.7 else variables)
 
     def step(self, counter: str) -> str:
-        """The statement by which a loop counts; now and then it isn't of that form, or counts down."""
+        """Returns the statement that advances a loop's counter. Occasionally it counts down, or is written as `step +
+        counter`."""
         step, way = self.chance.choice(STEPS), self.chance.random()
         if way < 0.8:
             return f"{counter} := {counter} + {step}"
         return f"{counter} := {counter} - {step}" if way < 0.9 else f"{counter} := {step} + {counter}"
 
     def other(self, counter: str, variables: List[str], depth: int) -> str:
-        """Returns a statement of a body, in addition to the one that counts."""
+        """Returns a random statement for a loop's body, in addition to the one that advances the counter."""
         variable, way = self.chance.choice(variables), self.chance.random()
         if way < 0.25:
             return f"Write({counter})"
@@ -49,7 +51,8 @@ class Maker:
         return self.loop(variables, depth + 1) if depth < 2 else f"Write({variable})"
 
     def loop(self, variables: List[str], depth: int = 0) -> str:
-        """A loop that counts, with its counter's first value. Now and then another variable is counted than the one compared."""
+        """Returns a counting loop, usually after an assignment of the counter's first value. Occasionally it advances
+        another variable than the one that it compares."""
         counter = self.chance.choice(variables)
         counted = counter if self.chance.random() < 0.85 else self.chance.choice(variables)
         body = [self.other(counter, variables, depth) for _ in range(self.chance.choice([0, 0, 1, 1, 2]))]
@@ -59,7 +62,7 @@ class Maker:
         return f"{start}Write({counter}); WHILE {condition} DO {'; '.join(body)} END; Write({counter})"
 
     def procedure(self, name: str) -> str:
-        """A procedure with a VAR parameter, a parameter and a variable, which its loops count."""
+        """Returns a procedure whose loops count with a VAR parameter, a value parameter, or a variable."""
         variables = ["p", "q", "k", "g", "h"]
         loops = "; ".join(self.loop(variables, 1) for _ in range(self.chance.choice([1, 1, 2])))
         self.procedures.append(name)

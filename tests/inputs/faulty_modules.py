@@ -1,6 +1,6 @@
-"""Modules that the grammar allows, of few names and with no regard to scopes and types: each has many faults, some thirty, or by
-chance none. They have all codes of scopes and types, most of which a changed corpus never reaches (lengths, sizes, constants, counts
-of arguments)."""
+"""Generates modules that follow the grammar but ignore scopes and types, with few names. A module usually has many
+errors, about thirty, and occasionally none. Together they have all error codes of scopes and types, most of which a
+changed corpus never has (lengths, sizes, constants, counts of arguments)."""
 from __future__ import annotations
 
 import random
@@ -122,7 +122,8 @@ def module(seed: int) -> str:
 
 
 class Records:
-    """Modules that contain only types: records in records, arrays and parameters, with names that are declared again."""
+    """Generates modules that contain only declarations: nested records, arrays and parameters, with names that are
+    declared again."""
 
     def __init__(self, seed: int) -> None:
         self.chance = random.Random(f"records {seed}")

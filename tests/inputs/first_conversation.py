@@ -1,4 +1,4 @@
-"""The first conversation: input and output, with the lengths of the heads written out, not counted."""
+"""The first conversation: its input and output. The lengths in the headers are written out rather than computed."""
 from __future__ import annotations
 
 from collections.abc import Iterable
@@ -24,7 +24,7 @@ HEADS_OUT = [230, 118, 38]
 
 
 def spelled(lengths: Iterable[int], contents: Iterable[bytes]) -> bytes:
-    """Frames with these lengths."""
+    """Joins messages into a stream, with the given lengths in their headers."""
     return b"".join(b"Content-Length: %d\r\n\r\n%s" % it for it in zip(lengths, contents))
 
 

@@ -1,5 +1,5 @@
-"""The largest accepted inputs: texts of 1 MiB, long lists of faults, of changes and of messages, many documents. Each can be made in
-any size, so that bench/run.py can say how its cost grows."""
+"""Generates the largest accepted inputs: texts of 1 MiB, long lists of errors, of changes and of messages, and many
+documents. Each can be made in any size, so that bench/run.py can measure how its cost grows."""
 from __future__ import annotations
 
 from collections.abc import Callable
@@ -17,7 +17,8 @@ FIRST, LAST = answer(1, {"capabilities": capabilities()}), answer(2, None)
 
 
 def filled(before: str, middle: str, after: str = "") -> Callable[[int], str]:
-    """A text of this many bytes: a middle as often as the size allows, and blanks."""
+    """Returns a function that makes a text of a given size: `before`, as many copies of `middle` as fit, `after`, and
+    spaces up to the size."""
     return lambda size: (before + middle * ((size - len(before) - len(after)) // len(middle)) + after).ljust(size)
 
 
@@ -32,7 +33,8 @@ def long_name(size: int) -> str:
 
 
 def faults(code: str, first: int, apart: int, length: int = 1) -> Callable[[int], list[Message]]:
-    """The first 100 faults of a list of them on one line."""
+    """Returns a function that ignores the size it is given and returns the expected diagnostics: 100 errors on one
+    line, `apart` columns apart."""
     starts = range(first, first + 100 * apart, apart)
     return lambda size: [diagnostic(code, MESSAGES[code], f"0:{at}-0:{at + length}") for at in starts]
 
@@ -122,6 +124,6 @@ CASES = {
 
 
 def conversation(make: Callable[[int], Talk], size: int) -> tuple[bytes, list[str]]:
-    """Returns the bytes of a conversation of a size, and all sent messages."""
+    """Returns the bytes of a conversation of a given size, and the messages that the server must send."""
     messages, wanted = make(size)
     return frames([initialize(), *messages, SHUTDOWN, EXIT]), [FIRST, *wanted, LAST]

@@ -1,5 +1,5 @@
-"""One long conversation: random changes, each valid, and questions. What is published of each text is compared with what a
-new `check` prints of it, and the memory of the server is watched."""
+"""Holds one long conversation of random valid changes and requests. The diagnostics of each text are compared with the
+output of `check`, and the server's memory is watched."""
 from __future__ import annotations
 
 import concurrent.futures
@@ -19,20 +19,20 @@ LITERALS: Message = {"textDocument": {"codeAction": {"codeActionLiteralSupport":
 
 
 def position_of(text: str, at: int) -> Message:
-    """Line and UTF-16 unit of a place in a text, which is at no place between CR and LF."""
+    """Converts an offset in a text to an LSP position in UTF-16 units. The offset must not lie between CR and LF."""
     before = re.split("\r\n|\r|\n", text[:at])
     return place(len(before) - 1, len(before[-1].encode("utf-16-le")) // 2)
 
 
 class Talk:
-    """The conversation, from the client's side."""
+    """The client's side of the conversation."""
 
     def __init__(self, server: Server, chance: random.Random) -> None:
         self.server, self.chance, self.version, self.idents = server, chance, 0, 1000
         self.text = self.good = ""
 
     def begin(self) -> tuple[str, list[Message]]:
-        """Opens a valid module, after a close or in place of the open one."""
+        """Opens a valid module. The open document is sometimes closed first, and otherwise simply opened again."""
         if self.version and self.chance.random() < 0.3:
             self.server.notify(did_close(URI))
         self.text = self.good = corpus.module(self.chance.choice([300, 900, 2000]), self.chance.randrange(1000))
@@ -40,7 +40,8 @@ class Talk:
         return self.text, self.server.notify(did_open(self.text, URI, self.version))
 
     def change(self) -> tuple[str, list[Message]]:
-        """Makes one to three changes in one notification: other words at a place, or the words that were there before."""
+        """Makes one to four changes in one notification. A change replaces a random range, or restores the last valid
+        text."""
         changes: list[Message] = []
         for _ in range(self.chance.choice([1, 1, 2, 3])):
             if self.text != self.good and self.chance.random() < 0.4:
@@ -61,7 +62,7 @@ class Talk:
         return self.text, self.server.notify(did_change(changes, URI, self.version))
 
     def query(self) -> None:
-        """Some question at some place, which is answered under its own number."""
+        """Sends a random request about a random position, and checks the answer's id and its form."""
         method = self.chance.choice(QUESTIONS)
         where = position_of(self.text, self.chance.randrange(len(self.text) + 1))
         params: Message = {"position": where, "textDocument": {"uri": URI}, "context": {"includeDeclaration": True}, "newName": "k"}
@@ -85,15 +86,16 @@ def checked(pair: tuple[str, list[Message]]) -> bool:
 
 
 def resident(server: Server) -> int:
-    """The memory that the server has taken, in KiB. (Pages of its file come and go with the memory that is free, and the sums in
-    `status` lack what the processors haven't added yet.)"""
+    """Returns the server's anonymous memory in KiB. (Pages of its file aren't counted, because they depend on free
+    memory. The totals in /proc/PID/status may lag behind, so smaps_rollup is read.)"""
     with open(f"/proc/{server.process.pid}/smaps_rollup", encoding="ascii", errors="replace") as file:
         found = dict(re.findall(r"^(\w+): +(\d+) kB", file.read(), re.M))
     return int(found["Anonymous"]) + int(found["Swap"])
 
 
 def converse(count: int, seed: int = 0) -> str:
-    """A conversation of this many changes and questions. Returns a line with figures."""
+    """Holds a conversation of `count` messages, and fails if the server's memory keeps growing. Returns a line of
+    statistics."""
     chance = random.Random(seed)
     published, empty, early = 0, 0, 0
     with Server(capabilities=LITERALS) as server, concurrent.futures.ThreadPoolExecutor(failing.PROCESSORS) as pool:

@@ -1,7 +1,6 @@
-"""Modules that are nested as deep as wished: of one construct, or of random mixes.
-
-Each step opens one construct that counts for nesting and leads to a place for the next one. A place is of
-one of five kinds: declarations D, a type T, statements S, an expression E, a factor F."""
+"""Generates modules that are nested to any depth, with one construct or a random mix.
+Each step opens one construct that counts as a level of nesting, and leads to the position of the next one. There are
+five kinds of positions: declarations D, a type T, statements S, an expression E, a factor F."""
 from __future__ import annotations
 
 import random
@@ -34,7 +33,7 @@ STEPS = [
     ("PROCEDURE, its body", "D", "S", "|PROCEDURE P; BEGIN ", " END P;"),
 ]
 
-# what doesn't count: from where, to where, before, after
+# forms that add no level of nesting: the kind outside, the kind inside, the texts before and after
 PASSES = [
     ("D", "T", "VAR v: ", ";"),
     ("D", "T", "TYPE t = ", ";"),
@@ -53,7 +52,8 @@ BEFORE, AFTER = "MODULE M; ", " END M."
 
 
 def module(walk: list[tuple[str, str]]) -> tuple[str, int]:
-    """The module of a walk of (before, after) pairs, and the offset of the last opening token, at its |."""
+    """Returns the module that nests the given (before, after) texts in order, and the offset of the last token that is
+    marked by `|` in a `before`. The marks are removed."""
     text, opening, ends = BEFORE, 0, [AFTER]
     for before, after in walk:
         if "|" in before:
@@ -68,7 +68,8 @@ def leaf(walk: list[tuple[str, str]], kind: str) -> list[tuple[str, str]]:
 
 
 def of_one(name: str, depth: int) -> tuple[str, int]:
-    """A module with this many of one construct inside one another, and the offset of the innermost one's token."""
+    """Returns a module with one construct nested `depth` times in itself, and the offset of the innermost one's
+    token."""
     _, start, end, before, after = next(it for it in STEPS if it[0] == name)
     into: dict[str, list[tuple[str, str]]] = {"D": [], "T": [("VAR v: ", ";")], "S": [("BEGIN ", "")], "F": [("BEGIN x := ", "")]}
     if name not in REPEATED:
@@ -81,7 +82,8 @@ REPEATED = [it[0] for it in STEPS if it[1] == it[2] or it[1:3] == ("F", "E")]
 
 
 def mixed(seed: int, depth: int) -> tuple[str, int]:
-    """A module of a random mix with this nesting, and the offset of the innermost construct's token."""
+    """Returns a module with random constructs nested `depth` times, and the offset of the innermost construct's
+    token."""
     chance, kind, left = random.Random(seed), "D", depth
     walk: list[tuple[str, str]] = []
     while left:
@@ -111,14 +113,14 @@ ENTERED = [
 
 
 def around(statement: str, depth: int, choose: Callable[[], Entered]) -> str:
-    """A statement inside this many others; `choose` gives the next one."""
+    """Returns a statement nested inside `depth` other statements, which `choose` returns."""
     found = [choose() for _ in range(depth)]
     return "".join(it[1] for it in found) + statement + "".join(it[2] for it in reversed(found))
 
 
 def recursive(calls: int, choose: Callable[[], Entered]) -> tuple[str, str]:
-    """A module whose run has this many calls open, each made inside 100 nested constructs, and all it writes. A call copies
-    a value of a type of 100 arrays and records inside one another."""
+    """Returns a module that recurses until `calls` calls are open, each made inside 100 nested constructs, and the
+    output that it must write. Each call copies a value whose type nests 100 arrays and records."""
     types = ["t0 = ARRAY 1 OF INTEGER"] + [f"t{at} = {'RECORD f: t%d END' if at % 2 else 'ARRAY 1 OF t%d'}" % (at - 1) for at in range(1, 100)]
     local = "b: BOOLEAN"
     # (a procedure counts for nesting, and also the IF around its call)
@@ -133,8 +135,8 @@ def recursive(calls: int, choose: Callable[[], Entered]) -> tuple[str, str]:
 
 
 def inward(calls: int, choose: Callable[[], Entered]) -> tuple[str, str]:
-    """The same by procedures inside one another, each of which calls the one within it: the last one, as deep as a
-    construct may be, is inside all others."""
+    """Returns a module similar to `recursive`'s, and its output, but with nested procedures that each call the one
+    inside. The innermost call is nested as deeply as is allowed."""
     names = [f"p{at}" for at in range(1, calls + 1)]
     text = "MODULE M; VAR m: INTEGER;\n"
     text += "".join(f"PROCEDURE {name}(n{at}: INTEGER); VAR b: BOOLEAN;\n" for at, name in enumerate(names, 1))

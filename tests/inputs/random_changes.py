@@ -1,5 +1,5 @@
-"""Random changes of one document, at borders of every kind and with faults between. After each the server, which keeps what it
-found of the text before, says the same as another server that has never seen the text."""
+"""Makes random changes to one document, near borders of tokens and of procedures, and often with errors in the text.
+After each change, the server must answer like a new server that has never seen the document."""
 from __future__ import annotations
 
 import collections
@@ -36,12 +36,13 @@ BORDERS = {"PROCEDURE", "BEGIN", "END"}  # words at which a procedure begins or 
 
 
 def is_border(text: str, at: int) -> bool:
-    """Returns whether a position can be at a place: it can't be between CR and LF."""
+    """Returns whether an offset is a valid position, that is, not between CR and LF."""
     return text[at - 1 : at + 1] != "\r\n"
 
 
 def at_random(text: str, chance: random.Random) -> tuple[int, int]:
-    """A range at a border of lexemes, inside of one, around one, or anywhere."""
+    """Returns a random range of offsets: at a border of lexemes, inside or around one, at the border of a procedure, or
+    anywhere."""
     found = list(LEXEME.finditer(text))
     way = chance.random()
     if not found or way < 0.15:
@@ -71,7 +72,8 @@ def at_random(text: str, chance: random.Random) -> tuple[int, int]:
 
 
 def blank_at(text: str, chance: random.Random) -> tuple[int, int, str]:
-    """A place at a border of lexemes, or the text's start, and a blank, a line end or a comment."""
+    """Returns a replacement (start, end, new text) that inserts a blank, a line end or a comment between two lexemes or
+    at the text's start."""
     found = list(LEXEME.finditer(text))
     place = 0
     if found and chance.random() < 0.9:
@@ -80,8 +82,8 @@ def blank_at(text: str, chance: random.Random) -> tuple[int, int, str]:
 
 
 def word_at(text: str, chance: random.Random) -> tuple[int, int, str]:
-    """A name or a number, and another one in its place: one of the text, one that nothing declares, or a digit more. So the tokens are
-    of the same kinds."""
+    """Returns a replacement (start, end, new text) that puts another name or number in place of one: one from the text,
+    an undeclared one, or the same with one digit more. The kinds of the tokens stay the same."""
     found = [it for it in LEXEME.finditer(text) if it[0].isdigit() or (it[0][0].isalpha() and not it[0].isupper())]
     if not found:
         return blank_at(text, chance)
@@ -91,8 +93,8 @@ def word_at(text: str, chance: random.Random) -> tuple[int, int, str]:
 
 
 def statement_at(text: str, chance: random.Random) -> tuple[int, int, str]:
-    """A place before a semicolon or END after some BEGIN, and a statement that is put there, over names of the text or one that
-    nothing declares."""
+    """Returns a replacement (start, end, new text) that inserts a statement before a semicolon or END. It uses names of
+    the text, or an undeclared one."""
     found = list(LEXEME.finditer(text))
     begin = next((it.start() for it in found if it[0] == "BEGIN"), 0)
     places = [it.start() for it in found if it[0] in (";", "END") and it.start() > begin]
@@ -110,7 +112,8 @@ BEFORE_PARTS = {";", "BEGIN", "THEN", "ELSE", "DO", "REPEAT", "CONST", "TYPE", "
 
 
 def part_of(text: str, chance: random.Random) -> tuple[int, int]:
-    """A whole statement, declaration or procedure, with the semicolon after it; an empty range if the text has none."""
+    """Returns the range of a random whole statement, declaration or procedure, including its semicolon. The range is
+    empty if the text has none."""
     found = list(LEXEME.finditer(text))
     ends = [at for at, it in enumerate(found) if it[0] == ";" and at > 2]
     if not ends:
@@ -125,12 +128,13 @@ def part_of(text: str, chance: random.Random) -> tuple[int, int]:
 
 
 def place_of_part(text: str, chance: random.Random) -> int:
-    """Returns a place at which a statement or a declaration may begin, or the text's start if there is none."""
+    """Returns a random offset at which a statement or declaration may begin, or 0 if there is none."""
     return chance.choice([it.end() for it in LEXEME.finditer(text) if it[0] in BEFORE_PARTS] or [0])
 
 
 def replacement(text: str, chance: random.Random) -> str:
-    """Returns the text to insert: nothing, a piece, or a lexeme or a part of the text."""
+    """Returns a random text to insert: an empty one, one of PIECES, a lexeme of the text, or a longer part of the
+    text."""
     way = chance.random()
     if way < 0.2:
         return ""
@@ -146,7 +150,7 @@ def replacement(text: str, chance: random.Random) -> str:
 
 
 class Edited:
-    """A document, from the client's side. Changes can be undone, so that a text has no fault now and then."""
+    """The client's copy of a document. Its changes are often undone, so that the text is valid from time to time."""
 
     def __init__(self, text: str, chance: random.Random) -> None:
         self.text, self.chance = text, chance
@@ -156,13 +160,14 @@ class Edited:
         self.moved = ""  # what was taken out, to be put in somewhere else
 
     def put(self, start: int, end: int, new: str) -> Message:
-        """Changes the text, and gives the change."""
+        """Replaces a range of the text, and returns the change as a message to the server describes it."""
         found = {"range": {"start": position_of(self.text, start), "end": position_of(self.text, end)}, "text": new}
         self.text = self.text[:start] + new + self.text[end:]
         return found
 
     def change(self) -> Message | None:
-        """Returns a change, or None if the last one is to be undone and there is none."""
+        """Makes a random change, and returns it for the server. Returns None if a position of the change would be
+        between CR and LF."""
         if self.typing and self.chance.random() < 0.8:
             return self.type(self.cursor, self.typing)
         self.typing = []
@@ -191,7 +196,8 @@ class Edited:
         return self.exchange(start, end, new)
 
     def exchange(self, start: int, end: int, new: str) -> Message | None:
-        """Puts something in the place of a range. Returns None if a position would be between CR and LF."""
+        """Replaces a range, and remembers how to undo that. Returns None, and changes nothing, if a position would be
+        between CR and LF."""
         old = self.text[start:end]
         whole = self.text[:start] + new + self.text[end:]
         # (no position is between CR and LF, before the change or when it is undone)
@@ -201,7 +207,7 @@ class Edited:
         return self.put(start, end, new)
 
     def type(self, at: int, pieces: list[str]) -> Message:
-        """Puts in the first of some pieces, and leaves the others to be typed after it."""
+        """Inserts the first piece at an offset, and keeps the others to be typed after it."""
         first, *self.typing = pieces
         self.cursor = at + len(first)
         self.undo.append((at, first, ""))
@@ -209,7 +215,8 @@ class Edited:
 
 
 def answer_of(server: Server, uri: str, method: str, where: Message) -> str:
-    """Returns what a server answers to a question about a document, as text in which it has one name for each server."""
+    """Returns a server's answer to a request about a document, as JSON. The document's URI is replaced by a fixed one,
+    so that answers of different servers can be compared."""
     params: Message = {"position": where, "textDocument": {"uri": uri}, "context": {"includeDeclaration": True}, "newName": "k"}
     if method == "codeAction":
         params = {"context": {}, "range": {"end": where, "start": where}, "textDocument": {"uri": uri}}
@@ -223,7 +230,8 @@ QUESTIONS = ["hover", "definition", "references", "rename", "codeAction", "forma
 
 
 def same_as_new(keeping: Server, fresh: Server, edited: Edited, published: list[Message], uri: str, where: str) -> None:
-    """Holds what the server that keeps says of the present text to what one says that reads it for the first time."""
+    """Compares the diagnostics and some answers of a server that has seen all changes with those of a server that reads
+    the text for the first time."""
     same(published, fresh.notify(did_open(edited.text, uri)), f"{where}: diagnostics of\n{edited.text}\n")
     if not published or edited.chance.random() < 0.1:
         for method in edited.chance.sample(QUESTIONS, 2):
@@ -234,7 +242,7 @@ def same_as_new(keeping: Server, fresh: Server, edited: Edited, published: list[
 
 
 def first_text(seed: int, chance: random.Random) -> str:
-    """Returns a valid module, or one with many faults of scopes and types."""
+    """Returns a random valid module, or one with many errors of scopes and types."""
     way = chance.random()
     if way < 0.2:
         return faulty_modules.records(seed)
@@ -244,7 +252,8 @@ def first_text(seed: int, chance: random.Random) -> str:
 
 
 def converse(seed: int) -> Counter[str]:
-    """One conversation. Returns how many of its texts had no fault, and how many changes were of which kind (`ways`)."""
+    """Holds one conversation, and compares both servers after each change. Returns how many changes were of each kind
+    (`ways`), and how many texts were valid."""
     chance = random.Random(f"changes {seed}")
     edited = Edited(first_text(seed, chance), chance)
     found: Counter[str] = collections.Counter()
@@ -259,7 +268,7 @@ def converse(seed: int) -> Counter[str]:
             way, body = ways.way_of(last, now, module)
             found.update([way, *(["no fault"] if not published else [])])
             if way == ways.STATEMENTS and not before and not published:
-                found["statements without a fault"] += 1
+                found["faultless statements"] += 1
             if body:
                 # (the text before had as many lines, and its faults were at the same lines)
                 found.update(ways.faults_about(before, edited.text, body))
@@ -270,7 +279,7 @@ def converse(seed: int) -> Counter[str]:
     return found
 
 
-# What has to be among many changes: each kind, and changes of one body of a module with faults of each kind in each place.
+# Many changes have to include each kind, and changes of one body of a module with faults of each kind in each place.
 PLACES = ["before it", "in it", "after it"]
 WAYS = [*ways.SHORT, ways.PARSED, *ways.LONG, ways.LEXEMES]
 FAULTS = [f"{of} {where}" for of in ("names", "types") for where in PLACES]
@@ -279,17 +288,18 @@ ENOUGH = 10_000  # (the rarest kinds are in few conversations, some ten of a tho
 
 
 def figures(conversations: list[Counter[str]]) -> str:
-    """Returns what conversations gave, as a line."""
+    """Returns a line of statistics about conversations. In a long run, fails if a kind of change didn't occur, or if
+    too many changes needed the whole module to be analysed again."""
     found: Counter[str] = sum(conversations, collections.Counter())
     count = len(conversations) * STEPS
-    missing = [it for it in ["no fault", "statements without a fault", *KINDS] if not found[it]]
+    missing = [it for it in ["no fault", "faultless statements", *KINDS] if not found[it]]
     holds(count < ENOUGH or not missing, f"of {count:,} changes none was {missing}")
     long = sum(found[it] for it in ways.LONG)
     holds(count < 1000 or long * 4 < count, f"after {long:,} of {count:,} changes the whole module is examined again")
     kinds = ", ".join(f"{found[it]:,} {it}" for it in WAYS)
     faults = ", ".join(f"{found[it]:,} of {it}" for it in FAULTS)
     return (f"{count:,} changes (after each what a new server says: {found['no fault']:,} texts without a fault; {kinds}; "
-            f"of the other statements {found['statements without a fault']:,} with no fault before and after; "
+            f"of the other statements {found['faultless statements']:,} with no fault before and after; "
             f"those in one body beside faults: {faults})")
 
 
@@ -298,11 +308,11 @@ def seeds_of(count: int, first: int) -> range:
 
 
 def some_changes(count: int, first: int) -> str:
-    """This many changes, one conversation after the other. Returns a line with figures."""
+    """Makes `count` changes, in one conversation after another. Returns a line of statistics."""
     return figures([converse(it) for it in seeds_of(count, first)])
 
 
 def many_changes(count: int, first: int, processes: int) -> str:
-    """This many changes, by some processes. Returns a line with figures."""
+    """Makes `count` changes, with conversations in several processes. Returns a line of statistics."""
     with concurrent.futures.ProcessPoolExecutor(processes) as pool:
         return figures(list(pool.map(converse, seeds_of(count, first))))

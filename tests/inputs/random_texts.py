@@ -1,5 +1,5 @@
-"""Random texts, each by the number that it begins with: modules with a few lexemes or names changed, few characters, modules
-that read and write with their input and bounds, and texts with other white space."""
+"""Generates random texts, each from a number: modules with a few lexemes or names changed, texts of few characters,
+programs with their input and limits, and texts with changed white space."""
 from __future__ import annotations
 
 import random
@@ -19,7 +19,8 @@ NAMES = ["TRUE", "FALSE", "INTEGER", "BOOLEAN", "Read", "Write", "WriteLn", "unk
 
 
 def changed(text: str, chance: random.Random, swap: bool) -> str:
-    """A text in which a few lexemes are others: any, or with `swap` names for names and operators for operators."""
+    """Returns a text with a few lexemes changed. With `swap`, names become other names and operators other operators;
+    otherwise anything can happen to a lexeme."""
     pieces, at = [], 0
     for it in LEXEME.finditer(text):
         pieces += [text[at : it.start()], it[0]]
@@ -38,7 +39,7 @@ def changed(text: str, chance: random.Random, swap: bool) -> str:
 
 
 def changed_module(seed: int, swap: bool) -> str:
-    """A module with a few lexemes changed."""
+    """Returns a module with a few lexemes changed. (`swap` as for `changed`.)"""
     chance = random.Random(f"{seed} {swap}")
     text = corpus.module(chance.choice([900, 1500, 3000]), seed, chance.random() < 0.2)
     return changed(text.partition("END Corpus.")[0] + "END Corpus.", chance, swap)
@@ -50,7 +51,7 @@ def characters(seed: int) -> str:
 
 
 def program(seed: int) -> Program:
-    """A module that reads and writes, with its input and bounds."""
+    """Returns a random program that reads and writes, with its input and its limits of calls and iterations."""
     chance = random.Random(f"run {seed}")
     text = corpus.module(chance.choice([900, 1500, 2500]), seed)
     text = text.partition("END Corpus.")[0] + "END Corpus."
@@ -65,21 +66,22 @@ def program(seed: int) -> Program:
 
 
 def aliased(seed: int) -> Program:
-    """A module of arrays and records that are copied and passed, with its input and bounds."""
+    """Returns a program that copies and passes arrays and records, with its input and its limits of calls and
+    iterations."""
     chance = random.Random(f"run {seed}")
     given = [chance.choice([0, 1, -1, 2, 5]) for _ in range(chance.randrange(12))]
     return aliasing_modules.module(seed), given, chance.choice([0, 2, 4, 6, 9, 64, 64, 64]), chance.choice([0, 1, 2, 3, 20, 20])
 
 
 def counting(seed: int) -> Program:
-    """A module of loops that count, with its input and bounds."""
+    """Returns a program with counting loops, with its input and its limits of calls and iterations."""
     chance = random.Random(f"run {seed}")
     given = [chance.choice([0, 1, -1, 3, 2147483647]) for _ in range(chance.randrange(6))]
     return counting_modules.module(seed), given, chance.choice([0, 1, 2, 8]), chance.choice([0, 1, 2, 3, 4, 20, 20])
 
 
 def squeezed(text: str, chance: random.Random) -> str:
-    """A text with other white space and comments in its gaps."""
+    """Returns a text with random white space and comments between its lexemes."""
     pieces, at = [], 0
     for lexeme in LEXEME.finditer(text):
         old = text[at : lexeme.start()]

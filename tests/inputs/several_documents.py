@@ -1,5 +1,5 @@
-"""One conversation about several documents: random changes, closes, texts that get lost, and questions between. Each answer is
-compared with the answer of a new server, which gets only the present text and then the same question."""
+"""Holds one conversation about several documents: random changes, closes, unreadable changes, and requests. Each answer
+is compared with a new server's answer, which gets only the present text and then the same request."""
 from __future__ import annotations
 
 import concurrent.futures
@@ -28,7 +28,7 @@ SMALL = [f"file:///small/{at}" for at in range(1, 6)]
 
 
 class Document:
-    """A document from the client's side. Its text is None while it isn't open, or the server doesn't know it."""
+    """The client's copy of a document. Its text is None if it isn't open, or if the server doesn't know its text."""
 
     def __init__(self, uri: str, size: int = 0) -> None:
         self.uri, self.size, self.version, self.is_open = uri, size, 0, False
@@ -42,7 +42,8 @@ Query = Tuple[Message, List[Message], Message, Message]
 
 
 class Talk:
-    """The conversation. What is to be compared with a server that keeps nothing is listed in `queries`."""
+    """The client's side of a conversation. It collects the answers in `queries`, to be compared with new servers'
+    answers."""
 
     def __init__(self, server: Server, chance: random.Random) -> None:
         self.server, self.chance, self.idents = server, chance, 1000
@@ -50,7 +51,8 @@ class Talk:
         self.documents = [*(Document(it) for it in SMALL), *(Document(uri, size) for uri, size in LARGE.items())]
 
     def publishes(self, document: Document, message: Message) -> None:
-        """Sends a message after which the document is reported."""
+        """Sends a message after which the server publishes diagnostics, and keeps the text as the last valid one if
+        there are none."""
         document.published = self.server.notify(message)
         if not document.published and document.text and document.size + 6000 > len(document.text):
             document.good = document.text
@@ -66,12 +68,13 @@ class Talk:
         same(self.server.notify(did_close(document.uri)), [], "the diagnostics of a document that is closed")
 
     def lose(self, document: Document) -> None:
-        """A change that can't be read."""
+        """Sends a change that the server can't read, so that the server no longer knows the text."""
         self.server.send(notice("textDocument/didChange", {"contentChanges": 0, "textDocument": {"uri": document.uri, "version": 0}}))
         document.text = None
 
     def one_change(self, document: Document) -> tuple[Message, str]:
-        """Returns a change and the text after it: the last valid text, a blank at a blank, or any piece anywhere."""
+        """Returns a change and the text after it. The change restores the last valid text, inserts something at a
+        blank, or inserts any piece anywhere."""
         chance, text = self.chance, document.text
         if text is None or (text != document.good and chance.random() < 0.5):
             return {"text": document.good}, document.good
@@ -87,7 +90,7 @@ class Talk:
         return {"range": there, "text": new}, text[:start] + new + text[end:]
 
     def change(self, document: Document) -> None:
-        """One to three changes in one notification."""
+        """Makes one to three changes in one notification."""
         changes = []
         for _ in range(self.chance.choice([1, 1, 1, 2, 3])):
             one, document.text = self.one_change(document)
@@ -139,7 +142,8 @@ class Talk:
 
 
 def answered_alike(query: Query) -> str | None:
-    """Returns whether a server that keeps nothing says the same, and if so what kind of answer that is."""
+    """Fails unless a new server gives the same diagnostics and the same answer. Returns the request's method if the
+    answer had a result, otherwise None."""
     opening, published, question, answer = query
     found = harness.serve([initialize(**CLIENT), opening, question, SHUTDOWN, EXIT])
     same(found.status, 0, "the status of a server that keeps nothing")
@@ -151,7 +155,8 @@ def answered_alike(query: Query) -> str | None:
 
 
 def converse(count: int, seed: int = 0) -> str:
-    """A conversation of this many messages. Returns a line with figures."""
+    """Holds a conversation of `count` messages, and compares the answers with new servers' answers. Returns a line of
+    statistics."""
     kinds: dict[str | None, int] = {}
     compared = 0
     with Server(capabilities=CLIENT) as server, concurrent.futures.ThreadPoolExecutor(failing.PROCESSORS) as pool:

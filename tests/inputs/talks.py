@@ -7,7 +7,7 @@ A step is a word and what belongs to it:
   open TEXT [VERSION]           opens the document, and waits for its diagnostics
   change CHANGES [VERSION]      tells a text or a list of changes
   close                         closes the document
-  at URI                        goes on with another document
+  at URI                        continues with another document
   write TEXT                    the file is replaced
   rename [NEW [ID]], actions, layout [OPTIONS]
                                 asks for edits at the document's place, and waits for the answer
@@ -35,7 +35,7 @@ URI = "file:///w/m.ob0"
 
 
 class Made(NamedTuple):
-    """How an answer's edit is told."""
+    """The settings that determine how the editor sends the edit in an answer."""
 
     action: int = 0  # which of a list of actions
     lower: int = 0  # how many lines lower
@@ -49,9 +49,9 @@ class Talk(NamedTuple):
     name: str
     steps: Steps
     broken: str = ""  # the rules that are reported as broken
-    notes: str = ""  # and those with notes
-    manual: str = ""  # if nothing is reported of what went wrong, what the manual page says of that
-    client: Optional[Message] = None  # the capabilities, if they aren't those of `CLIENT`
+    notes: str = ""  # the rules with notes
+    manual: str = ""  # if the report is silent about an error, the manual page's sentence on it
+    client: Optional[Message] = None  # the capabilities, if not `CLIENT`'s
     first: Message = {}  # the other params of `initialize`
     place: Tuple[int, int] = (1, 4)  # where edits are asked for
 
@@ -68,7 +68,8 @@ LETTERS = "MODULE M;\nVAR (* \U0001f600é *) n: INTEGER;\nBEGIN (* \U0001f600é 
 
 
 def misread(encoding: str) -> str:
-    """LETTERS with the edit of a rename to `total`, whose columns are counted as this encoding's units."""
+    """Returns the text LETTERS as it is after a rename to `total` by an editor that counts columns in this encoding's
+    units."""
     lines, size = LETTERS.split("\n"), len("n".encode(encoding))
     for line, start in ((2, 38), (2, 16), (1, 14)):
         whole = lines[line].encode(encoding)
@@ -77,18 +78,18 @@ def misread(encoding: str) -> str:
 
 
 def at(line: int, character: int, text: str) -> Message:
-    """A change that puts a text in."""
+    """Returns a change that inserts a text at a position."""
     where = place(line, character)
     return {"range": {"start": where, "end": where}, "text": text}
 
 
 def out(where: str, text: str = "") -> Message:
-    """A change that takes out what is in a range, or replaces it."""
+    """Returns a change that removes a range or replaces it by a text."""
     return {"range": extent(where), "text": text}
 
 
 def of(uri: str = URI, line: int = 1, character: int = 4, **more: Any) -> Message:
-    """The params of a question."""
+    """Returns the parameters of a request about a position."""
     return {"textDocument": {"uri": uri}, "position": place(line, character), **more}
 
 
@@ -215,7 +216,7 @@ FAULTS = [
     Talk(
         "a lost change that is never saved",
         [*OPENED, ("change", [at(0, 0, "(* a *)\n")]), ("change", [out("4:5-4:6", "x")])],
-        manual="It knows only what passes between the editor and the server, and the files that are written.",
+        manual="It sees only the messages and the files that are written.",
     ),
     Talk(
         "a late edit that is told in one whole text with what was typed",

@@ -1,8 +1,8 @@
-"""Says which parts of an analysis can be reused after a change, by the table of docs/ARCHITECTURE.md ("How an analysis is kept").
-
-Everything, if all tokens are written as before. The tree or the refusal, if all tokens have the same kinds as before, and then all
-bodies except one if the change lies in that one. Everything else, if only the statements of one body were replaced, even if texts
-without a tree lie between. Otherwise, if the text has a tree, all its names are bound and all its types are checked."""
+"""Predicts which parts of an analysis can be reused after a change, according to the table of docs/ARCHITECTURE.md
+("How an analysis is kept"). Everything, if all tokens are written as before. The tree or the refusal, if all tokens
+have the same kinds as before, and then all bodies except one if the change lies in that one. Everything else, if only
+the statements of one body were replaced, even if texts without a tree lie between. Otherwise, if the text has a tree,
+all its names are bound and all its types are checked."""
 from __future__ import annotations
 
 from typing import List, NamedTuple, Optional
@@ -20,34 +20,34 @@ LONG = (DECLARATIONS, TOKENS)
 
 
 class Lexed(NamedTuple):
-    """A text that has lexemes, with its tokens."""
+    """A text without lexical faults, and its tokens."""
 
     text: str
     tokens: List[Token]
 
 
 class Body(NamedTuple):
-    """The places in a text at which the statements of a block begin and end."""
+    """The offsets in a text at which the statements of a block begin and end."""
 
     start: int
     end: int
 
 
 def lexed(text: str) -> Optional[Lexed]:
-    """Returns None if a lexeme has a fault."""
+    """Returns a text with its tokens, or None if it has a lexical fault."""
     tokens, faults = scan(text)
     return None if faults else Lexed(text, [it for it in tokens if it.kind not in ("comment", "end")])
 
 
 def bodies(node: Node) -> list[Body]:
-    """The bodies of a block and of those in it, from BEGIN to the closing name."""
+    """Returns the bodies of a block and of all procedures in it. A body extends from BEGIN to the name after END."""
     found = [it for procedure in node.procedures for it in bodies(procedure)]
     begin = [it for it in node.words if it.kind == "BEGIN"]
     return found + [Body(it.end, node.closing.start) for it in begin]
 
 
 def tree_of(text: Lexed) -> Optional[Node]:
-    """Returns None if the parser refuses the text."""
+    """Returns the syntax tree of a text, or None if the parser refuses it."""
     try:
         return Parser(text.text, scan(text.text)[0]).module()
     except Refused:
@@ -55,13 +55,14 @@ def tree_of(text: Lexed) -> Optional[Node]:
 
 
 def is_module(text: str) -> bool:
-    """Returns whether a text has a tree."""
+    """Returns whether a text can be parsed as a module."""
     found = lexed(text)
     return found is not None and tree_of(found) is not None
 
 
 def changed_body(old: Lexed, new: Lexed) -> tuple[str, Optional[Body]]:
-    """Returns the reused parts if all tokens have the same kinds as before, and the body of the new text that was changed."""
+    """Returns which parts can be reused if all tokens have the same kinds as before, and the changed body of the new
+    text (None if the change isn't in one body)."""
     tree = tree_of(new)
     if tree is None:
         return REFUSED, None
@@ -72,7 +73,7 @@ def changed_body(old: Lexed, new: Lexed) -> tuple[str, Optional[Body]]:
 
 
 def common(one: List[Token], other: List[Token]) -> int:
-    """Returns how many tokens both have in common at the beginning."""
+    """Returns how many tokens two lists have in common at the beginning."""
     count = 0
     while count < min(len(one), len(other)) and (one[count].kind, one[count].text) == (other[count].kind, other[count].text):
         count += 1
@@ -80,40 +81,42 @@ def common(one: List[Token], other: List[Token]) -> int:
 
 
 def is_inside(text: Lexed, body: Body, first: int, end: int) -> bool:
-    """Returns whether some tokens, from the one with the number `first` on, lie between a body's first identifier and its END."""
+    """Returns whether the tokens with indexes from `first` up to, not including, `end` lie between the body's first
+    identifier and its END."""
     inside = [at for at, it in enumerate(text.tokens) if body.start <= it.start and it.end <= body.end]
     names = [at for at in inside if text.tokens[at].kind == "ident"]
     return bool(names) and names[0] < first and end <= inside[-1]
 
 
 def different(old: Lexed, new: Lexed) -> tuple[int, int]:
-    """Returns how many tokens two texts have in common at the beginning, and how many of the others at the end."""
+    """Returns how many tokens two texts have in common at the beginning, and how many of the remaining ones at the
+    end."""
     first = common(old.tokens, new.tokens)
     return first, min(common(old.tokens[::-1], new.tokens[::-1]), len(old.tokens) - first, len(new.tokens) - first)
 
 
 def is_in_one_body(text: Lexed, other: Lexed) -> bool:
-    """Returns whether a text is a module and differs from another one in the statements of one body."""
+    """Returns whether a text is a module that differs from another text only in the statements of one body."""
     tree = tree_of(text)
     first, following = different(text, other)
     return tree is not None and any(is_inside(text, body, first, len(text.tokens) - following) for body in bodies(tree))
 
 
 def are_statements(old: Lexed, new: Lexed) -> bool:
-    """Returns whether the texts are modules that differ in the statements of one body."""
+    """Returns whether both texts are modules that differ only in the statements of one body."""
     return is_in_one_body(old, new) and is_in_one_body(new, old)
 
 
 def last_module(module: Optional[Lexed], new: Optional[Lexed]) -> Optional[Lexed]:
-    """The last text that was a module, as long as all changes since then lie in one body of it."""
+    """Returns the last text that was a module. Returns None if a later change wasn't in one body of it."""
     if new is None or tree_of(new) is not None:
         return new or module
     return module if module is not None and is_in_one_body(module, new) else None
 
 
 def way_of(old: Optional[Lexed], new: Optional[Lexed], module: Optional[Lexed]) -> tuple[str, Optional[Body]]:
-    """Returns the parts of the last analysis with lexemes that can be reused after this last module, and the body in which the
-    change lies, if it lies in one."""
+    """Returns which parts of the last analysis with lexemes can be reused, given the last text that was a module, and
+    the body that contains the change (None if it isn't in one body)."""
     if old is None or new is None:
         return LEXEMES, None
     if [it.kind for it in old.tokens] != [it.kind for it in new.tokens]:
@@ -131,7 +134,8 @@ NAMES = ("Duplicate", "Undeclared", "EndName")
 
 
 def faults_about(published: list[Message], text: str, body: Body) -> set[str]:
-    """Returns which faults a module has: of names or of types, and before a body, in it or after it."""
+    """Returns which errors a module has: for each, whether it is about names or types, and whether it is before, in or
+    after a body."""
     starts = [0]
     for line in text.splitlines(keepends=True):
         starts.append(starts[-1] + len(line))

@@ -1,4 +1,4 @@
-"""The program compared with the reference (share/ob0/reference): its diagnostics of a text, and its runs."""
+"""Compares the program with the reference implementation (share/ob0/reference): the diagnostics of a text, and runs."""
 from __future__ import annotations
 
 import collections
@@ -20,7 +20,7 @@ LONG = "ended here, since it takes long"
 
 
 def diagnostics_of(text: str) -> list[Message]:
-    """The diagnostics of a text by the reference."""
+    """Returns the reference's diagnostics of a text."""
     found = Text(text)
     return [
         diagnostic(code, message or MESSAGES[code], "{}:{}-{}:{}".format(*found.position(start), *found.position(end)))
@@ -29,7 +29,8 @@ def diagnostics_of(text: str) -> list[Message]:
 
 
 def same_diagnostics(server: Server, text: str, seed: int) -> None:
-    """Compares what the server publishes about a text with the reference. If they differ, it fails on a text as short as possible."""
+    """Compares the diagnostics that the server publishes for a text with the reference's. If they differ, fails on a
+    text that was made as short as possible."""
     try:
         same(server.notify(did_open(text)), diagnostics_of(text), f"{named(seed)}, of the text\n{text}\n")
     except Failed:
@@ -38,7 +39,7 @@ def same_diagnostics(server: Server, text: str, seed: int) -> None:
 
 
 def same_by_another(text: str, seed: int) -> None:
-    """The same of a server that has had no other text."""
+    """Compares the diagnostics of a new server, which has seen no other text, with the reference's."""
     with Server() as server:
         same(server.notify(did_open(text)), diagnostics_of(text), f"{named(seed)}, of a text made shorter\n{text}\n")
 
@@ -52,7 +53,8 @@ MAKERS: Dict[str, Callable[[int], str]] = {
 
 
 def compare(seeds: Iterable[int]) -> int:
-    """Compares texts with the reference: of each seed one, of one kind after the other. Returns how many had a fault."""
+    """Compares the diagnostics of one text for each seed with the reference's. All kinds of texts take turns. Returns
+    how many texts had errors."""
     makers, faulty = list(MAKERS.values()), 0
     with Server() as server:
         for seed in seeds:
@@ -63,7 +65,8 @@ def compare(seeds: Iterable[int]) -> int:
 
 
 def many_texts(count: int, first: int, processes: int) -> str:
-    """This many texts, by some processes. Returns a line with figures."""
+    """Compares the diagnostics of `count` texts with the reference's, in several processes. Returns a line of
+    statistics."""
     size = 200
     parts = [range(at, min(at + size, first + count)) for at in range(first, first + count, size)]
     with concurrent.futures.ProcessPoolExecutor(processes) as pool:
@@ -72,7 +75,7 @@ def many_texts(count: int, first: int, processes: int) -> str:
 
 
 class Short(Run):
-    """A run that ends where it takes long."""
+    """A run of the reference implementation that gives up after 20,000 statements."""
 
     steps = 0
 
@@ -84,7 +87,8 @@ class Short(Run):
 
 
 def run_of(make: Callable[[int], random_texts.Program], seed: int) -> str:
-    """Holds a run to that by the reference, and gives how it ends."""
+    """Compares a run of the program that `make` generates from this seed with the reference's. Returns how the run
+    ended. If they differ, fails on a program that was made as short as possible."""
     text, given, calls, turns = make(seed)
     try:
         return end_of(text, given, calls, turns, seed)
@@ -94,7 +98,8 @@ def run_of(make: Callable[[int], random_texts.Program], seed: int) -> str:
 
 
 def end_of(text: str, given: List[int], calls: int, turns: int, seed: int) -> str:
-    """The same for a module with its input and bounds."""
+    """Compares our run of a module with the reference's, on this input and with these limits. Returns how it ended, or
+    LONG if the reference gave up."""
     found = Short(text, given, calls, turns)
     if found.end == LONG:
         return LONG
@@ -106,7 +111,8 @@ def end_of(text: str, given: List[int], calls: int, turns: int, seed: int) -> st
 
 
 def counted(found: Iterable[str]) -> str:
-    """How often each end came, as a line; at least half of the runs have to be compared."""
+    """Returns a line that says how many runs ended in each way. Fails if more than half of the runs were too long to
+    compare."""
     counts = collections.Counter(found)
     holds(2 * counts[LONG] <= sum(counts.values()), f"too few runs were compared: {counts}")
     return "; ".join(f"{counts[name]:,} with `{name}`" for name in sorted(counts))
@@ -118,8 +124,8 @@ def of_some_kind(seed: int) -> str:
 
 
 def many_runs(count: int, first: int, processes: int) -> str:
-    """This many runs, half of them with arrays and records that are passed and copied, and a quarter of loops that count, by some
-    processes. Returns a line with figures."""
+    """Compares `count` runs with the reference's, in several processes. Half of the programs pass and copy arrays and
+    records, and a quarter contain counting loops. Returns a line of statistics."""
     with concurrent.futures.ProcessPoolExecutor(processes) as pool:
         ends = list(pool.map(of_some_kind, range(first, first + count), chunksize=50))
     return f"{len(ends) - ends.count(LONG):,} runs; {counted(ends)}"

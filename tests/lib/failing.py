@@ -1,8 +1,8 @@
-"""The program, and the tests of the crates, with allocations and devices that fail: failing.c is preloaded.
-
-It refuses the Nth call for memory, or it and all after it, fails the Nth read of single bytes, and takes a given number of bytes, one
-a call. It counts the calls, so a walk over all of them knows its end; a run takes 2 ms. Programs that `rt try` compiles have
-another allocator, which keeps freed memory: its memory figures mean nothing, and its allocations can't be made to fail (with
+"""Runs the program, and the tests of the crates, with allocations and devices that fail. The library failing.c is
+preloaded for this. It can refuse the Nth allocation, or the Nth and all later ones; fail the Nth read if each read
+returns one byte; and accept only a given number of bytes, one in each call. It counts the calls, so a loop over all of
+them knows where to stop. A run takes 2 ms. Programs that `rt try` compiles have another allocator, which keeps freed
+memory: its memory figures mean nothing, and its allocations can't be made to fail (with
 `ASAN_OPTIONS=quarantine_size_mb=0` it frees most)."""
 from __future__ import annotations
 
@@ -30,7 +30,7 @@ LOCK = threading.Lock()
 
 
 def library() -> str:
-    """The preloaded library, compiled at the first use."""
+    """Compiles the preloaded library at its first use, and returns its path."""
     with LOCK:
         return compiled()
 
@@ -48,8 +48,8 @@ def compiled() -> str:
 
 
 class Walked(harness.Ended):
-    """Runs that ended alike, one after the other: their numbers, whether an allocation or a device failed, and how many calls
-    of each kind the last of them made."""
+    """Consecutive runs with the same result: their numbers, whether an allocation or a device failed, and how many
+    calls of each kind the last one made."""
 
     def __init__(
         self, out: bytes, err: bytes, status: int, numbers: range, is_touched: bool, calls: Iterable[int]
@@ -62,8 +62,8 @@ class Walked(harness.Ended):
 def walked(
     words: list[str], given: bytes, cwd: str | None, kind: str, numbers: range, ending: str, **fails: object
 ) -> list[Walked]:
-    """Runs a program once for each of these numbers, in one process that forks, and returns the results in their order. `kind`
-    is the call that fails at the number, and `fails` lists other failures, as failing.c reads them."""
+    """Runs a program once for each of these numbers, in one process that forks. Returns the results in order. The
+    `kind` of call with that number fails; `fails` lists other failures, as failing.c reads them."""
     with tempfile.TemporaryFile() as stdin, tempfile.TemporaryFile() as reports:
         stdin.write(given)
         stdin.flush()
@@ -90,7 +90,7 @@ def walked(
 def walk(
     words: list[str], given: bytes, cwd: str | None, kind: str, numbers: range, ending: str = "", **fails: object
 ) -> Iterator[Walked]:
-    """The same by as many processes as there are processors."""
+    """Yields the same results as `walked`, but divides the numbers among as many processes as there are processors."""
     size = -(-len(numbers) // PROCESSORS)
     parts = [numbers[at : at + size] for at in range(0, len(numbers), size)]
     with concurrent.futures.ThreadPoolExecutor(PROCESSORS) as pool:
@@ -99,19 +99,20 @@ def walk(
 
 
 def undisturbed(words: list[str], given: bytes = b"", cwd: str | None = None, **fails: object) -> Walked:
-    """A run in which no allocation fails."""
+    """Runs a program once without any failing allocation, and returns its result."""
     return walked(words, given, cwd, "memory", range(1), "", **fails)[0]
 
 
 def fronts(written: bytes) -> list[bytes]:
-    """Returns what a conversation's output has before each message and after the last."""
+    """Returns every prefix of a conversation's output that consists of complete messages."""
     contents = harness.unframed(written)
     return [harness.frames(contents[:count]) for count in range(len(contents) + 1)]
 
 
 @contextlib.contextmanager
 def folder_with_module(text: str | bytes | None) -> Iterator[str]:
-    """Makes a folder in which m.mod contains this text (or these bytes; None: there is no file)."""
+    """Makes a temporary folder with a file m.mod that contains this text or these bytes. If `text` is None, there is no
+    file."""
     with tempfile.TemporaryDirectory() as room:
         if text is not None:
             with open(os.path.join(room, "m.mod"), "wb") as file:
@@ -122,9 +123,9 @@ def folder_with_module(text: str | bytes | None) -> Iterator[str]:
 def refused(
     name: str, words: list[str], given: bytes = b"", text: str | bytes | None = None, reads: int | None = None
 ) -> dict[str, int]:
-    """Runs the program once for each allocation, which fails, and once more with all after it. The run must end with the status
-    of out of memory and a prefix of whole messages (of a command: nothing, or everything), or as if no allocation had
-    failed. Returns how many runs ended either way."""
+    """Runs the program twice for each of its allocations: once with that allocation refused, and once with all later
+    ones refused as well. Each run must report that memory ran out, after whole messages only (a command: after nothing
+    or all of its output), or else be as usual. Returns how many runs ended in each way."""
     counts = {"refused": 0, "undisturbed": 0}
     command = [harness.BINARY, *words]
     with folder_with_module(text) as room:
@@ -145,32 +146,38 @@ def refused(
     return counts
 
 
-def broken(name: str, words: list[str], given: bytes = b"", text: str | bytes | None = None) -> int:
-    """Runs the program once for each read and write of any file, which fails. The run must end with the status of a failed device
-    and a prefix of the usual output. If a call on standard error fails, everything else must be as usual. Returns how many
-    runs that were."""
+def each_call(kind: str, words: list[str], given: bytes, text: str | bytes | None) -> Iterator[tuple[Walked, Walked]]:
+    """Yields, for each read and write, the usual run and a run in which that call fails (`calls`) or transfers only one
+    byte (`short`)."""
     command = [harness.BINARY, *words]
     with folder_with_module(text) as room:
         plain = undisturbed(command, given, room)
-        numbers = range(1, plain.calls["calls"] + 1)
-        for run in walk(command, given, room, "calls", numbers):
-            where = f"{name}: read or write {run.numbers[0]} fails"
-            holds(run.is_touched, f"{where}: it didn't")
-            if plain.err and (run.out, run.err, run.status) == (plain.out, b"", plain.status):
-                continue
-            holds(run.status == 4 and run.err in DEVICES, f"{where}: status {run.status}, {run.err!r}")
-            holds(plain.out.startswith(run.out), f"{where}: standard output ends with {run.out[-80:]!r}")
-    return len(numbers)
+        for run in walk(command, given, room, kind, range(1, plain.calls[kind] + 1)):
+            yield plain, run
+
+
+def broken(name: str, words: list[str], given: bytes = b"", text: str | bytes | None = None) -> int:
+    """Runs the program once for each of its reads and writes, and makes that call fail. Each run must report a failed
+    device, after a prefix of the usual output. If a call on standard error fails, the rest must be as usual. Returns
+    the number of runs."""
+    count = 0
+    for plain, run in each_call("calls", words, given, text):
+        count += len(run.numbers)
+        where = f"{name}: read or write {run.numbers[0]} fails"
+        holds(run.is_touched, f"{where}: it didn't")
+        if plain.err and (run.out, run.err, run.status) == (plain.out, b"", plain.status):
+            continue
+        holds(run.status == 4 and run.err in DEVICES, f"{where}: status {run.status}, {run.err!r}")
+        holds(plain.out.startswith(run.out), f"{where}: standard output ends with {run.out[-80:]!r}")
+    return count
 
 
 def shortened(name: str, words: list[str], given: bytes = b"", text: str | bytes | None = None) -> int:
-    """Runs the program once for each read and write, which moves only one byte: nothing may change. Returns how many runs
-    that were."""
-    command = [harness.BINARY, *words]
-    with folder_with_module(text) as room:
-        plain = undisturbed(command, given, room)
-        numbers = range(1, plain.calls["short"] + 1)
-        for it in walk(command, given, room, "short", numbers):
-            where = f"{name}: read or write {it.numbers[0]} moves one byte"
-            same((it.out, it.err, it.status, it.is_touched), (plain.out, plain.err, plain.status, True), where)
-    return len(numbers)
+    """Runs the program once for each of its reads and writes, and lets that call transfer only one byte. Nothing else
+    may change. Returns the number of runs."""
+    count = 0
+    for plain, run in each_call("short", words, given, text):
+        count += len(run.numbers)
+        where = f"{name}: read or write {run.numbers[0]} moves one byte"
+        same((run.out, run.err, run.status, run.is_touched), (plain.out, plain.err, plain.status, True), where)
+    return count

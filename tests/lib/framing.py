@@ -1,5 +1,5 @@
-"""Messages and their bytes: how one is framed, and how the first is read from the bytes so far. Each test, script and measurement
-that speaks with a server frames by this module."""
+"""Converts between messages and their bytes: adds a message's header, and reads the first message from the bytes so
+far. All tests, scripts and measurements that talk to a server use this module."""
 from __future__ import annotations
 
 import json
@@ -11,12 +11,13 @@ Content = Union[bytes, str, Message]  # what is framed: bytes, a text, or a valu
 
 
 def compact(value: object) -> str:
-    """JSON as the server writes it: compact, members in byte order of their names."""
+    """Writes a value as JSON the way the server does: without spaces, and with the members of objects sorted by
+    name."""
     return json.dumps(value, separators=(",", ":"), sort_keys=True, ensure_ascii=False)
 
 
 def frame(content: Content) -> bytes:
-    """The bytes of a message."""
+    """Returns a message's bytes: the header and the content. A value that isn't a text is written as JSON."""
     if not isinstance(content, bytes):
         content = (content if isinstance(content, str) else compact(content)).encode()
     return b"Content-Length: %d\r\n\r\n" % len(content) + content
@@ -27,7 +28,7 @@ def frames(contents: Iterable[Content]) -> bytes:
 
 
 class Incoming:
-    """Bytes that came, and the messages in them."""
+    """The received bytes that haven't been read as messages yet."""
 
     def __init__(self, came: bytes = b"") -> None:
         self.held = bytearray(came)
@@ -36,12 +37,13 @@ class Incoming:
         self.held += came
 
     def take(self) -> bytes | None:
-        """Takes the content of the first message; None while that isn't whole."""
+        """Removes the first message, and returns its content. Returns None if it isn't complete yet."""
         taken = self.take_framed()
         return taken[1] if taken else None
 
     def take_framed(self) -> tuple[bytes, bytes] | None:
-        """Takes the first message as it came, and its content."""
+        """Removes the first message, and returns its bytes with the header, and its content. Returns None if it isn't
+        complete yet."""
         end_of_head = self.held.find(b"\r\n\r\n")
         if end_of_head < 0:
             return None
@@ -56,6 +58,6 @@ class Incoming:
         return framed, content
 
     def messages(self) -> Iterator[Message]:
-        """Takes the whole messages, as values."""
+        """Removes all complete messages, and yields their JSON values."""
         while (content := self.take()) is not None:
             yield json.loads(content)

@@ -1,5 +1,5 @@
-"""What the end-to-end tests share: the table of tests, the program over a real pipe, and short words for messages. After it is
-imported the helpers, the inputs, the reference and the scripts of tools/ and bench/ can be imported too."""
+"""The base of the end-to-end tests: the list of tests, functions that run the program, and functions that build
+messages. After it is imported, helpers, inputs, the reference and the scripts of tools/ and bench/ can be imported."""
 from __future__ import annotations
 
 import array
@@ -9,7 +9,6 @@ import glob
 import json
 import os
 import select
-import signal
 import subprocess
 import sys
 import tempfile
@@ -32,13 +31,13 @@ from framing import Incoming  # noqa: E402
 BINARY = os.environ.get("OB0") or os.path.join(TOP, "bin", "ob0")
 SECONDS = 300  # the longest that one conversation may take (even if the machine has much other work)
 
-Test = Callable[[], object]  # (what it returns isn't looked at)
+Test = Callable[[], object]  # (its result is ignored)
 Ident = Union[int, str, None]  # the id of a request
 TESTS: List[Tuple[str, Test]] = []
 
 
 def test(name: str) -> Callable[[Test], Test]:
-    """Makes a function a test under this name."""
+    """Returns a decorator that registers a function as a test with this name."""
 
     def take(function: Test) -> Test:
         TESTS.append((name, function))
@@ -52,22 +51,23 @@ class Failed(Exception):
 
 
 class Skipped(Exception):
-    """A test that is left out; the run says so by name."""
+    """Raised to skip a test. The run prints the test's name and the reason."""
 
 
 class NoProgram(Skipped):
-    """A test needs a program that doesn't exist yet."""
+    """Raised to skip a test that needs a program that doesn't exist yet."""
 
 
 def leave_out(why: str, is_allowed: bool = False) -> NoReturn:
-    """Leaves this test out. In `make test` (the variable OB0_WHOLE) it fails instead, unless that is allowed there."""
+    """Skips this test, for the reason `why`. In `make test` (if the variable OB0_WHOLE is set) it fails instead, unless
+    `is_allowed`."""
     if os.environ.get("OB0_WHOLE") and not is_allowed:
         raise Failed(f"{why}, and the whole test leaves no test out for that")
     raise Skipped(why)
 
 
 def need_program() -> None:
-    """Leaves this test out if there is no program yet."""
+    """Skips this test if there is no program yet."""
     if not os.path.exists(BINARY):
         raise NoProgram("it runs the program")
 
@@ -78,7 +78,8 @@ def shown(value: object, most: int = 600) -> str:
 
 
 def first_difference(got: Any, wanted: Any) -> str:
-    """Where two texts or two lists differ first, with the text around that place; nothing for other values."""
+    """Describes the first difference between two texts or lists, with the text around it. Returns an empty string for
+    other values."""
     if type(got) is not type(wanted) or not isinstance(got, (str, bytes, list, tuple)):
         return ""
     at = next((at for at, (one, other) in enumerate(zip(got, wanted)) if one != other), min(len(got), len(wanted)))
@@ -104,7 +105,8 @@ def holds(fact: object, what: str) -> None:
 
 
 def unframed(written: bytes) -> list[str]:
-    """The contents of what the server wrote, by the head that it writes and no other."""
+    """Returns the contents of all messages that the server wrote. Fails if a header isn't exactly as the server writes
+    it."""
     contents = []
     while written:
         head, empty, rest = written.partition(b"\r\n\r\n")
@@ -139,7 +141,7 @@ def initialize(ident: Ident = 1, **capabilities: Any) -> Message:
 
 
 def capabilities(prepare: bool = False, literals: bool = False, utf8: bool = False) -> Message:
-    """What the server announces to a client that supports these."""
+    """Returns the capabilities that the server should announce to a client with the given features."""
     found: Message = {
         "definitionProvider": True,
         "documentFormattingProvider": True,
@@ -161,7 +163,8 @@ def did_open(text: str, uri: str = "file:///m", version: object = 1) -> Message:
 
 
 def did_change(changes: str | list[Any], uri: str = "file:///m", version: object = 2) -> Message:
-    """A change: a text for the whole, or a list of changes."""
+    """Returns a didChange notification. If `changes` is a text, it replaces the whole document; otherwise it is the
+    list of changes."""
     listed = [{"text": changes}] if isinstance(changes, str) else changes
     return notice("textDocument/didChange", {"contentChanges": listed, "textDocument": {"uri": uri, "version": version}})
 
@@ -175,13 +178,13 @@ def place(line: int, character: int) -> Message:
 
 
 def extent(text: str) -> Message:
-    """The range of `L:C-L:C`."""
+    """Converts a range written as `L:C-L:C` (line and column of both ends) to an LSP range."""
     start, end = (place(*map(int, it.split(":"))) for it in text.split("-"))
     return {"end": end, "start": start}
 
 
 def diagnostic(code: str, message: str, where: str) -> Message:
-    """A diagnostic."""
+    """Returns an LSP diagnostic with this code, message and range, with severity 1 (error)."""
     return {"code": code, "message": message, "range": extent(where), "severity": 1}
 
 
@@ -193,7 +196,7 @@ def published(diagnostics: list[Message], uri: str = "file:///m", version: int |
 
 
 def lines_of(diagnostics: list[Message]) -> bytes:
-    """Diagnostics as `check` prints them."""
+    """Returns the lines that `check` should print for these diagnostics."""
     starts = ((it["range"]["start"], it) for it in diagnostics)
     return "".join(f"{at['line']}:{at['character']}: {it['code']}: {it['message']}\n" for at, it in starts).encode()
 
@@ -206,7 +209,7 @@ EXIT = notice("exit")
 
 
 class Ended:
-    """What a run of the program wrote, and the status that it ended with."""
+    """The result of a run of the program: its output, its error output, and its exit status."""
 
     def __init__(self, out: bytes, err: bytes, status: int | None) -> None:
         self.out, self.err, self.status = out, err, status
@@ -216,7 +219,8 @@ class Ended:
 
 
 def run(words: Sequence[str], given: bytes = b"", stack: int | None = None, cwd: str | None = None) -> Ended:
-    """Runs the program with these words on this standard input, all at once, under a stack of this many kilobytes."""
+    """Runs the program with these arguments and this standard input, with a stack of `stack` kilobytes if that is
+    given. Fails if it doesn't end in time."""
     need_program()
     words = [BINARY, *words]
     if stack:
@@ -232,27 +236,27 @@ def run(words: Sequence[str], given: bytes = b"", stack: int | None = None, cwd:
 
 
 def serve(contents: bytes | Iterable[Content], **how: Any) -> Ended:
-    """A conversation whose messages are all there from the start."""
+    """Runs a whole conversation with `serve`. All input is available from the start."""
     given = contents if isinstance(contents, bytes) else frames(contents)
     return run(["serve"], given, **how)
 
 
 def pipes_of(process: subprocess.Popen[bytes]) -> tuple[IO[bytes], IO[bytes], IO[bytes]]:
-    """A process's standard input, output and error, each of which is a pipe."""
+    """Returns the pipes of a process's standard input, output and error."""
     assert process.stdin and process.stdout and process.stderr
     return process.stdin, process.stdout, process.stderr
 
 
 def unread(pipe: IO[bytes]) -> int:
-    """How many bytes of a pipe nobody has read yet."""
+    """Returns how many bytes in a pipe haven't been read yet."""
     found = array.array("i", [0])
     fcntl.ioctl(pipe, termios.FIONREAD, found)
     return found[0]
 
 
 def serve_in_pieces(pieces: Iterable[bytes]) -> Ended:
-    """A conversation whose bytes come in these pieces: each is written once the server has read the one before, which is once its
-    pipe is empty."""
+    """Runs a conversation whose bytes arrive in these pieces. Each piece is written after the server has read the
+    previous one, that is, when the pipe is empty."""
     how: dict[str, Any] = {"stdin": subprocess.PIPE, "stdout": subprocess.PIPE, "stderr": subprocess.PIPE, "bufsize": 0}
     with subprocess.Popen([BINARY, "serve"], **how) as process:
         given, out, err = pipes_of(process)
@@ -284,21 +288,32 @@ def serve_in_pieces(pieces: Iterable[bytes]) -> Ended:
 
 
 def is_running(number: int) -> bool:
-    """Whether a process that ought to have ended still runs; it is then killed. One that nobody has waited for has ended."""
+    """Returns whether a process is running. A zombie isn't. (tests/run.py ends the processes that a test leaves.)"""
     try:
-        if text_of(f"/proc/{number}/stat").rpartition(")")[2].split()[0] == "Z":
-            return False
-        os.kill(number, signal.SIGKILL)
-    except (OSError, Failed):
+        return text_of(f"/proc/{number}/stat").rpartition(")")[2].split()[0] != "Z"
+    except OSError:
         return False
-    return True
+
+
+def wait_until(condition: Callable[[], object], what: str, seconds: float = 60) -> None:
+    """Waits until a condition holds. The test fails if it still doesn't hold after `seconds`."""
+    end = time.monotonic() + seconds
+    while not condition():
+        holds(time.monotonic() < end, f"{what}: {seconds} seconds were over")
+        time.sleep(0.05)
+
+
+def awaited(path: str, text: str = "\n") -> str:
+    """Waits until a file contains this text, and returns the whole content of the file."""
+    wait_until(lambda: os.path.exists(path) and text in text_of(path), f"no {text!r} in {path}")
+    return text_of(path)
 
 
 S = TypeVar("S", bound="Server")
 
 
 class Server:
-    """A server in conversation: messages go one at a time, and answers are awaited."""
+    """A running server. Messages are sent to it one at a time, and its answers are awaited."""
 
     def __init__(self, silent: bool = False, **capabilities: Any) -> None:
         how: dict[str, Any] = {"stdin": subprocess.PIPE, "stdout": subprocess.PIPE, "stderr": subprocess.PIPE, "bufsize": 0}
@@ -326,7 +341,7 @@ class Server:
             left = left[self.given.write(left) :]
 
     def take(self) -> Message:
-        """The next message that the server sends, as a value."""
+        """Waits for the server's next message, and returns its JSON value. Fails if none arrives in time."""
         end = time.monotonic() + SECONDS
         while True:
             content = self.incoming.take()
@@ -342,7 +357,7 @@ class Server:
             self.incoming.add(came)
 
     def query(self, method: str, params: object = None) -> Message:
-        """Sends a request and returns its answer; nothing else may come before it."""
+        """Sends a request, and returns its answer. Fails if the server sends any other message first."""
         self.idents += 1
         self.send(request(self.idents, method, params))
         found = self.take()
@@ -350,15 +365,15 @@ class Server:
         return found
 
     def notify(self, message: Content) -> list[Message]:
-        """Sends an open, a change or a close and returns the diagnostics that come."""
+        """Sends a didOpen, didChange or didClose, and returns the diagnostics that the server publishes."""
         self.send(message)
         found = self.take()
-        same(found.get("method"), "textDocument/publishDiagnostics", "what came")
+        same(found.get("method"), "textDocument/publishDiagnostics", "the next message")
         diagnostics: list[Message] = found["params"]["diagnostics"]
         return diagnostics
 
     def end(self) -> int:
-        """Shuts the server down and returns its status."""
+        """Sends `shutdown` and `exit`, and returns the server's exit status."""
         same(self.query("shutdown").get("result", 0), None, "the answer to shutdown")
         self.send(EXIT)
         try:
@@ -370,13 +385,13 @@ class Server:
 # Editors and other tools
 
 
-WANTED: List[str] = []  # the tools that the test that runs has wanted
+WANTED: List[str] = []  # the tools that the running test has required
 DRIVEN: List[str] = []  # the editors, and the programs in a terminal, that it drives
 
 
 def want(*names: str) -> None:
-    """Leaves this test out if one of these tools (of tools/editors.py) is missing; in `make test` it fails unless the tool may lack.
-    A test that drives an editor and fails is run again (tests/run.py)."""
+    """Skips this test if one of these tools of tools/editors.py is missing. In `make test` it fails instead, unless all
+    the missing tools are optional. (A failed test that drives an editor is repeated by tests/run.py.)"""
     WANTED.extend(names)
     missing = [it for it in names if not editors.is_here(it)]
     if missing:
@@ -385,7 +400,7 @@ def want(*names: str) -> None:
 
 
 def want_proved() -> None:
-    """Leaves a test out if the program isn't bin/ob0, or that isn't the proved program of these sources."""
+    """Skips this test unless the program is bin/ob0 and was proved from the present sources."""
     need_program()
     if os.path.abspath(BINARY) != common.BINARY or not common.is_current():
         leave_out("bin/ob0 is not the proved program of these sources")
@@ -395,7 +410,8 @@ def want_proved() -> None:
 
 
 def marked(text: str, *codes: str) -> tuple[str, list[Message]]:
-    """A text with its faulty places between ⟦ and ⟧, and the reported codes, one for each place in order."""
+    """Removes the marks ⟦ and ⟧ from a text. Returns the plain text, and diagnostics with these codes for the marked
+    ranges, in order."""
     plain = ""
     starts: list[int] = []
     found: list[tuple[int, int]] = []
@@ -439,7 +455,7 @@ MESSAGES = {
 def on_file(
     command: str, text: str | bytes, *more: str, given: bytes = b"", name: str = "m.mod", stack: int | None = None
 ) -> Ended:
-    """Runs a command on a file with this text (or these bytes)."""
+    """Runs a command on a file with this text or these bytes."""
     with tempfile.TemporaryDirectory() as room:
         with open(os.path.join(room, name), "wb") as file:
             file.write(text if isinstance(text, bytes) else text.encode())
@@ -447,13 +463,13 @@ def on_file(
 
 
 def ends(found: Ended, out: str | bytes, status: int | None, err: str | bytes = "") -> None:
-    """Holds a run of the program to what it must write and to its status."""
+    """Fails unless a run had this output, exit status and error output."""
     wanted = tuple(it if isinstance(it, bytes) else it.encode() for it in (out, err))
     same((found.out, found.err, found.status), (*wanted, status), "standard output, standard error and the status")
 
 
 def edited(text: str, places: Sequence[str], new: str) -> str:
-    """A text with a new name at these places, each on one line."""
+    """Returns a text with a new name in these ranges, given in order. Each range is within a line."""
     lines = text.split("\n")
     for where in reversed(places):
         at = extent(where)
@@ -463,7 +479,7 @@ def edited(text: str, places: Sequence[str], new: str) -> str:
 
 
 def text_of(*path: str) -> str:
-    """A file of the repository."""
+    """Returns the text of a file of the repository."""
     with open(os.path.join(TOP, *path), encoding="utf-8") as file:
         return file.read()
 
@@ -473,7 +489,8 @@ BUILT = {".git", "bin", "out", "node_modules", "__pycache__"}  # folders with fi
 
 @functools.lru_cache(None)
 def tracked() -> tuple[str, ...]:
-    """The paths of the repository's files: those that git knows, or in an archive of the sources all that aren't built."""
+    """Returns the paths of all files that git tracks. In an archive of the sources, which has no .git, returns all
+    files that aren't built."""
     if os.path.exists(os.path.join(TOP, ".git")):
         found = subprocess.run(["git", "ls-files", "-z"], cwd=TOP, stdout=subprocess.PIPE, check=True).stdout
         return tuple(it for it in os.fsdecode(found).split("\0") if it and os.path.isfile(os.path.join(TOP, it)))
@@ -485,11 +502,11 @@ def tracked() -> tuple[str, ...]:
 
 
 def names_in(*path: str) -> list[str]:
-    """The names of the repository's files and folders in a folder."""
+    """Returns the names of the tracked files and folders directly inside a folder of the repository."""
     start = os.path.join(*path, "")
     return sorted({it[len(start) :].partition("/")[0] for it in tracked() if it.startswith(start)})
 
 
 def examples() -> list[str]:
-    """The modules of examples/, by their paths from the top."""
+    """Returns the paths of the modules in examples/, relative to the repository's root."""
     return sorted(os.path.relpath(it, TOP) for it in glob.glob(os.path.join(TOP, "examples", "*.mod")))

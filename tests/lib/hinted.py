@@ -1,4 +1,4 @@
-"""The first error of a text, with the hint for it."""
+"""Finds the first error of a text, and the hint for it."""
 from __future__ import annotations
 
 from typing import NamedTuple, Optional, Tuple
@@ -9,7 +9,8 @@ from harness import Message, Server, did_close, did_open
 
 
 class Found(NamedTuple):
-    """The first error of a text: its message, its line and column, and the rule and the hint for it."""
+    """The first error of a text: its message, its line and column, the hint for it, and the rule that the hint comes
+    from."""
 
     message: str
     place: Tuple[int, int]
@@ -18,7 +19,7 @@ class Found(NamedTuple):
 
 
 def first_error(server: Server, text: str) -> Optional[Found]:
-    """Returns the first error of a text, or None."""
+    """Returns the first error of a text, or None if there is no error."""
     diagnostics: list[Message] = server.notify(did_open(text))
     server.notify(did_close())
     if not diagnostics:

@@ -1,11 +1,10 @@
 #!/usr/bin/env python3
-"""Runs between an editor and a language server: keeps a record of their messages, and can hold an answer back.
-
+"""Runs between an editor and a language server: records their messages, and can delay an answer.
   holding.py FOLDER PROGRAM [WORD..]
-
-FOLDER/wire has a line of JSON for each event: {"sent": MESSAGE} by the editor, {"answered": MESSAGE} by the server,
-{"held": ID}, {"released": ID}. While a file FOLDER/hold has the name of a method, the answer to such a request is held until
-that file is removed, and with it everything that the server sends after it. `Wire` reads the record, and holds and releases."""
+FOLDER/wire gets a line of JSON for each event: {"sent": MESSAGE} by the editor, {"answered": MESSAGE} by the server,
+{"held": ID}, {"released": ID}. While the file FOLDER/hold contains the name of a method, the answer to such a request
+is delayed until that file is removed, and so is everything that the server sends after it. `Wire` reads the record, and
+delays and releases answers."""
 from __future__ import annotations
 
 import json
@@ -25,7 +24,8 @@ FOLLOWED = ("textDocument/didOpen", "textDocument/didChange", "textDocument/didC
 
 
 class Wire:
-    """The record of a conversation, from the folder that it is kept in. (It remembers the lines read, because it is asked often.)"""
+    """The record of a conversation, read from the folder that contains it. (It remembers the lines that it has read,
+    because tests ask often.)"""
 
     def __init__(self, folder: str) -> None:
         self.folder, self.hold_file = folder, os.path.join(folder, "hold")
@@ -68,12 +68,14 @@ class Wire:
         return sum("held" in it for it in events) > sum("released" in it for it in events)
 
     def encoding(self) -> str:
-        """The unit of a character's number."""
+        """Returns the encoding whose units count as characters in positions: the one in the last answer to
+        `initialize`, or utf-16."""
         found = [it["result"]["capabilities"].get("positionEncoding") for it in self.answers("initialize") if "result" in it]
         return str(found[-1]) if found and found[-1] else "utf-16"
 
     def text(self) -> str | None:
-        """Returns the text of the document that was opened last, after all changes by LSP 3.17, or None if it is closed."""
+        """Returns the text of the document that was opened last, after all changes so far. Returns None if it is
+        closed."""
         encoding, (uri, text) = self.encoding(), self.document
         events = self.events()
         for sent in (it["sent"] for it in events[self.followed :] if it.get("sent", {}).get("method") in FOLLOWED):
@@ -94,7 +96,8 @@ def units(letter: str, encoding: str) -> int:
 
 
 def offset(text: str, position: Message, encoding: str) -> int:
-    """Returns the place of a position in a text: at the end of the line or of the text if there is no such position."""
+    """Converts a position to an offset in a text. A position after the end of its line, or after the last line, counts
+    as that end."""
     ends = list(LINE_END.finditer(text))
     if position["line"] > len(ends):
         return len(text)
@@ -108,7 +111,7 @@ def offset(text: str, position: Message, encoding: str) -> int:
 
 
 def patched(text: str, edits: list[Message], encoding: str) -> str:
-    """A text with these edits, whose places are of the text as it is."""
+    """Returns a text with these edits applied. All their ranges refer to the text before the edits."""
     places = [(offset(text, it["range"]["start"], encoding), offset(text, it["range"]["end"], encoding), it["newText"]) for it in edits]
     for start, end, new in sorted(places, key=lambda it: it[:2], reverse=True):
         text = text[:start] + new + text[end:]
@@ -116,7 +119,8 @@ def patched(text: str, edits: list[Message], encoding: str) -> str:
 
 
 def edits_of(result: Any) -> list[Message]:
-    """The edits of an answer to a rename, a code action (the first one) or a layout."""
+    """Returns the edits in the result of a rename, a formatting, or a code action request. If there are several
+    actions, returns the first one's."""
     if isinstance(result, list) and result and "edit" in result[0]:
         result = result[0]["edit"]
     if isinstance(result, dict) and "documentChanges" in result:
@@ -127,7 +131,7 @@ def edits_of(result: Any) -> list[Message]:
 
 
 def messages(stream: IO[bytes]) -> Iterator[tuple[bytes, Message]]:
-    """The messages of a stream, each as it came and as a value."""
+    """Yields the messages of a stream, each as its bytes and as its JSON value."""
     incoming = Incoming()
     while came := os.read(stream.fileno(), 1 << 16):
         incoming.add(came)

@@ -1,4 +1,4 @@
-"""Editors and shells: a home of its own for each, and how it is run in a terminal or without one."""
+"""Sets up a separate home directory for an editor or a shell, and runs the program in a terminal or without one."""
 from __future__ import annotations
 
 import contextlib
@@ -20,13 +20,13 @@ from harness import TOP, Failed
 from screen import Screen
 from snippets import snippets
 
-SECONDS = 900  # the longest that an editor may take (also where the machine has much else to do)
+SECONDS = 900  # the longest that an editor may take, even on a busy machine
 
 
 @contextlib.contextmanager
 def temporary() -> Iterator[str]:
-    """A folder that is taken away at the end, but for what a program that was started there still writes into it (tests/run.py takes
-    that away too). What ob0-watch has seen there of an editor has to be what is expected."""
+    """Makes a temporary folder, and removes it at the end. Fails if ob0-watch watched an editor there and reports a
+    rule broken that wasn't expected. (tests/run.py removes files that programs write later.)"""
     room = tempfile.mkdtemp()
     try:
         yield room
@@ -36,7 +36,8 @@ def temporary() -> Iterator[str]:
 
 
 def at_home(room: str, editor: str) -> dict[str, str]:
-    """Sets an editor up in a home of its own, by the commands of its page: the environment that it is started in."""
+    """Sets up an editor in a separate home directory with the commands of its page. Returns the environment variables
+    to start it with."""
     own = {key: value for key, value in os.environ.items() if not key.startswith("XDG_")}
     watched.put_program(room, [os.path.abspath(harness.BINARY)])
     own.update(HOME=room, XDG_RUNTIME_DIR=room, LC_ALL="C.UTF-8", PATH=os.path.join(room, "bin") + os.pathsep + os.environ["PATH"], TERM="xterm")
@@ -48,7 +49,8 @@ def at_home(room: str, editor: str) -> dict[str, str]:
 
 
 def put_between(room: str) -> str:
-    """Has `ob0 serve` start what holds answers between the editor at home in this room and the server; gives the program's path."""
+    """Puts tests/lib/holding.py, which can delay answers, between the editor in this folder and the server. Returns the
+    path of the program that the editor then starts."""
     return watched.put_program(room, [sys.executable, holding.__file__, room, os.path.abspath(harness.BINARY)])
 
 
@@ -59,8 +61,8 @@ def write(path: str, text: str) -> None:
 
 
 def copy(source: str, target: str, *ignored: str) -> None:
-    """Copies a file, or a folder without the names that these patterns match. Everybody can read the copy, whatever the modes
-    of the source are: a clone that was made under umask 077 has other modes."""
+    """Copies a file, or a folder without the names that match these patterns. The copy is readable by everybody, even
+    if the source was cloned with umask 077."""
     if os.path.isdir(source):
         shutil.copytree(source, target, ignore=shutil.ignore_patterns("__pycache__", *ignored), dirs_exist_ok=True)
     else:
@@ -69,7 +71,7 @@ def copy(source: str, target: str, *ignored: str) -> None:
 
 
 def open_up(path: str) -> None:
-    """Sets the modes of a file, or of a folder and everything in it, to those of a clone under umask 022."""
+    """Gives a file, or a folder and everything in it, the permissions of a clone with umask 022."""
     for at in [path, *(os.path.join(at, it) for at, folders, files in os.walk(path) for it in folders + files)]:
         mode = os.lstat(at).st_mode
         if not stat.S_ISLNK(mode):
@@ -77,13 +79,15 @@ def open_up(path: str) -> None:
 
 
 def as_another() -> list[str]:
-    """Words before a command that must not run as root: root becomes another user by them, and for other users there are none."""
+    """Returns words to put before a command that refuses to run as root: they switch to another user. Returns an empty
+    list if the user isn't root."""
     harness.want("another user")
     return [sys.executable, "-c", f"{editors.BECOME}; os.execvp(sys.argv[1], sys.argv[1:])"] if os.geteuid() == 0 else []
 
 
 def run_plainly(words: list[str], own: dict[str, str], cwd: str) -> tuple[int, str]:
-    """Runs a program without a terminal: its status, and what it said. What it has started ends with it."""
+    """Runs a program without a terminal. Returns its exit status and its output. Its child processes are killed when it
+    ends."""
     how: dict[str, Any] = {"stdin": subprocess.DEVNULL, "stdout": subprocess.PIPE, "stderr": subprocess.STDOUT, "cwd": cwd, "env": own}
     with subprocess.Popen(words, start_new_session=True, **how) as process:
         try:
@@ -97,7 +101,7 @@ def run_plainly(words: list[str], own: dict[str, str], cwd: str) -> tuple[int, s
 
 
 def run_in_terminal(words: list[str], own: dict[str, str], cwd: str) -> tuple[int, str]:
-    """Runs an editor that wants a terminal, and gives its status and what it drew."""
+    """Runs an editor in a terminal until it ends. Returns its exit status and the bytes that it drew."""
     with Screen(words, own, cwd) as screen:
         status = screen.ends(words[0], SECONDS)
         return status, screen.drawn.decode(errors="replace")

@@ -1,6 +1,6 @@
-"""Editors in a terminal, each set up by its page and driven by keys as its user presses them, with tests/lib/holding.py between
-editor and server. Keys don't wait for one another: an editor takes them in order, and that it has taken them is seen by a file
-which it writes."""
+"""Editors in a terminal, each set up according to its page and driven by keystrokes, with tests/lib/holding.py between
+the editor and the server. Keys are sent without waiting. An editor handles them in order, and writes a file when it has
+handled them."""
 from __future__ import annotations
 
 import os
@@ -24,7 +24,7 @@ K = TypeVar("K", bound="Keyed")
 
 
 class Keyed:
-    """An editor on a file with a text, in a separate folder."""
+    """An editor that shows a file in a separate folder, and is driven by keystrokes."""
 
     page = ""  # the folder of its page
     asks: Dict[str, Tuple[str, str, bool]] = {}  # for each edit: the keys, the method, and whether the editor accepts no other key until the answer arrives
@@ -55,32 +55,33 @@ class Keyed:
         self.screen.__exit__(*why)
 
     def settings(self) -> dict[str, str]:
-        """The files of its settings, by their paths in its home."""
+        """Returns the editor's settings files: their contents by their paths in its home directory."""
         raise NotImplementedError
 
     def words(self) -> list[str]:
-        """The words that it is started by."""
+        """Returns the command that starts the editor."""
         raise NotImplementedError
 
     def going(self, line: int, character: int) -> str:
-        """The keys that go to a place, counted from 0, in a line of ASCII."""
+        """Returns the keys that move the cursor to a position, counted from 0, in a line of ASCII."""
         raise NotImplementedError
 
     def reopening(self) -> str:
-        """The keys that close the file, without saving, and open it again."""
+        """Returns the keys that close the file without saving it, and open it again."""
         raise NotImplementedError
 
     def writing(self, path: str, comes_last: bool) -> str:
-        """The keys that make it write its text to a path. If `comes_last`, it first waits for a server, and until everything that
-        the server has sent is handled."""
+        """Returns the keys that make the editor write its text to a path. If `comes_last`, the editor first waits until
+        a server is running and all of its messages are handled."""
         raise NotImplementedError
 
     def change(self, chance: random.Random) -> str:
-        """The keys of a change by chance."""
+        """Returns the keys of a random change."""
         raise NotImplementedError
 
     def waits(self, holds: Callable[[], object], seconds: float = SECONDS) -> bool:
-        """Returns whether something holds in time; what the editor draws is read meanwhile."""
+        """Waits until `holds` returns a true value, and returns True. Returns False if the time runs out. Meanwhile it
+        reads what the editor draws."""
         end = time.monotonic() + seconds
         while not holds():
             if time.monotonic() > end:
@@ -96,7 +97,8 @@ class Keyed:
         self.screen.keys(typed.encode())
 
     def asked_for_text(self, comes_last: bool = False) -> Callable[[], str | None]:
-        """Makes it write its text, and returns a function that returns the text, or None before it is written."""
+        """Makes the editor write its text to a file. Returns a function that returns the text, or None while the file
+        doesn't exist."""
         self.count += 1
         path = os.path.join(self.folder, f"text{self.count}")
         self.keys(self.writing(path, comes_last))
@@ -110,7 +112,7 @@ class Keyed:
         return text
 
     def reports(self, text: str) -> None:
-        """Waits until the server has this text of the file."""
+        """Waits until the editor has told the server this text of the file."""
         self.await_(f"the text that the server has: {text!r}", lambda: self.wire.text() == text)
 
     def text(self, comes_last: bool = False) -> str:
@@ -130,7 +132,7 @@ endfunction
 
 
 def vim_change(chance: random.Random, letters: str) -> str:
-    """The keys of a change in Vim, from normal mode to normal mode."""
+    """Returns the keys of a random change in Vim, which begins and ends in normal mode."""
     word = chance.choice(["x", "yy", "n := 1;", "\t", *letters, f"(* {letters} *)"])
     line = f":{chance.randint(1, 12)}\r"
     old, new = chance.choice(["n", "x", ";", letters[-1], "$"]), chance.choice(["nn", "", letters[-1], "\\r"])
@@ -281,7 +283,7 @@ EMACS_SETTINGS = """
 
 
 def emacs_change(chance: random.Random, letters: str) -> str:
-    """The keys of a change in Emacs. (An error would throw away the keys after it.)"""
+    """Returns the keys of a random change in Emacs. (An error in a command would discard the keys after it.)"""
     word = chance.choice(["x", "yy", "n := 1;", *letters, f"(* {letters} *)"])
     place = f"\x1b:(go {chance.randint(0, 11)} {chance.choice([0, 0, 3, 99])})\r"
     old, new = chance.choice(["n", "x", ";", letters[-1]]), chance.choice(["nn", "", letters[-1], "x"])

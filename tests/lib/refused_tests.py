@@ -1,5 +1,5 @@
-"""Runs the tests of the crates whose names begin with `a_refused_`, and makes each of their allocations fail, one at a time.
-Their programs are the ones that `rt ci` and `rt test` leave in crates/NAME/out."""
+"""Runs the tests of the crates whose names begin with `a_refused_`, and makes each of their allocations fail, one at a
+time. The programs that contain these tests are the ones that `rt ci` and `rt test` leave in crates/NAME/out."""
 from __future__ import annotations
 
 import functools
@@ -15,7 +15,7 @@ CRATES = ("ob0_tests_low", "ob0_tests_language", "ob0_tests_session", "ob0_tests
 
 
 def program_of(crate: str) -> str:
-    """The program of a crate's tests; without it the test is left out."""
+    """Returns the path of the program that contains a crate's tests. Skips this test if it doesn't exist."""
     need_program()  # (`make test` makes both)
     program = os.path.join(TOP, "crates", crate, "out", f"{crate}_tests")
     if not os.access(program, os.X_OK):
@@ -24,14 +24,15 @@ def program_of(crate: str) -> str:
 
 
 def tests_of(crate: str) -> list[str]:
-    """The tests of a crate that are to be run so."""
+    """Returns the names of a crate's tests that begin with `a_refused_`."""
     ran = subprocess.run([program_of(crate), "--list"], stdout=subprocess.PIPE, check=True)
     names = [line.partition(": test")[0] for line in ran.stdout.decode().splitlines()]
     return [it for it in names if it.rpartition("::")[2].startswith("a_refused_")]
 
 
 def played(out: bytes) -> list[tuple[int, ...]]:
-    """Returns the numbers that a test prints after `played`, a line each time: the events that were made, and their results."""
+    """Returns the numbers on each line of a test's output that begins with `played`: the events that were made, and
+    their results."""
     lines = [it for it in out.decode().splitlines() if it.startswith("played ")]
     return [tuple(map(int, it.split()[1:])) for it in lines]
 
@@ -41,7 +42,8 @@ PLAYED, STEPPED = "world::a_refused_event_keeps_earlier_results", "world::a_refu
 
 
 def refusals(crate: str, test: str) -> list[list[tuple[int, ...]]]:
-    """Returns what a test prints while each of its allocations fails, one at a time, and at last while none fails."""
+    """Runs a test once for each of its allocations, and makes that allocation fail; then once without failures. Returns
+    the numbers that each run prints after `played`."""
     words = [program_of(crate), test]
     plain = failing.undisturbed(words)
     numbers = range(1, plain.calls["memory"] + 1)
@@ -51,8 +53,8 @@ def refusals(crate: str, test: str) -> list[list[tuple[int, ...]]]:
 
 
 def plays_exactly(crate: str) -> str:
-    """Compares the results of playing with the results of the same events made one by one, while the same allocation fails:
-    the numbers of events and the results are equal. Returns a line with figures."""
+    """Checks that playing events at once gives the same results as making them one by one, whichever allocation fails.
+    Returns a line of statistics."""
     ones, others = refusals(crate, PLAYED), refusals(crate, STEPPED)
     whole = others[-1]
     same(ones[-1], whole, "the results if nothing is refused")
@@ -63,8 +65,8 @@ def plays_exactly(crate: str) -> str:
 
 
 def walk(crate: str, test: str, most: int) -> str:
-    """Runs a test while one of its allocations fails: each of them, or of more than `most` each second, third and so on.
-    Returns a line with figures."""
+    """Runs a test once for each of its allocations, and makes that allocation fail. If there are more than `most`,
+    tries only every second, third and so on. Returns a line of statistics."""
     words = [program_of(crate), test]
     plain = failing.undisturbed(words)
     calls = plain.calls["memory"]
@@ -78,7 +80,8 @@ def walk(crate: str, test: str, most: int) -> str:
 
 
 def checks(crate: str, most: int) -> Iterator[tuple[str, Callable[[], str]]]:
-    """Yields what is done with a crate's tests: names, each with what does it."""
+    """Yields the checks of a crate's tests: a name, and a function that carries out the check and returns a line of
+    statistics."""
     found = tests_of(crate)
     for test in found:
         yield test, functools.partial(walk, crate, test, most)

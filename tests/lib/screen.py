@@ -1,4 +1,4 @@
-"""A program in a terminal, for the tests of editors and shells."""
+"""Runs a program in a terminal, for the tests of editors and shells."""
 from __future__ import annotations
 
 import contextlib
@@ -16,7 +16,7 @@ from harness import DRIVEN, Failed
 
 
 class Screen:
-    """A program in a terminal (of a size in lines and columns): keys go to it, and what it draws is waited for."""
+    """A program that runs in a terminal of a given size. Tests send keys to it and wait for its output."""
 
     def __init__(
         self, words: list[str], environment: dict[str, str], cwd: str, size: tuple[int, int] | None = None
@@ -41,7 +41,7 @@ class Screen:
         os.close(self.terminal)
 
     def read(self, seconds: float) -> bool:
-        """Reads everything that is drawn within some seconds, and returns False if the terminal is closed."""
+        """Waits at most this many seconds for output, and stores it. Returns False if the terminal is closed."""
         if select.select([self.terminal], [], [], seconds)[0]:
             try:
                 self.drawn += os.read(self.terminal, 1 << 16)
@@ -51,7 +51,7 @@ class Screen:
         return True
 
     def ends(self, what: str, seconds: float) -> int:
-        """Waits until the program ends, and returns its status."""
+        """Waits until the program ends, and returns its exit status. Fails if it doesn't end in time."""
         end = time.monotonic() + seconds
         # (its terminal can be closed before, and remains open if a program that it has started is still running)
         while not self.has_ended():
@@ -64,20 +64,20 @@ class Screen:
         return self.status
 
     def has_ended(self) -> bool:
-        """Returns whether the program has ended: then its status is known."""
+        """Returns whether the program has ended. If so, its exit status is stored."""
         if self.status is None and os.waitid(os.P_PID, self.process, os.WEXITED | os.WNOHANG | os.WNOWAIT):
             self.take_status()
         return self.status is not None
 
     def take_status(self) -> None:
-        """Takes the status of the program, which has ended or is about to, and ends what it has started."""
+        """Kills the program's child processes, waits for the program, and stores its exit status."""
         with contextlib.suppress(ProcessLookupError):
             os.killpg(self.process, signal.SIGKILL)
         ended = os.waitpid(self.process, 0)[1]
         self.status = os.WEXITSTATUS(ended) if os.WIFEXITED(ended) else -os.WTERMSIG(ended)
 
     def shows(self, pattern: bytes, what: str, seconds: float = 300) -> None:
-        """Waits until what was drawn since the last keys has this."""
+        """Waits until the output since the last keys matches this pattern. Fails if it doesn't in time."""
         end = time.monotonic() + seconds
         while not re.search(pattern, self.drawn):
             if time.monotonic() > end:

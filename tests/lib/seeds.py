@@ -1,6 +1,6 @@
-"""The numbers that random tests begin with: half of them are always the same, and the others are the commit's own.
-
-OB0_RANDOM is how many a test tries (300). With OB0_SEED they begin with this number: a failure names its own."""
+"""Chooses the seeds of random tests: half of them are always the same, and the others depend on the commit. OB0_RANDOM
+is the number of seeds that a test tries (300). If OB0_SEED is set, the seeds begin at that number: each failure prints
+its own."""
 from __future__ import annotations
 
 import functools
@@ -15,18 +15,18 @@ COUNT = int(os.environ.get("OB0_RANDOM", USUAL))
 
 @functools.lru_cache(None)
 def of_commit() -> int:
-    """A number made of the commit's hash; 0 outside a repository."""
+    """Returns a number computed from the hash of HEAD, or 0 outside a Git repository."""
     return int(common.commit()[:7], 16)
 
 
 def starts() -> List[int]:
-    """Returns the first numbers, beginning with the ones that are always the same."""
+    """Returns the seeds at which the sequences begin: OB0_SEED if it is set, otherwise 0 and the commit's number."""
     given = os.environ.get("OB0_SEED")
     return [int(given)] if given else [0, of_commit()]
 
 
 def seeds(count: int) -> List[int]:
-    """Returns so many numbers, and prints the first ones."""
+    """Returns at least `count` seeds, and prints the first ones."""
     found = starts()
     print(f"    seeds begin at {' and '.join(map(str, found))}", flush=True)
     size = -(-count // len(found))
@@ -34,5 +34,5 @@ def seeds(count: int) -> List[int]:
 
 
 def named(seed: int) -> str:
-    """Returns a number in the words of a failure."""
+    """Describes a seed for the message of a failure, with the command that tries it again."""
     return f"seed {seed} (OB0_SEED={seed} tries it again)"

@@ -1,4 +1,4 @@
-"""Shortens a random text on which a check fails."""
+"""Shortens a random text for which a check fails."""
 from __future__ import annotations
 
 import re
@@ -14,7 +14,8 @@ SHORT = 16  # lexemes: stretches of at most so many are tried at each place
 
 
 def shrunk(text: str, fails: Callable[[str], bool]) -> str:
-    """Returns a part of the text that also fails, and that passes if any short stretch of lexemes is removed. Long ones are tried first."""
+    """Removes lexemes from a text for as long as it still fails, and returns the rest. Long stretches are tried first.
+    If time doesn't run out, removing any short stretch of the rest would make it pass."""
     pieces, end = PIECE.findall(text), time.monotonic() + SECONDS
     before = len(pieces) + 1
     while len(pieces) < before and time.monotonic() < end:
@@ -32,7 +33,8 @@ def shrunk(text: str, fails: Callable[[str], bool]) -> str:
 
 
 def fail_shortly(text: str, check: Callable[[str], object]) -> None:
-    """Fails as a check fails on the shortest text that is found, which begins with this one. Returns if the check doesn't fail on it."""
+    """Raises the failure of a check, on the shortest part of the text for which it still fails. Returns if the check
+    passes."""
 
     def fails(shorter: str) -> bool:
         try:

@@ -1,4 +1,5 @@
-"""The code in the Markdown pages of this repository: what a page has its reader type is what the tests use."""
+"""Reads the code blocks of the repository's Markdown pages, so that the tests use exactly what readers are told to
+type."""
 from __future__ import annotations
 
 import os
@@ -10,11 +11,11 @@ FENCED = re.compile(r"^```(\w*)\n(.*?)^```$", re.M | re.S)
 
 
 def fenced(page: str) -> list[tuple[str, str]]:
-    """Pairs of a language and the lines in it, for each block of a page."""
+    """Returns the code blocks of a page, as pairs of a language and a text."""
     with open(os.path.join(TOP, page), encoding="utf-8") as file:
         return FENCED.findall(file.read())
 
 
 def snippets(editor: str, language: str) -> list[str]:
-    """The blocks of an editor's page in a language."""
+    """Returns the code blocks of an editor's page that are in this language."""
     return [text for name, text in fenced(os.path.join("editors", editor, "README.md")) if name == language]

@@ -1,5 +1,5 @@
-"""Editors watched by ob0-watch: the program that starts their server through it, and its reports. If the variable OB0_REPORTS is a
-folder, the reports are kept there, by the editors."""
+"""Watches editors with ob0-watch: makes the program that starts their server through it, and reads its reports. If the
+variable OB0_REPORTS is a folder, the reports are also kept there, grouped by editor."""
 from __future__ import annotations
 
 import contextlib
@@ -23,7 +23,7 @@ SECONDS = 300  # the longest that a report is waited for, once its editor has en
 
 
 def load() -> Any:
-    """The script as a module."""
+    """Loads the script ob0-watch as a module, and returns it."""
     loader = importlib.machinery.SourceFileLoader("ob0_watch", SCRIPT)
     spec = importlib.util.spec_from_loader("ob0_watch", loader)
     assert spec
@@ -33,8 +33,9 @@ def load() -> Any:
 
 
 def put_program(room: str, server: list[str]) -> str:
-    """Makes bin/ob0 in a room: `ob0 serve` starts this server, watched, and any other command is the program's. The
-    scripts that editors call are next to it. Returns its path."""
+    """Creates bin/ob0 in a folder, and returns its path. `ob0 serve` starts `server` under ob0-watch; any other command
+    goes to the real program. The scripts that editors call are put next to it; servers that they start aren't
+    watched."""
     program = os.path.join(room, "bin", "ob0")
     os.makedirs(os.path.join(room, "bin"), exist_ok=True)
     report = f"{shlex.quote(os.path.join(room, 'watched'))}/$$"
@@ -46,15 +47,17 @@ def put_program(room: str, server: list[str]) -> str:
         file.write(f"#!/bin/sh\n{watches}")
         file.write(f'exec {shlex.quote(os.path.abspath(harness.BINARY))} "$@"\n')
     os.chmod(program, 0o755)
+    beside = shlex.quote(os.path.dirname(os.path.abspath(harness.BINARY)))
     for name in ("ob0-check", "ob0-format"):
         script = os.path.join(room, "bin", name)
-        if not os.path.exists(script):
-            os.symlink(os.path.join(TOP, "share", name), script)
+        with open(script, "w", encoding="utf-8") as file:
+            file.write(f'#!/bin/sh\nPATH={beside}:$PATH exec {shlex.quote(os.path.join(TOP, "share", name))} "$@"\n')
+        os.chmod(script, 0o755)
     return program
 
 
 class Count(NamedTuple):
-    """The number of messages judged by a rule, and the findings."""
+    """How many messages were judged by a rule, and how many findings of each kind there were."""
 
     watched: int
     broken: int
@@ -70,7 +73,7 @@ class Report(NamedTuple):
 
 
 def complete(path: str) -> str:
-    """A report, once it is complete."""
+    """Waits until a report is complete, and returns it."""
     end = time.monotonic() + SECONDS
     text = ""
     while time.monotonic() < end:
@@ -83,7 +86,7 @@ def complete(path: str) -> str:
 
 
 def reports(room: str) -> list[Report]:
-    """The reports in a room, each once it is complete."""
+    """Waits until all reports in a folder are complete, and returns them."""
     found = []
     for path in sorted(glob.glob(os.path.join(glob.escape(room), "watched", "*[0-9]"))):
         text = complete(path)
@@ -93,7 +96,8 @@ def reports(room: str) -> list[Report]:
 
 
 def expect(room: str) -> None:
-    """Holds the editors of a room to the rules: they break the rules of the file `breaks`, if it exists, and no others."""
+    """Fails unless the editors in a folder kept all rules, except the ones listed in the file `breaks`, which they must
+    break."""
     breaks: set[str] = set()
     if os.path.exists(os.path.join(room, "breaks")):
         with open(os.path.join(room, "breaks"), encoding="utf-8") as file:
