@@ -571,9 +571,12 @@ def robust() -> None:
         holds(err.startswith(b"ob0-watch: the report can't be written: "), str(err))
 
 
-def reports(*folder: str) -> int:
-    """How many reports this folder has, without the drafts that judges may still be writing."""
-    return sum(not name.endswith(".new") for name in os.listdir(os.path.join(*folder)))
+def wait_for_reports(count: int, *folder: str) -> None:
+    """Waits until a folder contains this many reports and no draft, because a judge may write its report after
+    ob0-watch has ended."""
+    there = os.path.join(*folder)
+    names: Callable[[], List[str]] = lambda: os.listdir(there) if os.path.isdir(there) else []
+    harness.wait_until(lambda: [it.endswith(".new") for it in names()] == [False] * count, f"{count} reports in {there}", 20)
 
 
 @test("watch: bad command lines are refused, reports go to the state folder, and other commands of ob0 aren't watched")
@@ -593,9 +596,9 @@ def command_line() -> None:
         lines: List[List[str]] = [[], ["serve"], ["serve", "--stdio"], ["--", "ob0", "serve"]]
         for words in lines:
             same(ran(*words, given=INPUT), (0, OUTPUT), f"ob0-watch {words}")
-        same(reports(room, ".local", "state", "ob0"), 4, "the reports")
+        wait_for_reports(4, room, ".local", "state", "ob0")
         same(ran(given=INPUT, XDG_STATE_HOME=os.path.join(room, "state")), (0, OUTPUT))
-        same(reports(room, "state", "ob0"), 1, "the report")
+        wait_for_reports(1, room, "state", "ob0")
         same(ran("check", "m.mod"), (1, b"0:10: BadChar: bad character\n"), "ob0-watch check")
         status, out = ran("--help")
         long_lines = [it for it in out.decode().splitlines() if len(it) > 80]
