@@ -36,8 +36,8 @@ ROOMS = os.path.join(TOP, "bin", "rooms")
 # The last parts of the names of modules that rattle makes from a function's body or its proof. No crate above can name
 # these. (A program and the tests also see TheLink and the code that they reach; the gate checks that.)
 OF_BODIES = frozenset({"Code", "Mir", "Layout", "Lts", "View", "Given", "Goals", "Named", "Proof", "Tie", "TheLink"})
-# The beginning of each line that the checker writes at the head of a kept module, and the number of bytes that contain
-# the sum over the module's statements.
+# The beginning of each line in the header that the checker writes into a kept module; and how many bytes to read of a
+# module to find the checksum of its statements.
 HEAD, CONTENT = b"--@ ", 2048
 
 
@@ -151,7 +151,7 @@ class Sums:
 
 def marks(names: list[str]) -> list[tuple[str, int, int]]:
     """Returns the modification times and sizes of the sources of these crates. If they differ after a proof, somebody
-    edited the sources meanwhile."""
+    edited the sources while it ran."""
     stats = [(it, os.stat(it)) for it in common.sources(names)]
     return [(it, found.st_mtime_ns, found.st_size) for it, found in stats]
 
@@ -170,7 +170,7 @@ class Shown(NamedTuple):
 
     @classmethod
     def by(cls, name: str) -> Shown | None:
-        """Reads a crate's built library. Returns None if it doesn't exist or can't be read."""
+        """Reads the checksums of a crate's built library. Returns None if it doesn't exist or can't be read."""
         library = library_of(name)
         files = []
         for part in ("interface", "below"):
@@ -182,7 +182,7 @@ class Shown(NamedTuple):
             made = os.path.join(library, "toolchain", "checked")
             with open(f"{made}.json", encoding="utf-8") as rows, open(f"{made}.a", "rb") as modules:
                 for module, start, length in map(json.loads, rows):
-                    if crate_of(module):  # (the last row is of a sum over all)
+                    if crate_of(module):  # (the last row is a checksum over all modules)
                         modules.seek(start)
                         head = modules.read(min(length, CONTENT)).splitlines()
                         contents[module] = " ".join(said_at_head(head, "content"))
@@ -192,8 +192,8 @@ class Shown(NamedTuple):
 
 
 def said_at_head(lines: Iterable[bytes], word: str) -> list[str]:
-    """Returns the texts that follow this word in the header of a kept module. Reads no further than the line after the
-    header."""
+    """Returns the texts after this word in the header lines of a kept module. Reads no lines after the header except
+    the first."""
     found, begin = [], HEAD + word.encode() + b" "
     for line in lines:
         if not line.startswith(HEAD):
@@ -311,7 +311,7 @@ class Work:
             self.process = subprocess.Popen(words, preexec_fn=os.setpgrp, stderr=subprocess.STDOUT, **how)
 
     def furnish(self, named: dict[str, list[str]]) -> None:
-        """Creates the folder, and moves the work that was kept of the crate's own proofs there."""
+        """Creates the folder in which the crate is proved, and moves the crate's kept proofs there."""
         furnish(self.room, self.name, named)
         if os.path.isdir(self.out):
             os.rename(self.out, self.moved)
@@ -350,7 +350,7 @@ class Work:
         return "\n".join(it for it in said.split("\n") if re.search(r": error\b|\berror\[|it is not proved", it)) or said[-4000:]
 
     def at(self) -> str:
-        """Returns the progress that the check last printed, or "" if it has printed none."""
+        """Returns the progress that the check last printed, or "" if it hasn't printed any."""
         found = re.findall(r"^so far: (\d+ of \d+ functions) checked", self.said(), re.M)
         return f", {found[-1]} checked" if found else ""
 
@@ -363,7 +363,7 @@ def end_all(running: dict[str, Work]) -> None:
 def main(words: list[str]) -> int:
     """Proves the crates, and builds the program unless `--check` is given. Returns the exit status."""
     is_check = "--check" in words
-    # (a program that is up to date needs no toolchain)
+    # (if the program is up to date, no toolchain is needed)
     if not is_check and common.is_current():
         print("bin/ob0 is up to date", flush=True)
         if common.kit():
@@ -398,8 +398,8 @@ def carry_out(plan: Plan) -> int:
 
 
 class Plan:
-    """Which crates are done and which are left: crates to prove, and libraries to build again because another crate
-    needs them. An exact plan builds every library again that isn't made from the present sources."""
+    """Which crates are done and which are left. Crates are left to be proved, or have a library to be built again
+    because another crate needs it. An exact plan rebuilds every library that isn't made from the present sources."""
 
     def __init__(self, is_check: bool, tops: Iterable[str] = (), is_exact: bool = False) -> None:
         self.named, self.is_check, self.is_exact, self.timer = common.libraries(), is_check, is_exact, common.Timer()
@@ -475,7 +475,7 @@ def prove_all(running: dict[str, Work], plan: Plan, came: list[int]) -> int:
     ready, most, shown_at = plan.ready(running), lanes(), time.monotonic()
     plan.say(f"{len(plan.done)} of {len(plan.all)} crates are up to date")
     while not plan.is_done:
-        # (a check with more jobs takes more of the processors in all, so it gets only those that nobody else needs)
+        # (a check with more jobs takes more processor time in all, so it only gets idle processors)
         jobs = max(1, processors() // max(1, min(most, len(ready) + len(running))))
         for name in ready:
             if len(running) < most:

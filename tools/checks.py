@@ -16,7 +16,7 @@ from edits import Edit
 
 VERDICT = re.compile(r"^(?:fn|impl|struct|enum|trait|const|static) (\S+): (proved|not proved.*|no proof.*)", re.M)
 ERROR = re.compile(r"(?:\./)?((?:src|specs|proofs)/\S+?):(\d+):\d+: error(?:\[[\w-]+\])?: (?:(`[^`]*`): )?(.*)")
-# (the beginning of a reason that is about another function)
+# (the beginning of a reason that concerns another function)
 OF_ANOTHER = r"(?:it calls |it passes |a call of |it is in a cycle of calls with )"
 # (an error that stops the reading of a text, so no contract was tried)
 UNREAD = re.compile(r"is not in scope|has no field|is no name|operand is missing|expected the end|cannot continue")
@@ -59,7 +59,8 @@ class Said:
         return said.startswith("not proved")
 
     def waits(self, symbol: str) -> bool:
-        """Returns whether a function calls one that isn't proved. If so, some of its goals may not have been tried."""
+        """Returns whether a function calls one that isn't proved, so that some goals of the function may not have been
+        tried."""
         return bool(re.search(f"[:;] {OF_ANOTHER}", self.verdicts[symbol]))
 
     def goals(self, symbol: str) -> list[str]:
@@ -149,7 +150,7 @@ class Libraries:
 
     def words(self, crate: str, only: Iterable[str]) -> Optional[list[str]]:
         """Returns the command that checks these functions of a crate, or the whole crate if `only` is empty. Returns
-        None if a library that it needs is missing."""
+        None if a required library is missing."""
         lines = common.listed()
         below = [it for it in common.below(crate) if it != crate]
         if not all(os.path.isdir(self.place(it)) for it in below):

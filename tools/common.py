@@ -22,7 +22,7 @@ TOP = os.path.dirname(os.path.dirname(os.path.abspath(__file__)))
 BINARY = os.path.join(TOP, "bin", "ob0")
 STAMP = BINARY + ".stamp"
 
-# the signals that end a script: of Ctrl-C, a cancelled job and a closed terminal
+# the signals that end a script: sent by Ctrl-C, by a cancelled job, and when a terminal closes
 ENDING = (signal.SIGINT, signal.SIGTERM, signal.SIGHUP)
 HELD: list[IO[str]] = []  # the lock of this checkout, while this script holds it
 LONGEST_TEMPORARY = 50  # bytes: a socket in a folder below it has a path of at most 107
@@ -82,8 +82,8 @@ def choose_temporary() -> None:
 
 @contextlib.contextmanager
 def one_at_a_time() -> Iterator[None]:
-    """Holds this checkout's lock, because `make build`, `check`, `test` and `wrong-bodies` move the kept work of crates
-    and remove bin/rooms. Another script waits for the lock; a script that holds it may enter again."""
+    """Holds this checkout's lock during a `with` block, because `make build`, `check`, `test` and `wrong-bodies` move
+    the kept work of crates and remove bin/rooms. Other scripts wait for the lock; the same script may enter again."""
     if HELD:
         yield
         return
@@ -103,8 +103,8 @@ def one_at_a_time() -> Iterator[None]:
 
 @contextlib.contextmanager
 def ended_by_signals(where: Callable[[], str]) -> Iterator[None]:
-    """If Ctrl-C, a cancelled job or a closed terminal ends this script, also ends all processes that it started. Prints
-    the script's progress, which `where` returns. (A signal that `nohup` ignores has no effect.)"""
+    """Makes Ctrl-C, a cancelled job or a closed terminal end all processes that this script started, and then the
+    script. Also prints the script's progress, which `where` returns. (A signal that `nohup` ignores has no effect.)"""
 
     def end(number: int, _: object) -> None:
         for it in ENDING:
@@ -224,7 +224,7 @@ def kit() -> str | None:
 def commit() -> str:
     """Returns the hash of HEAD, even if another user owns the repository. Returns "0" outside a Git repository, or if
     git isn't installed."""
-    # (a hook of git that starts this has another repository in its variables)
+    # (if a git hook starts this script, git's variables can point to another repository)
     own = {name: value for name, value in os.environ.items() if not name.startswith("GIT_")}
     words = ["git", "-c", f"safe.directory={TOP}", "-C", TOP, "rev-parse", "HEAD"]
     how: dict[str, Any] = {"stdin": subprocess.DEVNULL, "stdout": subprocess.PIPE, "stderr": subprocess.DEVNULL, "env": own}
@@ -235,8 +235,8 @@ def commit() -> str:
 
 
 def stamp() -> dict[str, str]:
-    """Returns the content of bin/ob0.stamp: the toolchain that proved bin/ob0, checksums of its sources and of the
-    program, and the last line of `make test` if that has tested the program."""
+    """Reads bin/ob0.stamp: the toolchain that proved bin/ob0, checksums of its sources and of the program, and the last
+    line of `make test` if that has tested the program."""
     try:
         with open(STAMP, encoding="utf-8") as file:
             return dict(line.rstrip("\n").split(" ", 1) for line in file if " " in line)

@@ -16,7 +16,7 @@ from typing import Dict, Iterator, List, NamedTuple
 
 import common
 
-# Between two checks nothing is written: no module takes longer than this without a file.
+# If no file was written for longer than this, the next file belongs to another check.
 PAUSE = 120.0
 # (what rattle makes for a function, by the last part of its module's name; all else of it is 'other modules')
 OF_FUNCTIONS = ("Lts", "Proof", "Tie", "Answers", "Invariants")
@@ -66,7 +66,7 @@ def modules_of(crate: str) -> List[Module]:
 
 
 def lemmas_of(crate: str) -> List[str]:
-    """Returns the names of the files of lemmas that are directly in a crate's proofs/."""
+    """Returns the names of the files of lemmas that are directly in the folder proofs/ of a crate."""
     return [os.path.basename(it)[: -len(".antt")] for it in glob.glob(os.path.join(common.TOP, "crates", crate, "proofs", "*.antt"))]
 
 

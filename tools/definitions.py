@@ -21,7 +21,7 @@ OPERATOR = re.compile(r"[^\w\s(){}\[\];,.\"◌]+")
 # ---- sources
 
 
-Used = Tuple[str, Optional[str]]  # a module, and a name of it; or the module itself, by an alias
+Used = Tuple[str, Optional[str]]  # a module and one of its names, or None for the whole module
 
 
 def lines_of(path: str) -> list[str]:
@@ -30,7 +30,7 @@ def lines_of(path: str) -> list[str]:
 
 
 class Block:
-    """One definition, or several mutually recursive ones, with the comment above."""
+    """A definition, or several mutually recursive definitions, with the comment above."""
 
     def __init__(self, file: File, comment: list[str], code: list[str]) -> None:
         self.file, self.comment, self.code = file, comment, code
@@ -60,7 +60,7 @@ def names_in(code: list[str]) -> Iterator[str]:
 
 
 class File:
-    """A file of definitions: its blocks, and the names that its `use` lines import."""
+    """A file of definitions: its blocks, and the names that its `use` lines import or export."""
 
     def __init__(self, crate: str, name: str, path: str) -> None:
         self.crate, self.name = crate, name
@@ -100,7 +100,7 @@ class File:
                 block = Block(self, comment, code)
                 before = self.blocks[-1] if self.blocks else None
                 if before and (not block.names or block.names[0] in before.names):
-                    # (a comment stands between its equations)
+                    # (a comment between the equations of a definition doesn't end it)
                     before.code += comment + code
                 else:
                     self.blocks.append(block)

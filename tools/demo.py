@@ -136,7 +136,7 @@ def lines_of(value: Any) -> list[str]:
 
 
 def show(arrow: str, what: str, message: Message, parts: list[str]) -> None:
-    """Prints a message: its header, and the first of the members `parts` that it has."""
+    """Prints a message: its direction and description, its length, and the first of the members `parts` that exists."""
     print(f"\n{arrow} {what}")
     print(f"    Content-Length: {len(json.dumps(message, separators=(',', ':'), ensure_ascii=False).encode())}")
     value: Any = next((message[it] for it in parts if it in message), ())

@@ -71,8 +71,8 @@ def another_user() -> bool:
 
 PATHOGEN = "/usr/share/vim-pathogen/autoload/pathogen.vim"  # a plugin manager of Vim
 
-# Each table has the names of tools: how to see that one is here, and the package of Debian that has it (none: Debian 12 has none).
-# Editors, which tests drive: `make test` leaves a test out if one that it drives is missing.
+# Each table maps the name of a tool to a check whether it is installed, and to its Debian package ("" if Debian 12 has
+# none). Editors, which tests drive: `make test` leaves a test out if one that it drives is missing.
 EDITORS = {
     "Neovim": (here("nvim"), "neovim"),
     "Emacs": (here("emacs"), "emacs-nox"),
@@ -104,7 +104,7 @@ DESKTOP = {
     "dpkg": (here("dpkg-deb"), "dpkg"),
     "apt-get": (here("apt-get"), "apt"),
     "root": (lambda: os.geteuid() == 0, ""),  # (dpkg unpacks for root only, and only root has files of two users)
-    "another user": (another_user, ""),  # (for whom root's permissions don't hold)
+    "another user": (another_user, ""),  # (without root's permissions)
     "Python 3.11": (lambda: sys.version_info >= (3, 11), ""),  # (the first that reads TOML)
     "lintian": (here("lintian"), "lintian"),
     "man": (here("man"), "man-db"),
@@ -156,7 +156,7 @@ def install(packages: list[str], end: float) -> str | None:
     environment = {**os.environ, "DEBIAN_FRONTEND": "noninteractive"}
     how: dict[str, Any] = {"stdin": subprocess.DEVNULL, "stdout": subprocess.PIPE, "stderr": subprocess.STDOUT, "env": environment}
     try:
-        # (another one that installs is waited for)
+        # (waits for another program that is installing packages)
         words += ["apt-get", "-o", "DPkg::Lock::Timeout=600", *packages]
         ran = subprocess.run(words, timeout=max(1, end - time.monotonic()), check=False, **how)
     except (OSError, subprocess.TimeoutExpired) as why:
@@ -171,7 +171,7 @@ def install_all(packages: list[str]) -> None:
     if why:
         print(f"apt-get update failed: {why}", flush=True)
     if install([*plainly, *packages], end):
-        # (one that can't be had keeps no other one out)
+        # (each package separately, so that a missing one doesn't prevent the others)
         for package in packages:
             why = install([*plainly, package], end) if time.monotonic() < end else f"{LONGEST} seconds are over"
             if why:

@@ -25,7 +25,7 @@ EDITORS = ["neovim", "vim-nox", "vim-ale", "vim-youcompleteme", "emacs-nox", "el
 MORE = ["hx", "tree-sitter-cli", "node-typescript", "node-semver", "node-minimatch", "node-vscode-languageserver-protocol"]
 CLIENT = "/usr/local/lib/node_modules/vscode-languageclient"
 
-# (only this command's name space has the mounts; a mirror's release file may be an old one)
+# (the mounts exist only in this command's name space; a mirror's release file may be expired)
 ENTER = """room=$1; top=$2; shift 2
 mount -t proc proc "$room/proc"
 mount --rbind /dev "$room/dev"

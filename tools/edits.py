@@ -16,7 +16,7 @@ import reading
 Lines = Dict[Tuple[str, int], str]  # the lines that an edit changes, by path and number
 OF_KIT, OTHERS = "must-fail", "wrong-bodies"
 PLACES = (OF_KIT, OTHERS)
-RIGHT_LINE, RIGHT = "# right:", ":right"  # how the line of a right text begins, and how the path of a right form ends
+RIGHT_LINE, RIGHT = "# right:", ":right"  # before a correct text; and the end of a correct variant's path
 LOOPS = r"\b(?:for|while|loop)\b"
 # The forms that add goals without written answers.
 FORMS = {
@@ -30,8 +30,8 @@ FIRST_LINE = re.compile(rf"# (?:.*: r|R)efused by ({CLAUSES}) of `([\w:]+)`")
 
 
 class Claim(NamedTuple):
-    """The claim of a mutant's first line: which function is refused, and which clauses refuse it. Clauses without a
-    name are called 'the clause', 'the loop', 'the one goal' (which several clauses share) and 'the invariant' (of a
+    """The claim of a mutant's first line: the function that is refused, and the clauses that refuse it. Clauses without
+    a name are called 'the clause', 'the loop', 'the one goal' (shared by several clauses) and 'the invariant' (of a
     type)."""
 
     function: str
@@ -90,8 +90,8 @@ def claim_of(text: str) -> Optional[Claim]:
 
 
 class Pair(NamedTuple):
-    """One replacement of a mutant: the file, the old text, the new text, and the correct text that is written like the
-    new one (None if the mutant gives none)."""
+    """One replacement of a mutant: the file, the old text, the new text, and the correct text, or None if the mutant
+    gives none."""
 
     path: str
     old: str
@@ -101,7 +101,7 @@ class Pair(NamedTuple):
 
 class Edit:
     """A mutant, or with `is_right` its correct variant: the lines that it changes, the functions on these lines, and
-    the claim of its first line. If it can't be applied, `why` says so."""
+    the claim of its first line. `why` contains an error message if the mutant can't be applied."""
 
     def __init__(self, crate: str, place: str, name: str, is_right: bool = False) -> None:
         self.crate, self.name, self.is_right = crate, f"{place}/{name}", is_right
@@ -165,8 +165,8 @@ def added(pairs: Iterable[Pair], pattern: str, of_right: bool = False) -> int:
 
 
 def why_no_right_form(pairs: Iterable[Pair]) -> Optional[str]:
-    """Returns why the correct texts don't have the same constructs (branches, returns, closures) as the new ones, so
-    that they show nothing. Returns None if they have them."""
+    """Returns why the correct texts show nothing: they don't contain as many branches, returns and closures as the new
+    texts. Returns None if they do."""
     pairs = list(pairs)
     rights = [it.new if it.right is None else it.right for it in pairs]
     if all(right.split() == it.old.split() for right, it in zip(rights, pairs)):

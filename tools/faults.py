@@ -44,7 +44,7 @@ import test_editors  # noqa: E402
 
 COUNTS = {"OB0_WALK": 10000, "OB0_LONG": 100000, "OB0_TEXTS": 20000, "OB0_CHANGES": 20000, "OB0_RUNS": 20000}
 WALK, LONG, TEXTS, CHANGES, RUNS = (int(os.environ.get(name, count)) for name, count in COUNTS.items())
-KEYED_CHANGES = 200  # in each editor and kind of file
+KEYED_CHANGES = 200  # the number of changes by keys, in each editor and kind of file
 SEED = int(os.environ.get("OB0_SEED", "0"))
 
 
@@ -67,12 +67,12 @@ def checks_of(crate: str) -> list[tuple[str, Callable[[], str]]]:
 
 
 def all_of_it() -> Iterator[tuple[str, Callable[[], str]]]:
-    """Names, and what is done under each: it gives a line with figures."""
+    """Yields all cases, each as a name and a function that runs the case and returns a line with its figures."""
     for key in (*conversations.SHORT, *conversations.LONG):
         yield f"refused memory: {key}", functools.partial(walked, key)
     for crate in refused_tests.CRATES:
         for name, does in checks_of(crate):
-            # (the last compares the runs of two of the others)
+            # (the last case compares the runs of two others)
             yield f"refused memory, {crate}{'' if '::' in name else ', compared'}: {name}", does
     yield "devices: each read and each write fails", functools.partial(on_devices, failing.broken)
     yield "devices: each read and each write moves one byte", functools.partial(on_devices, failing.shortened)
@@ -86,7 +86,8 @@ def all_of_it() -> Iterator[tuple[str, Callable[[], str]]]:
 
 
 def keep(lines: dict[str, str]) -> None:
-    """Keeps the figures of each case that has a line, and of all cases with the same words before the colon if each has one."""
+    """Writes the figures of the cases in `lines` to tools/figures.txt. A row there that stands for a group of cases
+    (the words before the colon) is only written if every case of the group has a line."""
     kinds: dict[str, list[str]] = {}
     for name, _ in all_of_it():
         for kind in {name, name.partition(": ")[0]}:

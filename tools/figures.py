@@ -1,6 +1,7 @@
-"""The figures of docs/ROBUSTNESS.md that a tool counts, in tools/figures.txt. A line for each case has its name and what its last run
-came to: phrases of the page, and then in parentheses what the page leaves out. tools/faults.py and bench/run.py write those lines that
-the list has, if they ran the proved program. `(not run again)` marks figures that the page had before there was a list."""
+"""Reads and writes tools/figures.txt, the figures of docs/ROBUSTNESS.md that a tool counts. Each line contains the name
+of a case and the results of its last run: phrases of the page, followed by more figures in parentheses that aren't on
+the page. tools/faults.py and bench/run.py rewrite existing lines after they ran the proved program. `(not run again)`
+marks figures that are older than the list."""
 from __future__ import annotations
 
 import functools
@@ -47,13 +48,13 @@ def keep(found: dict[str, str], program: str) -> None:
 
 
 def has(text: str, phrase: str) -> bool:
-    """Returns whether a phrase is in a text, and its first number isn't the end of another."""
+    """Returns whether a text contains a phrase that isn't preceded or followed by more digits of a number."""
     return phrase in text and bool(re.search(rf"(?<![\d.,]){re.escape(phrase)}(?!\d|[.,]\d)", text))
 
 
 @functools.lru_cache(8)
 def tables(page: str) -> list[tuple[list[str], str]]:
-    """Returns the rows of a page's tables, each with the heads of its columns."""
+    """Returns the rows of a page's tables, each with the heads of its table's columns."""
     heads: list[str] = []
     found: list[tuple[list[str], str]] = []
     for line in page.split("\n"):
@@ -79,7 +80,7 @@ def has_row(page: str, words: str, phrase: str) -> bool:
 
 
 def not_on_page(page: str) -> list[str]:
-    """Returns the lines of the list whose phrases are in no row of the page."""
+    """Returns the lines of the list for which no row of the page's tables contains all phrases."""
     return [f"{name}{EQUALS}{phrases}" for name, phrases in rows().items() if not rows_of(page, phrases)]
 
 

@@ -1,4 +1,4 @@
-"""Which glibc a program needs, by the versions of the symbols that it names."""
+"""Finds the glibc version that a program needs, from the symbol versions in its ELF file."""
 from __future__ import annotations
 
 import struct
@@ -18,7 +18,8 @@ def text_at(content: bytes, start: int) -> str:
 
 
 def chained(content: bytes, start: int, count: int, form: str) -> Iterator[tuple[int, tuple[int, ...]]]:
-    """Yields the place and the fields of each record of a list. A record ends with the distance to the next one."""
+    """Yields the offset and the fields of each record in a chain. The last field of a record is the distance to the
+    next one."""
     for _ in range(count):
         fields = struct.unpack_from(form, content, start)
         yield start, fields
@@ -32,7 +33,7 @@ def needs(path: str) -> list[tuple[str, str]]:
     if content[:6] != b"\x7fELF\2\1":
         common.stop(f"{path} is no program for 64-bit Linux")
     (table,), (size, count) = struct.unpack_from("<Q", content, 0x28), struct.unpack_from("<HH", content, 0x3A)
-    # (of each section its kind, its place, the number of another one, and a count)
+    # (the kind of each section, its offset, the number of a related section, and a count)
     sections = [(it[1], it[4], it[6], it[7]) for it in (struct.unpack_from("<IIQQQQII", content, table + n * size) for n in range(count))]
     found = []
     for _, start, texts, records in (it for it in sections if it[0] == NEEDS):
@@ -44,7 +45,7 @@ def needs(path: str) -> list[tuple[str, str]]:
 
 
 def needed(path: str) -> str:
-    """Returns the least version of glibc with all symbols that a program needs."""
+    """Returns the lowest version of glibc that defines all symbols that a program needs."""
     found = needs(path)
     others = sorted({library for library, _ in found} - LIBRARIES)
     if others or not found:

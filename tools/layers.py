@@ -1,20 +1,21 @@
-"""Places the nodes of a drawing in layers: every arrow goes down, and few cross."""
+"""Places the nodes of a drawing in layers, so that every arrow points down and few arrows cross."""
 from __future__ import annotations
 
 from typing import Dict, List, Tuple
 
 Arrows = Dict[str, List[str]]
-Place = Tuple[int, float]  # a layer, counted from the bottom, and a column
+Place = Tuple[int, float]  # the number of a layer, counted from the bottom, and a column
 SWEEPS = 12
 
 
 def depth_of(name: str, arrows: Arrows) -> int:
-    """Returns how many arrows are below a node, on the longest way down."""
+    """Returns the number of arrows on the longest path down from a node."""
     return max((1 + depth_of(it, arrows) for it in arrows[name]), default=0)
 
 
 def joints(arrows: Arrows) -> dict[tuple[str, str], list[str]]:
-    """Returns for each arrow its nodes from top to bottom, with a joint in each layer that it crosses."""
+    """Returns, for each arrow, the points that it passes from top to bottom: its two nodes, and a joint in each layer
+    between."""
     depth = {it: depth_of(it, arrows) for it in arrows}
     return {(a, b): [a, *(f"{a}>{b}@{at}" for at in range(depth[a] - 1, depth[b], -1)), b] for a in arrows for b in arrows[a]}
 
@@ -26,12 +27,13 @@ def middle(name: str, near: dict[str, list[str]], columns: dict[str, float]) -> 
 
 
 def room_of(name: str) -> float:
-    """Returns half of the width that a node needs; a joint needs little."""
+    """Returns half of the width that a node needs. A joint needs less than a node."""
     return 0.15 if "@" in name else 0.5
 
 
 def spread(row: list[str], wanted: dict[str, float]) -> dict[str, float]:
-    """Returns columns for the nodes of a layer, in their order and without overlaps, near the desired ones."""
+    """Returns columns for the nodes of a layer, close to the desired columns, in the same order and without
+    overlaps."""
     found: dict[str, float] = {}
     for before, name in zip([None, *row], row):
         least = found[before] + room_of(before) + room_of(name) if before else wanted[name]

@@ -13,14 +13,14 @@ ob0\\-messages \\- what each message of ob0 means
 
 
 def plain(text: str) -> str:
-    """Returns a text as roff, in which nothing is a request or an escape."""
+    """Escapes a text for roff, so that nothing in it is a request or an escape."""
     found = text.replace("\\", "\\e").replace("-", "\\-").replace("'", "\\(aq")
     found = re.sub("[^\x00-\x7f]", lambda it: f"\\[u{ord(it[0]):04X}]", found)
     return re.sub(r"(?m)^(?=[.'])", r"\\&", found)
 
 
 def inline(text: str) -> str:
-    """Returns a part of a paragraph as roff: code and strong words are bold, and a link is its text."""
+    """Converts part of a Markdown paragraph to roff. Code and strong words become bold, and a link becomes its text."""
     text = re.sub(r"\[([^\]]*)\]\([^)]*\)", r"\1", text)
     parts = re.split(r"`([^`]*)`|\*\*([^*]+)\*\*|\*([^*]+)\*", text)
     found = ""
@@ -32,13 +32,14 @@ def inline(text: str) -> str:
 
 
 def cells_of(line: str) -> list[str]:
-    """Returns the cells of a table's row."""
+    """Splits a row of a Markdown table into its cells."""
     return [it.strip().replace(r"\|", "|") for it in re.split(r"(?<!\\)\|", line)[1:-1]]
 
 
 def single_rows(row: list[str]) -> list[list[str]]:
-    """Returns the cells of a row as a list of one. If the first two list as many words in code, returns the cells for each
-    word: the text before the second cell's words is repeated, also the third cell, unless it is such a list."""
+    """Splits a row whose first two cells list the same number of code words into one row for each word. The other text
+    of the second cell is repeated; the third cell is also repeated, unless it is such a list. Returns any other row
+    unchanged."""
     first, second, *more = row
     begin, at, listed = second.rpartition(" at ")
     words, places, cures = (re.split("(?<=`), (?=`)", it) for it in (first, listed, "".join(more[:1])))
@@ -77,8 +78,7 @@ def block(lines: list[str]) -> Iterator[str]:
 
 
 def of_messages(page: str, version: str, day: str) -> bytes:
-    """Returns the manual page that is made from a Markdown page. Its first heading, and its list of contents, are left
-    out."""
+    """Converts the Markdown page `page` to a manual page. Its first heading and its list of contents are left out."""
     found = HEAD.format(version=version, day=day)
     for at, part in enumerate(re.split(r"^```\n(.*?)^```$", page, flags=re.M | re.S)):
         if at % 2:

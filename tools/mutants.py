@@ -57,7 +57,7 @@ from verdicts import Mutants, is_met
 
 # The folders in which `make check` and a run of `try_some` keep a crate's proofs.
 OF_CRATE, OF_RUN = os.path.join(TOP, "crates", "{}", "out", "incremental"), os.path.join(build.ROOMS, "kept", "{}")
-DRAWN = 24  # how many mutants `make test` tries
+DRAWN = 24  # how many mutants `make test` draws
 MOST = 24  # mutants in one check: with more it takes much memory, and the others wait for it
 REFUSED, ELSEWHERE, PROVED, NOT_JUDGED = "refused", "elsewhere", "PROVED", "not judged"
 RIGHT, RIGHT_REFUSED = "proved", "RIGHT FORM REFUSED"  # the results of right forms
@@ -71,8 +71,8 @@ AMONG, APART, ALONE = range(3)
 
 
 class Verdict(NamedTuple):
-    """The result of trying a mutant: a word, the reason, and a goal that refuses it, 'GOAL of PROOF', if possible one
-    of its clause."""
+    """The result of trying a mutant: a word, the reason, and a refused goal, 'GOAL of PROOF', if possible one of the
+    claimed clause."""
 
     word: str
     why: str
@@ -93,7 +93,7 @@ class Verdict(NamedTuple):
         return f"  {self.word:<10}  {path}: {self.why}"
 
 
-# (the line of `rt ci` about a crate that is proved, by this run or by an earlier one on the machine)
+# (the line that `rt ci` prints about a crate that this run, or an earlier run on the machine, has proved)
 HAS_PROVED = re.compile(r"rt: (\w+) (?:proved$|is kept: )")
 
 
@@ -102,7 +102,7 @@ class Libraries(checks.Libraries):
     the crates' folders."""
 
     def take(self, line: str) -> None:
-        """Takes a crate's library if a line of `rt ci` says that the crate is proved."""
+        """Copies a crate's library if this line of `rt ci` says that the crate is proved."""
         found = HAS_PROVED.match(line.rstrip())
         if found:
             self.add(found[1])
@@ -134,8 +134,8 @@ def judge(edit: Edit, said: Said, source: reading.Source, alone: bool) -> Option
 
 
 def judge_right(said: Said, symbols: Dict[str, str], alone: bool) -> Optional[Verdict]:
-    """Returns the verdict of a check on a right form, or None if it has to be tried again: it may call another that
-    isn't proved."""
+    """Returns a check's verdict on a right form, or None if it has to be tried again, because it may call another form
+    that isn't proved."""
     if symbols and all(said.verdicts[it].startswith("proved") for it in symbols) and (said.ended or not alone):
         return Verdict(RIGHT, "proved")
     if not alone:
@@ -176,7 +176,7 @@ class Crate:
         self.name, self.source, self.chosen, self.most = name, source, chosen, most
         self.below, self.size = source.below(), sum(map(len, source.words.values()))
         self.found = {it: Verdict(NOT_JUDGED, it.why) for it in chosen if it.why}
-        self.next: Dict[Edit, int] = {}  # those to be tried again, and how
+        self.next: Dict[Edit, int] = {}  # the mutants to be tried again, and how
         self.running, self.checks = 0, 0
 
     def first(self) -> List[Group]:
@@ -215,7 +215,7 @@ class Crate:
         self.found.update(settled)
         again = [it for it, verdict in judged.items() if not verdict]
         if not said.ended and again:
-            # (if the compiler doesn't say which of them it can't read, each half is tried)
+            # (if the compiler doesn't say which mutant it can't read, each half of the group is tried)
             middle = len(again) // 2 if len(again) == len(group.edits) else 0
             return settled, [Group(it, group.how) for it in (again[:middle], again[middle:]) if it]
         for edit in again:
@@ -256,7 +256,7 @@ def check(crate: str, chosen: List[Edit], libraries: checks.Libraries, keeps: st
             if keeps == OF_RUN and not os.path.isdir(kept) and os.path.isdir(os.path.join(room, "kept")):
                 os.makedirs(os.path.dirname(kept), exist_ok=True)
                 os.rename(os.path.join(room, "kept"), kept)
-        # (the checker doesn't find each function by its name: then all are checked)
+        # (if the checker doesn't find a function by its name, all functions are checked)
         if said.ended or not re.search(r"^rattle: error: ", said.text, re.M):
             return said
     return said
@@ -276,7 +276,7 @@ def proofs(edit: Edit) -> Set[str]:
 
 
 def said_of(counts: Dict[str, int]) -> str:
-    """Describes the counts of a run in words."""
+    """Formats the counts of a run as a line of words."""
     return ", ".join(f"{count} {WORDS[word]}" for word, count in counts.items())
 
 
@@ -312,7 +312,7 @@ class Run:
                 raise
 
     def end_checks(self) -> None:
-        """Ends the checks that run, and those that a lane still starts from its queue."""
+        """Ends the running checks, and the checks that a lane still starts from its queue."""
         for it in self.running:
             it.cancel()
         while any(it.running() for it in self.running):
@@ -336,7 +336,7 @@ class Run:
         print(f"{crate.name}: {said_of(crate.counts())}, in {crate.checks} checks", flush=True)
 
     def counts(self) -> Dict[str, int]:
-        """Returns how many mutants of all crates have each word."""
+        """Returns how many mutants of all crates have each verdict, by its word."""
         return {word: sum(it.counts()[word] for it in self.crates) for word in WORDS}
 
     def failed(self) -> int:
@@ -353,14 +353,15 @@ def crates_of(chosen: Iterable[Edit], parts: sums.Parts, most: int = MOST) -> Li
 
 
 def draw(mutants: Mutants) -> int:
-    """Draws the number of a mutant, from 1. The system's random source is used, so no commit, option or environment
-    variable can choose it."""
+    """Draws the number of a mutant, counted from 1. It comes from the system's random source, so no commit, option or
+    environment variable can choose it."""
     return secrets.randbelow(len(mutants.mutants)) + 1
 
 
 def drawn_from(mutants: Mutants, number: int) -> List[Edit]:
-    """Returns the first mutants with a current row, starting at this number (after the last one the first), each with its
-    right form. Neighbours belong to one or two crates, so they need few checks."""
+    """Returns the first DRAWN mutants with a current row, each with its right form. Starts at this number, and
+    continues with the first mutant after the last one. Neighbours belong to one or two crates, so they need few
+    checks."""
     found = mutants.mutants
     ordered = [*found[number - 1 :], *found[: number - 1]]
     # (`make wrong-bodies` tries stale ones)
@@ -377,7 +378,7 @@ def try_some(libraries: checks.Libraries) -> Tuple[int, int]:
     chosen = drawn_from(mutants, number)
     print(f"{DRAWN} of {len(mutants.mutants)} mutants with their right forms, from number {number}, drawn in this run; "
           f"`tools/mutants.py --from {number}` tries them again", flush=True)  # fmt: skip
-    # (few in a check, so that all processors have some)
+    # (each check gets few mutants, so that all processors are busy)
     lanes = build.lanes()
     run = Run(crates_of(chosen, mutants.parts, -(-len(chosen) // (2 * lanes))), lanes, lambda settled: None)
     run.try_all(libraries, OF_RUN)
@@ -385,8 +386,8 @@ def try_some(libraries: checks.Libraries) -> Tuple[int, int]:
 
 
 def chosen_of(named: Dict[str, List[str]], mutants: Mutants, takes_all: bool) -> List[Edit]:
-    """Returns the forms of these crates with one of the given words in their path. A crate without a word gives its
-    forms with a stale row, or all forms."""
+    """Returns the forms to try: in each crate the forms whose path contains one of its words. If no word is given for a
+    crate, returns its forms with a stale row, or all its forms if `takes_all`."""
     found = []
     for path, edit in sorted(mutants.edits.items()):
         wanted = named.get(edit.crate, [])
@@ -420,7 +421,8 @@ def try_chosen(chosen: List[Edit], mutants: Mutants, options: argparse.Namespace
 
 
 def list_left(chosen: List[Edit], mutants: Mutants) -> int:
-    """Prints the rows of these forms, which are stale; returns the status."""
+    """Prints the rows of these forms, which are stale, and their number. Returns the exit status: 1 if there are
+    any."""
     for edit in chosen:
         print(mutants.row(edit.path).line)
     of_right = len(mutants.edits) - len(mutants.mutants)
@@ -429,7 +431,7 @@ def list_left(chosen: List[Edit], mutants: Mutants) -> int:
 
 
 def options_of(given: List[str]) -> argparse.Namespace:
-    """Returns the options that these words give."""
+    """Parses the command line."""
     words = argparse.ArgumentParser(description="Tries the mutants of crates: the prover has to refuse each.")
     words.add_argument("--lanes", type=int, default=build.lanes(), metavar="N")
     words.add_argument("--quiet", action="store_true")
@@ -442,7 +444,7 @@ def options_of(given: List[str]) -> argparse.Namespace:
 
 
 def carry_out(options: argparse.Namespace, named: Dict[str, List[str]], mutants: Mutants) -> int:
-    """Keeps the rows of a commit, or tries the chosen mutants; returns the status."""
+    """Carries over the rows of a commit, or tries the chosen mutants. Returns the exit status."""
     if options.renamed:
         return renaming.keep_rows(options.renamed, mutants)
     if options.start is None:

@@ -1,5 +1,5 @@
-"""The notices of the kit's crates that the program is linked with. They are collected when the program is built, and kept next to
-it, so that packing needs no kit."""
+"""Collects the licence notices of the toolchain's crates that the program is linked with. This happens when the program
+is built. The notices are kept next to it, so that packing needs no toolchain."""
 from __future__ import annotations
 
 import json
@@ -10,7 +10,7 @@ from typing import Dict
 import common
 
 KEPT = common.BINARY + ".notices"
-# each crate with its notices: the text of each file
+# each crate with its notices, by the names of their files
 Notices = Dict[str, Dict[str, str]]
 
 
@@ -20,14 +20,14 @@ def kit_folder() -> str:
 
 
 def named_by(name: str, folder: str) -> list[str]:
-    """Returns the crates that a crate of the kit uses, according to its library."""
+    """Returns the crates that a crate of the toolchain depends on, according to its library."""
     with open(os.path.join(folder, "rlibs", f"{name}.rlib", "format"), encoding="utf-8") as file:
         return [line.split()[1] for line in file if line.startswith("dep ")]
 
 
 def linked(folder: str) -> list[str]:
-    """Returns the crates of the kit that the program is linked with: those in crates.txt, `std`, and the crates that
-    these use."""
+    """Returns the toolchain's crates that the program is linked with: the ones listed in crates.txt, `std`, and all
+    crates that these depend on."""
     lines = common.listed()
     waiting = ["std", *(it for name in common.below("ob0") for it in lines[name] if it not in lines)]
     found = set()
@@ -40,8 +40,8 @@ def linked(folder: str) -> list[str]:
 
 
 def texts_in(folder: str) -> dict[str, str]:
-    """Returns the notices in the folder of a crate. If it may be used under the MIT licence or Apache's, the former
-    applies."""
+    """Returns the notices in a crate's folder. If the crate may be used under either the MIT or the Apache licence,
+    only the MIT notice is returned."""
     names = [it for it in sorted(os.listdir(folder)) if it.startswith(("LICENSE", "NOTICE", "COPYING"))]
     found = {}
     for name in names:
@@ -52,13 +52,14 @@ def texts_in(folder: str) -> dict[str, str]:
 
 
 def collected() -> Notices:
-    """Returns the toolchain's crates that the program is linked with, each with its licence notices."""
+    """Collects the notices of all the toolchain's crates that the program is linked with."""
     folder = kit_folder()
     return {name: texts_in(os.path.join(folder, "rattle", name)) for name in linked(folder)}
 
 
 def head() -> dict[str, str | None]:
-    """Returns the toolchain and the sources of the built program. Kept notices with another head aren't its own."""
+    """Returns the toolchain and the sources of the built program. Kept notices with a different head belong to another
+    program."""
     return {it: common.stamp().get(it) for it in ("kit", "sources")}
 
 
@@ -72,7 +73,7 @@ def keep() -> Notices:
 
 
 def of_program() -> Notices:
-    """Returns the notices of the built program: the ones kept with it, or else the notices of the installed toolchain."""
+    """Returns the notices that are kept next to the program, or else the notices of the installed toolchain."""
     try:
         with open(KEPT, encoding="utf-8") as file:
             kept = json.load(file)
@@ -87,17 +88,16 @@ def of_program() -> Notices:
 
 
 def without(found: Notices) -> list[str]:
-    """Returns the names of the crates that have no licence notice."""
+    """Returns the names of the crates that have no notice."""
     return sorted(name for name, texts in found.items() if not texts)
 
 
 def short_name(crate: str, file: str) -> str:
-    """Returns the name of a notice on a page of copyrights."""
+    """Returns the name of a notice for the page of copyrights."""
     return crate + file.replace("LICENSE", "").replace("-MIT", "")
 
 
 def holders(crate: str, text: str) -> list[str]:
-    """Returns the copyright holders according to a notice: its own lines, or the authors of a crate whose notice has
-    none."""
+    """Returns the copyright lines of a notice, or the crate's authors if the notice contains none."""
     lines = re.findall(r"^\s*Copyright (?:\(c\) )?(.*\b(?:contributors|\d{4})\b.*?)\s*$", text, re.M | re.I)
     return [f"{it} ({crate})" for it in lines] or [f"the authors of {crate}"]

@@ -40,7 +40,7 @@ import vsix
 from common import TOP, match_of
 
 DOC = "share/doc/ob0"
-LIST = f"{DOC}/installed"  # lists what an installation made: the files, and then the folders, which end with /
+LIST = f"{DOC}/installed"  # lists the installed files, and after them the created folders, which end with /
 VIM = "share/vim/vimfiles/pack/ob0/start/ob0"
 NVIM = "share/nvim/site/pack/ob0/start"
 EMACS = "share/emacs/site-lisp/elpa/ob0-mode"
@@ -163,7 +163,7 @@ def maintainer() -> str:
 
 
 def squeezed(content: bytes) -> bytes:
-    """Compresses a content by gzip. (`gzip.compress` writes different heads in Python 3.11 and 3.13.)"""
+    """Compresses bytes with gzip. (`gzip.compress` writes different headers in Python 3.11 and 3.13.)"""
     out = io.BytesIO()
     with gzip.GzipFile(filename="", mode="wb", compresslevel=9, fileobj=out, mtime=0) as file:
         file.write(content)
@@ -171,8 +171,8 @@ def squeezed(content: bytes) -> bytes:
 
 
 def names_below(source: str) -> list[str]:
-    """Returns the files of a folder of the repository, or the file itself. Files that git doesn't know are ignored,
-    unless there is no repository. So are sources of pages (`.in.md`)."""
+    """Returns the paths of the files below a folder of the repository, or the path itself if it is a file. Files that
+    git doesn't know are left out, unless there is no repository. Sources of pages (`.in.md`) are also left out."""
     if git("rev-parse", "HEAD"):
         found = git("ls-files", "-z", "--", source).split("\0")
     elif os.path.isfile(os.path.join(TOP, source)):
@@ -184,8 +184,8 @@ def names_below(source: str) -> list[str]:
 
 
 def files_of(source: str) -> list[tuple[str, str]]:
-    """Returns pairs of a path below a folder of the repository (or a file) and its path. Excludes the pages of editors,
-    because editors read these folders."""
+    """Returns the files below a folder of the repository: for each its path relative to the folder, and its path.
+    Leaves out the pages about editors, because editors read these folders."""
     keeps_pages = COPIED[source].startswith((DOC, EXERCISES))
     return [(os.path.relpath(it, source), it) for it in names_below(source) if keeps_pages or not it.endswith(".md")]
 
@@ -203,7 +203,7 @@ def verdict() -> str:
 
 
 def tested() -> str:
-    """Returns what was tested on this machine, and how many proofs were kept."""
+    """Returns the text of the file TESTED: what was tested on this machine, and how many proofs were kept."""
     found = common.stamp()
     return f"{verdict()}\n" + "".join(f"{name}: {found[name]}\n" for name in ("gate", "proofs") if found.get(name))
 
@@ -246,8 +246,8 @@ def versions() -> list[Version]:
 
 
 def known_versions() -> list[Version]:
-    """Returns the versions of CHANGELOG.md. The first one is the program's; it has a day if it is packed as a
-    release."""
+    """Returns the versions of CHANGELOG.md, latest first. The first one is the program's version. It has a day only if
+    it is packed as a release."""
     found, number = versions(), version()
     if not found or found[0].number != number:
         common.stop(f"the first heading of CHANGELOG.md isn't of {number}, which is the program's version")
@@ -268,7 +268,7 @@ def changelog() -> bytes:
 
 
 def notes() -> None:
-    """Prints the changes of the program's version, as a release has them."""
+    """Prints the part of CHANGELOG.md about the program's version, in the form of a release's notes."""
     page = read("CHANGELOG.md").decode()
     print(match_of(rf"^## {re.escape(known_versions()[0].number)},[^\n]*\n+(.*?)(?=^## |\Z)", page, re.M | re.S)[1].strip())
 
@@ -322,7 +322,7 @@ def messages_page() -> bytes:
 
 
 def emacs_package() -> bytes:
-    """Returns the file from which Emacs learns about the installed package."""
+    """Returns the file that tells Emacs about the installed package."""
     line = f"""(define-package "ob0-mode" "{version()}" "Major mode for Oberon-0" '((emacs "26.1")))"""
     return f";; What Emacs reads of the installed package  -*- no-byte-compile: t -*-\n{line}\n".encode()
 
@@ -400,12 +400,14 @@ def archive(found: Tree, top: str, with_folders: bool) -> bytes:
 
 
 def list_of(files: Iterable[str], folders: Iterable[str]) -> str:
-    """Returns the lines of the list: everything to be removed, in this order. A folder is removed if it is empty."""
+    """Returns the text of the list of files and folders to remove, in this order. Folders are only removed if they are
+    empty."""
     return "".join(f"{it}\n" for it in [*files, *(f"{it}/" for it in sorted(folders, reverse=True))])
 
 
 def with_list(found: Tree) -> Tree:
-    """Returns the tree with a list for its removal. The list contains the folders that ob0 may have created."""
+    """Returns the tree with the list of its files added. The list also contains the folders that ob0 may have
+    created."""
     folders = {*folders_of([*found, LIST])} - SHARED
     return {**found, LIST: (list_of([*found, LIST], folders).encode(), 0o644)}
 
@@ -474,8 +476,8 @@ EARLIER = ["ob0_*_amd64.deb", "ob0-*-x86_64-linux.tar.gz", "ob0-*.vsix", "SHA256
 
 
 def write_files(files: dict[str, bytes], folder: str) -> None:
-    """Writes files to a folder. Each is replaced at once, so that a simultaneous run on the same sources finds whole
-    files."""
+    """Writes files to a folder. Each file is replaced in one step, so that a simultaneous run on the same sources finds
+    whole files."""
     os.makedirs(folder, exist_ok=True)
     for name, content in files.items():
         path = os.path.join(folder, name)
@@ -527,7 +529,7 @@ def package(folder: str) -> None:
 
 
 def listed(room: str) -> tuple[list[str], list[str]]:
-    """Returns the files and the folders that an earlier installation made."""
+    """Returns the files and the folders in the list that an earlier installation left."""
     try:
         with open(os.path.join(room, LIST), encoding="utf-8") as file:
             lines = file.read().splitlines()
@@ -537,20 +539,21 @@ def listed(room: str) -> tuple[list[str], list[str]]:
 
 
 def make_folders(path: str) -> list[str]:
-    """Makes a folder and those around it, and returns the ones that were not there, the innermost first."""
+    """Creates a folder and its missing parents. Returns the created folders, the innermost first."""
     made = []
     while not os.path.isdir(path):
         made.append(path)
         path = os.path.dirname(path)
     for folder in reversed(made):
         os.mkdir(folder)
-        # (for everybody, whatever the umask is; the bit for the group's name is the outer folder's)
+        # (readable for everybody, whatever the umask is; the setgid bit comes from the outer folder)
         os.chmod(folder, 0o755 | os.stat(folder).st_mode & stat.S_ISGID)
     return made
 
 
 def need_place(room: str) -> None:
-    """Fails if a prefix can't have the folders of the tree. Leaves only those that were there."""
+    """Ends the script if the folders of the tree can't be created below this prefix. Removes the folders that it
+    created to find out."""
     for folder in make_folders(os.path.join(room, os.path.dirname(LIST))):
         os.rmdir(folder)
 
@@ -570,7 +573,7 @@ def install(room: str) -> None:
         with open(target, "wb") as file:
             file.write(content)
         os.chmod(target, mode)
-    # (the folders around the prefix that were made are `.`, `..` and so on, from there)
+    # (the created parents of the prefix are listed relative to it: `.`, `..` and so on)
     folders = {*known, *(os.path.relpath(it, room) for it in made)}
     with open(os.path.join(room, LIST), "w", encoding="utf-8") as file:
         file.write(list_of([*found, LIST], folders))
@@ -603,7 +606,7 @@ def room_of(prefix: str, root: str) -> str:
     """Returns the folder of a prefix. If DESTDIR (another system's root) is given, the folder is below it."""
     if not prefix:
         common.stop("PREFIX is empty: leave it out for /usr/local, or name a folder (PREFIX=~/.local, PREFIX=/)")
-    # (not every shell expands a ~ after the =)
+    # (not every shell expands a ~ after =)
     room = os.path.expanduser(prefix)
     room = os.path.abspath(os.path.join(root, room.lstrip("/")) if root else room)
     if os.path.realpath(room) == os.path.realpath(TOP):
@@ -612,7 +615,7 @@ def room_of(prefix: str, root: str) -> str:
 
 
 def at_prefix(command: str, prefix: str, root: str) -> None:
-    """Does what is to be done with the folder of a prefix."""
+    """Carries out a command (install, place or uninstall) for the folder of a prefix."""
     room = room_of(prefix, root)
     if command == "install":
         need_program()

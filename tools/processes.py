@@ -1,5 +1,5 @@
-"""The processes that a test has started, also those whose parents have ended: by these a test that is ended takes its editors with
-it."""
+"""Finds and ends the processes that a test has started, including the ones whose parents have ended. So a test that is
+stopped leaves no editor running."""
 from __future__ import annotations
 
 import ctypes
@@ -10,7 +10,7 @@ from contextlib import suppress
 from typing import Dict, List
 
 SET_CHILD_SUBREAPER = 36  # (of prctl, linux/prctl.h)
-SECONDS = 10  # how long processes are awaited that were ended
+SECONDS = 10  # how long to wait for killed processes to end
 
 
 def adopt_orphans() -> None:
@@ -19,7 +19,7 @@ def adopt_orphans() -> None:
 
 
 def parents() -> Dict[int, int]:
-    """Returns the parent of each running process."""
+    """Returns the parent of each running process, by process number."""
     found = {}
     for name in os.listdir("/proc"):
         with suppress(OSError, ValueError):

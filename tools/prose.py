@@ -1,13 +1,15 @@
 #!/usr/bin/env python3
-"""Counts how ob0's texts are worded: forty phrases that a reader stumbles over, long sentences, comments without a verb.
+"""Counts how ob0's texts are worded: forty phrases that a reader stumbles over, long sentences, comments without a
+verb.
 
   tools/prose.py              prints the totals, by phrase and by kind of file
   tools/prose.py FILE..       prints each phrase and each long sentence of these files, with the words around it
-  tools/prose.py --write      writes tests/prose.txt again, in which counts may fall and no sentence may be added
-  tools/prose.py --write-all  writes it again, whatever rose
+  tools/prose.py --write      rewrites tests/prose.txt; fails if a count rose or a long sentence was added
+  tools/prose.py --write-all  rewrites it, whatever rose
 
-The texts are pages, comments of crates, strings and comments of Python, whole files of editors, shells and examples, and the first lines
-of mutants. tests/prose.txt lists the files (of mutants the folders) with such phrases, and the first words of each long sentence."""
+The texts are pages, comments of crates, strings and comments of Python, whole files of editors, shells and examples,
+and the first lines of mutants. tests/prose.txt lists the files with such phrases, and the first words of each long
+sentence. The mutants of a folder are counted together."""
 from __future__ import annotations
 
 import ast
@@ -24,7 +26,7 @@ from typing import NamedTuple
 import common
 
 LIST = os.path.join(common.TOP, "tests", "prose.txt")
-# the files of each kind; of a folder of mutants the first lines are counted together
+# the files of each kind; for mutants the folders, whose first lines are counted together
 KINDS = {
     "pages": ["*.md", "docs/**/*.md", "editors/**/*.md", "examples/**/*.md", "share/*.1", "tools/statement.in"],
     "crates": ["crates/*/src/**/*.rt", "crates/*/specs/**/*.antt", "crates/*/proofs/**/*.antt"],
@@ -36,13 +38,14 @@ KINDS = {
     ],
     "mutants": ["crates/*/wrong-bodies", "crates/*/must-fail"],
 }
-# made pages, and the two files that have the phrases themselves
+# a generated page, and the two files that contain the phrases themselves
 LEFT_OUT = {"docs/STATEMENT.md", "tools/prose.py", "tests/test_prose.py"}
-PRINTED = "crates/ob0_cli/src/line.rt"  # whose strings are help
+PRINTED = "crates/ob0_cli/src/line.rt"  # the file whose strings are the printed help
 MOST_WORDS = 35
-SHOWN_WORDS = 8  # how many first words of a long sentence stand in the list
+SHOWN_WORDS = 8  # how many first words of a long sentence the list contains
 
-# each phrase, and what finds it; what to write instead is the ordinary word (if, when, only, except, fix, format, about, ..)
+# each phrase, with a pattern that finds it; write the ordinary word instead (if, when, only, except, fix, format,
+# about, ..)
 PHRASES = {
     "where (if)": r"\bwhere (it|its|there|the|a|an|no|none|nothing|one|they|this|that|these|each|all|both|neither)\b",
     "exactly where": r"\bexactly where\b",
@@ -86,20 +89,21 @@ PHRASES = {
     "a mutant turns": r"\bturns (a|an|the|its|that|one)\b|\b(mutant|edit|it) turns\b",
 }
 FOUND_BY = {name: re.compile(pattern, re.I | re.M) for name, pattern in PHRASES.items()}
-# a comment that begins so has a verb if it asks, or if two of these verbs are in it: one for the clause and one for the sentence
+# a comment that begins with one of these words has a verb if it is a question, or if its first sentence contains two of
+# VERBS: one for the clause and one for the sentence
 HEADLESS = re.compile(r"(what|whether|how)\b", re.I)
 VERBS = re.compile(r"\b(is|isn't|are|aren't|was|were|has|have|had|does|do|can|may|must|will)\b", re.I)
 
 
 class Counts(NamedTuple):
-    """How many phrases a file has, and how many comments that begin with What, Whether or How and have no verb."""
+    """How many phrases a file contains, and how many comments that begin with What, Whether or How and have no verb."""
 
     phrases: int
     headless: int
 
 
 def files_of(kind: str) -> list[str]:
-    """Returns the paths of the files of this kind from the top, in order."""
+    """Returns the paths, from the repository's top, of the files of this kind."""
     paths = (it for pattern in KINDS[kind] for it in glob.glob(os.path.join(common.TOP, pattern), recursive=True))
     return sorted({os.path.relpath(it, common.TOP) for it in paths} - LEFT_OUT)
 
@@ -110,7 +114,7 @@ def read(path: str) -> str:
 
 
 def from_troff(text: str) -> str:
-    """A manual page as plain paragraphs."""
+    """Converts a manual page to plain paragraphs."""
     text = re.sub(r"^\.nf\n.*?^\.fi$", "", text, flags=re.M | re.S)
     text = re.sub(r"\\f.|\\[&/]", "", text).replace(r"\-", "-").replace(r"\(aq", "'")
     text = re.sub(r"\\\([lr]q", "", text)
@@ -120,7 +124,8 @@ def from_troff(text: str) -> str:
 
 
 def from_markdown(text: str) -> str:
-    """A page as plain paragraphs: without code, headings, lists of contents and the targets of links, and with each cell by itself."""
+    """Converts a page to plain paragraphs. Leaves out code, headings, lists of contents and the targets of links. Each
+    cell of a table becomes a paragraph."""
     text = re.sub(r"^ *```.*?^ *```$", "", text, flags=re.M | re.S)
     text = re.sub(r"\n\n(?:    .*\n)+", "\n\n", text)
     text = re.sub(r"^(#.*|\|[-|: ]*\|)$|^Contents:(.+\n)*", "", text, flags=re.M)
@@ -132,7 +137,7 @@ def from_markdown(text: str) -> str:
 
 
 def paragraphs_of(page: str) -> list[str]:
-    """The paragraphs, items of lists and cells of tables of a page, each on one line."""
+    """Returns the paragraphs, list items and table cells of a page, each on one line."""
     text = from_troff(read(page)) if page.endswith(".1") else from_markdown(read(page))
     return [" ".join(it.split()) for it in re.split(r"\n\s*\n", text) if it.strip()]
 
@@ -143,7 +148,8 @@ def without_code(text: str) -> str:
 
 
 def comments_of(path: str) -> list[str]:
-    """The comments of a file of code or definitions, each on one line: those on lines of their own, one after the other, are one."""
+    """Returns the comments of a file of code or definitions, each on one line. Comments on successive lines are joined
+    into one."""
     mark = "//[/!]?" if path.endswith(".rt") else "--"
     found: list[list[str]] = [[]]
     for line in read(path).split("\n"):
@@ -156,7 +162,8 @@ def comments_of(path: str) -> list[str]:
 
 
 def strings_of(tree: ast.AST) -> Iterator[str]:
-    """Yields the strings of a part of Python that have a blank. A string with values in it has a word for each."""
+    """Yields the strings in a part of a Python program that contain a blank. A word replaces each value in an
+    f-string."""
     if isinstance(tree, ast.JoinedStr):
         text = "".join(str(it.value) if isinstance(it, ast.Constant) else "`code`" for it in tree.values)
     else:
@@ -168,7 +175,7 @@ def strings_of(tree: ast.AST) -> Iterator[str]:
 
 
 def comments_in_python(text: str) -> Iterator[str]:
-    """Yields the comments of a file in Python: those on lines one after the other are one."""
+    """Yields the comments of a Python file. Comments on successive lines are joined into one."""
     found: list[str] = []
     line = 0
     for it in tokenize.generate_tokens(io.StringIO(text).readline):
@@ -182,7 +189,7 @@ def comments_in_python(text: str) -> Iterator[str]:
 
 
 def lines_of(path: str) -> str:
-    """Returns a file's text without the marks of comments at the starts of lines."""
+    """Returns a file's text without the comment marks at the starts of lines."""
     return re.sub(r"^\s*(?:--|//|;+|#|\")+ ?", "", read(path), flags=re.M)
 
 
@@ -193,7 +200,7 @@ def first_lines(folder: str) -> Iterator[str]:
 
 
 def texts_of(kind: str, path: str) -> list[str]:
-    """Returns the texts of a file that are counted, each on one line."""
+    """Returns the texts of a file in which phrases are counted, each on one line."""
     if kind == "pages":
         return paragraphs_of(path)
     if kind == "crates":
@@ -208,24 +215,26 @@ def texts_of(kind: str, path: str) -> list[str]:
 
 
 def sentences_of(paragraph: str) -> list[str]:
-    """The sentences of a paragraph: each ends with a full stop, a question mark or an exclamation mark before a space."""
+    """Splits a paragraph into sentences. Each ends with a full stop, a question mark or an exclamation mark before a
+    space."""
     return [it for it in re.split(r"(?<=[^.][.!?])[)*]* +(?=\S)", paragraph) if it]
 
 
 def is_headless(comment: str) -> bool:
-    """Whether a comment begins with What, Whether or How, and its first sentence asks nothing and has no verb."""
+    """Returns whether a comment begins with What, Whether or How, and its first sentence is no question and has no
+    verb."""
     first = sentences_of(comment)[0]
     return bool(HEADLESS.match(first)) and not first.endswith("?") and len(VERBS.findall(first)) < 2
 
 
 def phrases_in(texts: list[str]) -> Counter[str]:
-    """How often each phrase is in these texts."""
+    """Counts how often each phrase occurs in these texts."""
     joined = "\n".join(texts)
     return Counter({name: sum(1 for _ in found.finditer(joined)) for name, found in FOUND_BY.items()})
 
 
 def counts() -> dict[str, Counts]:
-    """Returns the counts of each file, or folder of mutants, that has any."""
+    """Returns the counts of each file, or folder of mutants, in which any count isn't 0."""
     found = {}
     for kind in KINDS:
         for path in files_of(kind):
@@ -236,17 +245,17 @@ def counts() -> dict[str, Counts]:
 
 
 def long_sentences(page: str) -> list[str]:
-    """The sentences of a page that have more words than a reader keeps in mind."""
+    """Returns the sentences of a page that have more than MOST_WORDS words."""
     return [it for text in paragraphs_of(page) for it in sentences_of(text) if len(it.split()) > MOST_WORDS]
 
 
 def beginnings() -> list[str]:
-    """The page and the first words of each long sentence."""
+    """Returns, for each long sentence of all pages, the page and the sentence's first words."""
     return sorted(f"{page}: {' '.join(it.split()[:SHOWN_WORDS])} .." for page in files_of("pages") for it in long_sentences(page))
 
 
 def lines() -> Iterator[str]:
-    """The lines of the list as it should be."""
+    """Yields the lines that tests/prose.txt must contain for the present files."""
     for path, it in sorted(counts().items()):
         yield f"{path}: {it.phrases} phrases" + (f", {it.headless} comments without a verb" if it.headless else "")
     yield ""
@@ -254,14 +263,15 @@ def lines() -> Iterator[str]:
 
 
 def listed() -> tuple[dict[str, Counts], list[str]]:
-    """The counts and the beginnings of long sentences that the list has."""
+    """Reads tests/prose.txt. Returns its counts by file, and the beginnings of long sentences."""
     head, _, rest = read(LIST).partition("\n\n")
     found = (re.fullmatch(r"(\S+): (\d+) phrases(?:, (\d+) comments without a verb)?", it) for it in head.split("\n"))
     return {it[1]: Counts(int(it[2]), int(it[3] or 0)) for it in found if it}, [it for it in rest.split("\n") if it]
 
 
 def risen() -> list[str]:
-    """The files with a higher count than the list has, and the long sentences that it lacks."""
+    """Returns a line for each file whose count is higher than in tests/prose.txt, and for each long sentence that is
+    missing there."""
     known, sentences = listed()
     none = Counts(0, 0)
     pairs = ((path, known.get(path, none), it) for path, it in counts().items())
@@ -270,7 +280,7 @@ def risen() -> list[str]:
 
 
 def kind_of(path: str) -> str:
-    """Returns the kind of a file, or ends the program."""
+    """Returns the kind of a file. Ends the program if the file isn't counted."""
     kinds = [kind for kind in KINDS if path in files_of(kind)]
     if not kinds:
         common.stop(f"{path} isn't counted")
@@ -278,7 +288,8 @@ def kind_of(path: str) -> str:
 
 
 def show(paths: list[str]) -> None:
-    """Prints each phrase of these files with what is around it, each comment without a verb, and each long sentence."""
+    """Prints each phrase of these files with the text around it, each comment without a verb, and each long
+    sentence."""
     for path in paths:
         kind = kind_of(path)
         texts = texts_of(kind, path)

@@ -36,7 +36,8 @@ COUNTS = re.compile(
 
 
 def reasons(are_of_clauses: bool = False) -> dict[str, str]:
-    """Returns why some functions have no mutant, by their paths; or why some clauses have none, by path and clause."""
+    """Returns the reasons in tools/surface_reasons.txt: why some functions have no mutant, by path; or with
+    `are_of_clauses`, why some clauses have none, by path and clause."""
     found = {}
     with open(REASONS, encoding="utf-8") as file:
         for line in file:
@@ -58,7 +59,7 @@ class Row:
         return self.function.gives and not self.turning and self.path not in known
 
     def turned_by(self, known: "dict[str, str]") -> str:
-        """Returns the names of the mutants, or why there is none."""
+        """Returns the names of the mutants that change the function, or why there are none."""
         if self.turning:
             return ", ".join(os.path.splitext(edit.name)[0] for edit in self.turning)
         if not self.function.gives:
@@ -71,7 +72,7 @@ class Row:
 
 
 def clauses_of(source: reading.Source, function: reading.Function) -> "list[str]":
-    """Returns the names of the clauses that a function ensures. A clause without a name is '' among them."""
+    """Returns the names of a function's `ensures` clauses, with '' for a clause without a name."""
     return re.findall(r"\bensures (?:(\w+) )?\{", " ".join(source.words_of(function)))
 
 
@@ -87,7 +88,8 @@ def paragraph(lines: "list[str]", mark: str) -> str:
 
 
 def promise_of(function: reading.Function) -> str:
-    """Returns the first paragraph of a function's comment. A method of a trait has the trait's."""
+    """Returns the first paragraph of a function's comment. If a method of a trait has no comment, returns a reference
+    to the trait."""
     rows = rows_of_file(function.crate, function.file)
     first = at = function.first - 1
     while at and rows[at - 1].strip().startswith(("///", "#[")):
@@ -99,7 +101,7 @@ def promise_of(function: reading.Function) -> str:
 
 
 def cited_by(function: reading.Function) -> str:
-    """Returns the definitions that a function's contract cites."""
+    """Returns the names of the definitions that a function's contract cites, as a list in Markdown."""
     rows = rows_of_file(function.crate, function.file)
     uses = re.findall(r"^ghost use Rattle\.ob0_\w+\.specs\.[\w.]+\.\{([^}]*)\}", "\n".join(rows), re.M)
     names = {it.split(" as ")[-1].strip() for part in uses for it in part.split(",")}
@@ -111,7 +113,7 @@ def cited_by(function: reading.Function) -> str:
 
 
 def rows_of(source: reading.Source, traits: "list[str]") -> "list[Row]":
-    """A row for each public function of a crate, in the order of the sources."""
+    """Returns a row for each public function of a crate, in the order of the sources."""
     all_edits = edits.edits_of(source.crate, source)
     return [Row(it, [edit for edit in all_edits if edit.turned and it in edit.turned]) for it in source.public_functions(traits)]
 
@@ -123,7 +125,7 @@ def type_line(item: reading.TypeItem) -> str:
 
 
 def head_of(crate: str, lower: "list[str]") -> "list[str]":
-    """Returns what a crate is for, and what it rests on."""
+    """Returns the beginning of a crate's section: its heading, its purpose, and the crates that it depends on."""
     is_program = not os.path.exists(os.path.join(common.TOP, "crates", crate, "src", "lib.rt"))
     rows = rows_of_file(crate, "src/main.rt" if is_program else "src/lib.rt")
     head = rows[: next(at for at, it in enumerate([*rows, ""]) if not it.startswith("//!"))]
@@ -131,7 +133,7 @@ def head_of(crate: str, lower: "list[str]") -> "list[str]":
 
 
 def section(source: reading.Source, rows: "list[Row]", known: "dict[str, str]", lower: "list[str]") -> "list[str]":
-    """A crate's part of the page: what it is for, its public functions and types."""
+    """Returns a crate's section of the page: its purpose, and the tables of its public functions and types."""
     types = [type_line(it) for it in source.public_types()]
     found = head_of(source.crate, lower)
     found += ["\n| Function | What it promises | Contract | Mutants |", "|---|---|---|---|", *(it.line(known) for it in rows)] if rows else []
@@ -139,21 +141,23 @@ def section(source: reading.Source, rows: "list[Row]", known: "dict[str, str]", 
 
 
 def counts() -> "tuple[int, int, int]":
-    """How many edits `rt ci` tries; how many others there are, and were refused in their present form."""
+    """Returns how many edits `rt ci` tries, how many other mutants exist, and how many of these were refused in their
+    present form."""
     mutants = verdicts.Mutants()
     others = [it for it in mutants.mutants if not mutants.edits[it].is_of_kit]
     return len(mutants.mutants) - len(others), len(others), sum(mutants.is_current(it) for it in others)
 
 
 def with_counts(text: str) -> str:
-    """README's text with the counts of mutants. It has to have the sentence that says them."""
+    """Returns README's text with the present counts of mutants. Raises LookupError if README doesn't contain the
+    sentence with the counts."""
     common.match_of(COUNTS.pattern, text, COUNTS.flags)
     of_kit, others, refused = counts()
     return COUNTS.sub(rf"\g<1>{of_kit}\g<2>{others}\g<3>{'all' if refused == others else refused}\g<4>", text)
 
 
 def keep_counts() -> None:
-    """Writes the counts of mutants into README (a test compares them)."""
+    """Writes the counts of mutants into README. (A test compares them.)"""
     with open(README, encoding="utf-8") as file:
         text = file.read()
     with open(README, "w", encoding="utf-8") as file:
@@ -161,7 +165,7 @@ def keep_counts() -> None:
 
 
 def page_and_rows(known: "dict[str, str]") -> "tuple[str, list[Row]]":
-    """Returns the page, and the rows of all public functions."""
+    """Returns the text of bin/SURFACE.md, and the rows of all public functions."""
     named = common.libraries()
     order = list(dict.fromkeys(it for top in named for it in common.below(top, named)))
     sources = [reading.Source(it) for it in order]
@@ -187,7 +191,8 @@ def main(words: list[str]) -> int:
 
 
 def complain(rows: "list[Row]", known: "dict[str, str]") -> int:
-    """Prints the functions that lack a mutant or a comment, and reasons of functions that don't exist; returns the status."""
+    """Prints the functions that lack a mutant or a comment, and the reasons about functions that don't exist. Returns
+    the exit status."""
     stale = set(known) - {it.path for it in rows}
     lacking = [it.path for it in rows if it.lacks(known)]
     silent = [it.path for it in rows if not promise_of(it.function)]

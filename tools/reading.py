@@ -16,7 +16,7 @@ Module = Tuple[str, ...]  # the path of a module in its crate
 
 
 class Function:
-    """A function of a crate: its place, its owner, and its words."""
+    """A function of a crate: its place in the sources, its owner, and its words."""
 
     def __init__(self, scope: Scope, name: str, words: list[Word], is_pub: bool) -> None:
         self.crate, self.module, self.owner, self.trait = scope.crate, scope.module, scope.owner, scope.trait
@@ -26,7 +26,7 @@ class Function:
         self.file, self.first, self.last = scope.file, words[0].line, words[-1].line
         self.block_from = scope.block_from
         self.head, self.has_body = heading(self.words), self.words[-1] == "}"
-        # (the line on which its body begins)
+        # (the line on which the function's body begins)
         self.opens = words[min(len(self.head), len(words) - 1)].line
         cycle = re.search(r"# \[ cycle \( (\w+)", " ".join(self.head))
         self.proof = "::".join([*self.module, f"+{cycle[1]}"]) if cycle else self.path
@@ -34,13 +34,13 @@ class Function:
 
     @property
     def path(self) -> str:
-        """Returns the function's name for readers, module::Owner::name."""
+        """Returns the function's name in the form for readers, module::Owner::name."""
         return "::".join([*self.module, *([self.owner] if self.owner else []), self.name])
 
     @property
     def checked_as(self) -> str:
-        """Returns the checker's name for it, without the crate. In the name of a trait's method, type and trait are one
-        word."""
+        """Returns the checker's name for the function, without the crate. In the name of a trait's method, the type and
+        the trait are joined into one word."""
         of_trait = "".join(it for it in self.impl_words if it != self.owner)
         owner = f"Ref{self.owner[:1].upper()}{self.owner[1:]}" if self.is_of_reference else self.owner
         inside = [owner + of_trait] if owner else []
@@ -48,19 +48,19 @@ class Function:
 
     @property
     def gives(self) -> bool:
-        """Returns whether it has a result, or writes through an argument."""
+        """Returns whether the function has a result, or writes through an argument."""
         text = " ".join(self.head)
         result = re.search(r"- > (?!\( \)$)", text)
         return bool(result or re.search(r"& (?:'\w+ )?mut ", text))
 
     @property
     def places(self) -> list[str]:
-        """Returns the possible beginnings of the checker's names for it and for its closures."""
+        """Returns the possible beginnings of the checker's names for the function and for its closures."""
         modules = [self.module] if self.trait else [self.home, self.module]
         return ["::".join([self.crate, *it, ""]) for it in modules]
 
     def is_named(self, symbol: str) -> bool:
-        """Returns whether a name in the checker's output means this function, or a closure in it."""
+        """Returns whether a name in the checker's output refers to this function, or to a closure in it."""
         at = next((it for it in self.places if symbol.startswith(it)), None)
         if at is None:
             return False
@@ -87,12 +87,13 @@ class TypeItem:
 
     @property
     def path(self) -> str:
-        """Returns the type's name for readers, module::Name."""
+        """Returns the type's name in the form for readers, module::Name."""
         return "::".join([*self.module, self.name])
 
 
 def parts_of(kind: str, texts: list[str]) -> list[str]:
-    """The variants of an enum or the public fields of a struct, spelled; of another type what it stands for."""
+    """Returns the text of each variant of an enum, or of each public field of a struct. For an alias returns the type
+    that it stands for."""
     if kind == "type":
         return [spelled(texts[texts.index("=") + 1 : -1])] if "=" in texts else []
     opens = next((at for at, it in enumerate(texts) if it in "{("), None)
@@ -133,7 +134,7 @@ def end_of_brackets(texts: list[str], at: int) -> int:
 
 
 def spelled(texts: list[str]) -> str:
-    """Words of a type as they are written on one line."""
+    """Joins the words of a type into one line with the usual spaces."""
     found = " ".join(texts)
     for old, new in ((" : :", "::"), (":: ", "::"), (" :", ":"), (" ,", ","), (" (", "("), ("( ", "("), (" )", ")"), (" <", "<"), ("< ", "<"),
                      (" >", ">"), ("& ", "&"), ("[ ", "["), (" ]", "]"), (" ;", ";"), (", }", " }"), (",)", ")")):
@@ -172,7 +173,7 @@ class Scope:
 
 
 def heading(words: list[str]) -> list[str]:
-    """Returns the words of a function before its body."""
+    """Returns the words of a function up to its body."""
     depth = 0
     for at, word in enumerate(words):
         depth += (word in "([") - (word in ")]")
@@ -194,7 +195,7 @@ class Text:
 
 
 def words_of(files: list[str]) -> dict[str, Text]:
-    """The words of each file, by its path; comments left out."""
+    """Returns the words of each file without comments, by the file's path. Ends the script if a file can't be read."""
     if not files:
         return {}
     ran = subprocess.run([rattle(), "fmt", "--tokens", *files], stdin=subprocess.DEVNULL, stdout=subprocess.PIPE)
@@ -208,7 +209,7 @@ def words_of(files: list[str]) -> dict[str, Text]:
         elif line:
             at, _, _, kind, told = line.split(" ", 4)
             text = json.loads(told)
-            # (a comment above a type of errors is a literal to the toolchain)
+            # (the toolchain treats a comment above an error type as a literal)
             if text.startswith("//"):
                 continue
             words.all.append((int(at), text))
@@ -238,7 +239,8 @@ def after(words: list[Word], at: int) -> int:
 
 
 def past_marks(words: list[Word], at: int) -> tuple[str, bool, int]:
-    """The attributes before an item, whether it is public, and the place of its first word."""
+    """Reads the attributes and marks before an item. Returns the attributes, whether the item is public, and the index
+    of its first word."""
     attributes = ""
     while at < len(words) and words[at].text == "#":
         start = at + 1 + (words[at + 1].text == "!")
@@ -254,7 +256,7 @@ def past_marks(words: list[Word], at: int) -> tuple[str, bool, int]:
 
 
 def item_end(words: list[Word], at: int) -> int:
-    """Returns the end of the item that begins with a word such as `fn`."""
+    """Returns the index after the last word of an item. The item's first word, such as `fn`, is at `at`."""
     while at < len(words):
         word = words[at].text
         at = after(words, at)
@@ -264,15 +266,15 @@ def item_end(words: list[Word], at: int) -> int:
 
 
 class Source:
-    """A crate's functions and constants, its public paths and what its modules bring out."""
+    """The functions, constants and types of a crate, and the paths by which other crates can reach them."""
 
     def __init__(self, crate: str) -> None:
         self.crate = crate
         self.functions: list[Function] = []
-        self.constants: dict[str, tuple[str, int, int]] = {}  # the file, the first line and the last
-        self.types: dict[str, tuple[Module, bool]] = {}  # the module, and whether it is public
-        self.models: dict[str, tuple[str, int, int]] = {}  # of a type: the file, the first line and the last
-        self.traits: dict[str, bool] = {}  # whether it is public
+        self.constants: dict[str, tuple[str, int, int]] = {}  # each constant's file, first line and last line
+        self.types: dict[str, tuple[Module, bool]] = {}  # each type's module, and whether the type is public
+        self.models: dict[str, tuple[str, int, int]] = {}  # the file, first line and last line of each type's model
+        self.traits: dict[str, bool] = {}  # whether each trait is public
         self.type_items: list[TypeItem] = []
         self.declared: set[tuple[Module, str]] = set()
         self.public_modules: set[Module] = {()}
@@ -308,7 +310,7 @@ class Source:
             at = end
 
     def item(self, words: list[Word], at: int, scope: Scope, is_pub: bool) -> None:
-        """Takes one item, whose first word (after its attributes and marks) is at a place."""
+        """Records an item, and the items inside it. Its first word, after attributes and marks, is at `at`."""
         word = words[at].text
         name = words[at + 1].text if at + 1 < len(words) else ""
         if word == "fn":
@@ -339,7 +341,7 @@ class Source:
             self.brought_out += [(scope.module, texts)] * is_pub
 
     def block(self, words: list[Word], at: int, scope: Scope) -> None:
-        """The functions of an impl or of a trait."""
+        """Records the functions of an `impl` or of a trait."""
         opens = next(i for i in range(at, len(words)) if words[i].text == "{")
         head = [it.text for it in words[at + 1 : opens]]
         head = head[: head.index("where")] if "where" in head else head
@@ -362,23 +364,24 @@ class Source:
         self.items(words[opens + 1 : -1], inner)
 
     def all_words(self, path: str, first: int = 0, last: int = 1 << 30) -> list[str]:
-        """The words between two lines of a file, contracts included."""
+        """Returns the words on these lines of a file, including the words of contracts."""
         text = self.texts.get(os.path.join(self.folder, path))
         return [word for line, word in text.all if first <= line <= last] if text else []
 
     def words_of(self, function: Function) -> list[str]:
-        """The words of a function, with a contract that is at it."""
+        """Returns the words of a function, including the words of a contract on its lines."""
         return self.all_words(function.file, function.first, function.last)
 
     def head_of_block(self, function: Function) -> list[str]:
-        """The words of the impl that a trait's method is in, up to its first method: what the trait means for the type."""
+        """Returns the words of the `impl` that contains a trait's method, up to its first method. They state the
+        meaning of the trait for the type. Returns no words for other functions."""
         if not function.trait:
             return []
         first = min(it.first for it in self.functions if (it.file, it.block_from) == (function.file, function.block_from))
         return self.all_words(function.file, function.block_from, first - 1)
 
     def model_of(self, owner: str) -> list[str]:
-        """The words of a type's model; none if it has none here."""
+        """Returns the words of a type's model, or no words if this crate doesn't define one."""
         return self.all_words(*self.models[owner]) if owner in self.models else []
 
     def is_public(self, module: Module, name: str) -> bool:
@@ -388,8 +391,8 @@ class Source:
         return any(brings(words, at, module, name) for at, words in self.brought_out if at in self.public_modules)
 
     def public_functions(self, traits: Iterable[str] = ()) -> list[Function]:
-        """Returns the functions that other crates can call, without tests, and the methods of these traits of other
-        crates."""
+        """Returns the functions that other crates can call, including methods of `traits` from other crates, but no
+        tests."""
         found, counted = [], {*traits, *self.traits}
         for function in self.functions:
             if function.is_test or not function.is_pub or not function.has_body:
@@ -397,7 +400,8 @@ class Source:
             if not function.owner:
                 is_seen = self.is_public(function.module, function.name)
             else:
-                # (a type of another crate is seen, since only a trait of this repository can have a method on it)
+                # (a type of another crate counts as public: it can only get a method through a trait of this
+                # repository)
                 is_own = function.owner in self.types
                 at, is_pub = self.types.get(function.owner, (function.module, False))
                 is_counted = not function.trait or function.trait in counted
@@ -406,11 +410,11 @@ class Source:
         return found
 
     def public_types(self) -> list[TypeItem]:
-        """Returns the types that other crates can use, without tests."""
+        """Returns the types that other crates can use, but no types of tests."""
         return [it for it in self.type_items if it.is_pub and not it.is_test and self.is_public(it.module, it.name)]
 
     def below(self) -> dict[str, set[str]]:
-        """Returns for each proof the proofs that it may depend on: it depends on each function that it can reach by
+        """Returns, for each proof, the proofs that it may depend on: the proofs of all functions that it can reach by
         name."""
         named: dict[str, set[str]] = {}
         for it in self.functions:
@@ -428,13 +432,14 @@ class Source:
         return found
 
     def proved_with(self, functions: Iterable[Function]) -> list[Function]:
-        """Returns the functions that share a proof with these. Functions that call each other have one proof."""
+        """Returns the functions that share a proof with one of these, including these. Functions that call each other
+        share a proof."""
         proofs = {it.proof for it in functions}
         return [it for it in self.functions if it.proof in proofs]
 
 
 def close_angle(words: list[str]) -> int:
-    """Returns the index after the angle bracket that closes the first word."""
+    """Returns the index after the `>` that closes the `<` at the beginning of these words."""
     depth = 0
     for at, word in enumerate(words):
         depth += (word == "<") - (word == ">" and words[at - 1] != "-")
@@ -444,7 +449,7 @@ def close_angle(words: list[str]) -> int:
 
 
 def parameters(generics: list[str]) -> list[str]:
-    """Returns the names that angle brackets declare, without bounds."""
+    """Returns the names that a list of generic parameters declares, without their bounds."""
     found, depth = [], 0
     for at, word in enumerate(generics):
         if depth == 1 and generics[at - 1] in ("<", ",", "const"):
@@ -454,7 +459,7 @@ def parameters(generics: list[str]) -> list[str]:
 
 
 def brings(words: list[str], at: Module, module: Module, name: str) -> bool:
-    """Returns whether the words of a `pub use` export this item of another module."""
+    """Returns whether a `pub use` with these words, in the module `at`, exports the item `name` of `module`."""
     words = [it for it in words if it != ":"]
     words = words[words[:1] in (["crate"], ["self"]) :]
     cut = words.index("{") if "{" in words else len(words) - 1

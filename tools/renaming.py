@@ -1,8 +1,7 @@
-"""Carries rows of tools/mutants.txt over a change of names.
-
-A row of a commit is kept if what it stands on there (tools/sums.py) has the same words now, except that names were exchanged for
-others: each for one other, the same in everything that any row stands on. So no row is kept if a name became two or two became one,
-and none in which anything else changed."""
+"""Keeps rows of tools/mutants.txt if only names have changed. A row of a commit is kept if everything that its verdict
+depends on (tools/sums.py) has the same words now, except that names were replaced. Each old name must have one new
+name, and each new name one old name, in everything that any row depends on. So no row is kept if one name became two,
+if two became one, or if anything else changed."""
 from __future__ import annotations
 
 import contextlib
@@ -20,12 +19,12 @@ import sums
 import verdicts
 
 NAME = re.compile(r"[^\W\d][\w']*$")
-Pairs = Set[Tuple[str, str]]  # old names with the new ones
+Pairs = Set[Tuple[str, str]]  # pairs of an old name and the new one
 
 
 @contextlib.contextmanager
 def sources_of(commit: str) -> Iterator[str]:
-    """A folder with a commit's files, which the scripts read in place of the repository."""
+    """Makes the scripts read a commit's files, in a temporary folder, during a `with` block."""
     own = {name: value for name, value in os.environ.items() if not name.startswith("GIT_")}
     words = ["git", "-c", f"safe.directory={common.TOP}", "-C", common.TOP, "archive", commit]
     top, crates = common.TOP, definitions.CRATES
@@ -46,7 +45,7 @@ def sources_of(commit: str) -> Iterator[str]:
 
 
 def pairs_of(old: List[sums.Part], new: List[sums.Part]) -> Optional[Pairs]:
-    """The names that stand at the same places; None if anything else differs."""
+    """Returns the pairs of an old and a new name at the same place. Returns None if anything except names differs."""
     found: Pairs = set()
     if [len(words) for _, words in old] != [len(words) for _, words in new]:
         return None
@@ -63,7 +62,7 @@ def pairs_of(old: List[sums.Part], new: List[sums.Part]) -> Optional[Pairs]:
 
 
 def torn(pairs: Pairs) -> Pairs:
-    """The pairs that aren't one name for one."""
+    """Returns the pairs in which a name has two new names, or two old ones."""
     news: Dict[str, Set[str]] = {}
     olds: Dict[str, Set[str]] = {}
     for was, now in pairs:
@@ -73,12 +72,13 @@ def torn(pairs: Pairs) -> Pairs:
 
 
 def renamed(verdict: str, names: Dict[str, str]) -> str:
-    """A verdict with the new names in its goal and function."""
+    """Returns a verdict with the new names in its goal and its function."""
     return re.sub(r"[^\W\d]\w*", lambda it: names.get(it[0], it[0]), verdict) if " of " in verdict else verdict
 
 
 def keep_rows(commit: str, mutants: verdicts.Mutants) -> int:
-    """Keeps the rows of a commit in which nothing but names changed; returns 1 if a stale row remains."""
+    """Keeps the rows of a commit in which only names have changed, and writes them. Returns 1 if a stale row remains,
+    otherwise 0."""
     with sources_of(commit) as folder:
         before = verdicts.Mutants(os.path.join(folder, "tools", "mutants.txt"))
     both = [it for it in mutants.edits if it in before.edits]

@@ -1,11 +1,11 @@
 #!/usr/bin/env python3
-"""The rooms of crates.txt and the life of a message, drawn for docs/ARCHITECTURE.md.
+"""Draws the rooms of crates.txt and the life of a message for docs/ARCHITECTURE.md.
 
-  tools/rooms.py           draws the rooms from crates.txt and writes them into the page, and makes the page's two pictures
+  tools/rooms.py           draws the rooms from crates.txt, writes them into the page, and draws the page's two pictures
 
-The picture of the rooms shows what the page's text lists, and the picture of a message the rows of the page's block. A room is a
-heading of crates.txt, `# NAME: TEXT`, with the crates below it. It rests on the rooms whose crates its own crates use. The
-picture shows the nearest ones: not a room on which another of them also rests."""
+The picture of the rooms shows the same as the page's text. The picture of a message shows the rows of the page's block.
+A room is a heading of crates.txt, `# NAME: TEXT`, with the crates below it. It depends on the rooms of the crates that
+its own crates use. The picture shows only the nearest of these rooms, on which no other one of them depends."""
 from __future__ import annotations
 
 import os
@@ -21,7 +21,7 @@ PAGE = os.path.join(common.TOP, "docs", "ARCHITECTURE.md")
 PICTURE = re.compile(r"(## The rooms\n\n```\n).*?(```\n)", re.S)
 STEPS = re.compile(r"(## The life of a message\n\n```\n)(.*?)(```\n)", re.S)
 PICTURES = os.path.join(common.TOP, "docs", "pictures")
-# the sizes of a box and of the room for one
+# the size of a box, and the size of the cell that contains it
 BOX, CELL = (202, 50), (218, 84)
 
 
@@ -58,13 +58,14 @@ def all_below(name: str, named: dict[str, list[str]]) -> set[str]:
 
 
 def nearest(named: dict[str, list[str]]) -> dict[str, list[str]]:
-    """Returns the names on which each name rests, without names on which another of these also rests."""
+    """Returns the names that each name rests on directly: names on which another one of them also rests are left
+    out."""
     below = {name: all_below(name, named) for name in named}
     return {name: [it for it in given if not any(it in below[other] for other in given)] for name, given in named.items()}
 
 
 def rooms_below(rooms: list[Room]) -> dict[str, list[str]]:
-    """The rooms that each room's crates name, highest first."""
+    """Returns, for each room, the rooms that its crates use, highest first."""
     libraries = common.libraries()
     room_of = {crate: room.name for room in rooms for crate in room.crates}
     order = [room.name for room in reversed(rooms)]
@@ -73,7 +74,8 @@ def rooms_below(rooms: list[Room]) -> dict[str, list[str]]:
 
 
 def draw() -> str:
-    """Returns the picture: a line for each room except the tests', highest first, with the nearest rooms on which it rests."""
+    """Returns the picture of the rooms as text. It has a line for each room except the tests', highest first, with the
+    nearest rooms on which it rests."""
     rooms = read_rooms()
     arrows = nearest(rooms_below(rooms))
     shown = [room for room in reversed(rooms) if room.name != "tests"]
@@ -88,14 +90,15 @@ def draw() -> str:
 
 
 def halves(text: str) -> list[str]:
-    """A text on one line if it fits into a box, otherwise on two of about the same length."""
+    """Splits a text into two lines of about the same length, unless it fits into a box on one line."""
     words = text.split()
     cut = min(range(1, len(words) + 1), key=lambda at: max(len(" ".join(words[:at])), len(" ".join(words[at:]))))
     return [text] if len(text) <= 28 else [" ".join(words[:cut]), " ".join(words[cut:])]
 
 
 def picture_of_rooms() -> str:
-    """The rooms as boxes, each with an arrow to the nearest rooms that it rests on."""
+    """Draws the rooms as boxes, each with an arrow to the nearest rooms on which it rests. Returns the picture as
+    SVG."""
     rooms = [room for room in read_rooms() if room.name != "tests"]
     arrows = {name: lower for name, lower in nearest(rooms_below(read_rooms())).items() if name != "tests"}
     places = layers.placed(arrows)
@@ -118,12 +121,14 @@ def picture_of_rooms() -> str:
 
 
 def steps_of(page: str) -> list[list[str]]:
-    """The rows of the page's block on a message: what arrives, the function that takes it, its crate, and what it does."""
+    """Returns the rows of the page's block about a message. Each row contains the arriving data, the function that
+    handles it, its crate, and its effect."""
     return [re.split(r" +──► | {2,}", line) for line in common.match_of(STEPS.pattern, page, STEPS.flags)[2].splitlines()]
 
 
 def picture_of_message(page: str) -> str:
-    """The life of a message, from top to bottom: a box for each step, with what arrives there."""
+    """Draws the life of a message from top to bottom: a box for each step, with the data that arrives there. Returns
+    the picture as SVG."""
     rows = steps_of(page)
     width, step = 760, 62
     drawn = Picture(width, len(rows) * step + 26, "The life of a message, from bytes to bytes")

@@ -23,7 +23,7 @@ import common
 import package
 from common import TOP, match_of
 
-# each path with its mode, its owner, its group and a sum over a file's bytes or a link's target
+# each path with its mode, its owner, its group, and a file's checksum or a link's target
 State = Dict[str, Tuple[str, int, int, Optional[str]]]
 SUITES = ["bookworm", "trixie"]
 MIRROR = "http://deb.debian.org/debian"
@@ -46,7 +46,7 @@ def ran(words: list[str], **named: str) -> str:
 
 
 def inside(root: str, line: str) -> str:
-    """Runs a line of a shell in a root."""
+    """Runs a shell command in a root, and returns its output."""
     return ran(["chroot", root, "sh", "-e", "-c", line])
 
 
@@ -79,7 +79,8 @@ def same_state(root: str, before: State, what: str) -> None:
 
 
 def make_releases(folder: str) -> dict[str, list[str]]:
-    """Packs two releases, the second with another page, a file less and a file more: for each its Debian package and its archive."""
+    """Packs two releases. The second one has a changed page, lacks one file of the first, and has a new one. Returns,
+    for each release, its Debian package and its archive."""
     releases = {}
     for name in ("first", "second"):
         os.environ["BUILD_VERSION"] = f"{package.version()}~{name}"
@@ -96,7 +97,8 @@ def make_releases(folder: str) -> dict[str, list[str]]:
 
 
 def need_second(usr: str) -> None:
-    """Stops unless the files of the second release are in this folder, and none that only the first has."""
+    """Ends the script unless this folder contains the files of the second release, and none that only the first release
+    has."""
     with open(os.path.join(usr, PAGE), "rb") as file:
         is_replaced = file.read().endswith(ADDED)
     if not is_replaced or os.path.exists(os.path.join(usr, DROPPED)) or not os.path.exists(os.path.join(usr, NEW)):
@@ -115,7 +117,7 @@ def works(root: str, usr: str) -> None:
 
 
 def install_package(root: str, deb: str) -> str:
-    """Installs a Debian package in a root, runs what it has, and returns its version."""
+    """Installs a Debian package in a root, runs its program and scripts, and returns its version."""
     shutil.copy(deb, os.path.join(root, "tmp"))
     inside(root, f"apt-get install -y --no-install-recommends ./tmp/{os.path.basename(deb)}")
     version = inside(root, "dpkg-query -W -f '${Version}' ob0")
@@ -140,20 +142,21 @@ def try_debian(root: str, releases: dict[str, list[str]]) -> None:
 
 
 def try_piuparts(suite: str, base: str, deb: str) -> None:
-    """The tests of piuparts: a package that is installed, removed and purged leaves no file, link or process, and changes none."""
+    """Runs piuparts if it is installed. It tests that a package which is installed, removed and purged leaves no file,
+    link or process, and changes none."""
     if not shutil.which("piuparts"):
         print("  piuparts is missing: it wasn't run", flush=True)
         return
     # (no archive of Debian has an earlier version, so the upgrade is tried above)
     words = ["piuparts", "--distribution", suite, "--mirror", f"{MIRROR} main", "--existing-chroot", base, "--no-upgrade-test"]
-    # (debconf makes this folder when it configures the first package, which python3 brings)
+    # (debconf creates this folder when the first package is configured, a dependency of python3)
     ignored = ["--ignore-regex", r"/var/cache/debconf/tmp\.ci/?$"]
     said = ran([*words, "--warn-on-debsums-errors", *ignored, deb])
     print(f"  piuparts: {said.strip().splitlines()[-1].partition(': ')[2]}", flush=True)
 
 
 def readme_lines() -> tuple[str, str]:
-    """README's lines that unpack the archive, and the one that takes it away."""
+    """Returns two commands from README: the one that unpacks the archive, and the one that removes it."""
     with open(os.path.join(TOP, "README.md"), encoding="utf-8") as file:
         page = file.read()
     umask, unpack, take_away = (match_of(rf"^    (.*{word}.*)$", page, re.M)[1].partition("  #")[0] for word in ("umask", "sudo tar", "xargs"))
@@ -161,8 +164,8 @@ def readme_lines() -> tuple[str, str]:
 
 
 def try_archive(root: str, releases: dict[str, list[str]]) -> None:
-    """Tries the archives in /usr/local, with folders of unusual modes and owners: unpacks the first release, unpacks
-    the second over it, and removes that in both ways."""
+    """Tries the archives in /usr/local, in which some folders have unusual modes and owners. Unpacks the first release
+    and then the second over it, and removes that in both ways."""
     unpack, take_away = readme_lines()
     inside(root, "chgrp staff /usr/local/bin /usr/local/share; chmod 2775 /usr/local/bin /usr/local/share; mkdir -p /usr/local/share/doc/other")
     before, local = state(root), os.path.join(root, "usr", "local")
@@ -208,7 +211,7 @@ def try_suite(suite: str, folder: str, releases: dict[str, list[str]]) -> None:
     if not os.path.isdir(base):
         print(f"making a root of {suite}", flush=True)
         ran(["debootstrap", "--variant=minbase", suite, base, MIRROR])
-    # (a root that is thrown away needs no file on the disk before the next)
+    # (a root that is thrown away needn't be flushed to the disk)
     with open(os.path.join(base, "etc", "dpkg", "dpkg.cfg.d", "unsafe-io"), "w", encoding="ascii") as settings:
         settings.write("force-unsafe-io\n")
     with open(os.path.join(base, "etc", "debian_version"), encoding="ascii") as file:

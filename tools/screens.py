@@ -26,14 +26,15 @@ EXAMPLE = os.path.join(common.TOP, "examples", "Search.mod")
 PICTURE = os.path.join(common.TOP, "docs", "pictures", "editor.svg")
 COLUMNS, ROWS = 80, 13
 WIDTH, HEIGHT, SIZE, EDGE, TITLE = 8.4, 18, 14, 14, 26
-SECONDS = 120  # the longest that a screen is waited for
-# a terminal's sixteen colours, its background and its ink: they are the picture's own, on light screens and on dark ones
+SECONDS = 120  # the longest time to wait for a screen
+# a terminal's sixteen colours, its background and its text colour; the picture has them on light and on dark screens
 NAMED = "484f58 ff7b72 3fb950 d29922 58a6ff bc8cff 39c5cf b1bac4 6e7681 ffa198 56d364 e3b341 79c0ff d2a8ff 56d4dd ffffff".split()
 PAPER, INK = "#0d1117", "#e6edf3"
 
 
 class Scene(NamedTuple):
-    """A scene: what the picture says above it, the keys that are pressed one after another, and what the screen shows then."""
+    """A scene of the picture: the title above it, the keys to press one after another, and a text that the screen shows
+    at the end."""
 
     title: str
     keys: List[str]
@@ -48,7 +49,7 @@ SCENES = [
         "would refer to another",
     ),
 ]
-# (ob0's files as they are in the repository, the keys of their page, and a screen without what differs from run to run)
+# (ob0's files from the repository, the keys from their page, and a screen without parts that change between runs)
 SETTINGS = """
 set nocompatible noswapfile shortmess=aoOtTIWAFc laststatus=0 noruler noshowcmd signcolumn=yes number scrolloff=0 background=dark shada=
 set noshowmode nowrap guicursor=
@@ -62,8 +63,8 @@ nnoremap grn <Cmd>lua vim.lsp.buf.rename()<CR>
 
 
 class Style(NamedTuple):
-    """How a letter is written: its colour, the one behind it and the one of a line below (None: the terminal's); whether it is bold,
-    underlined or turned."""
+    """The style of a letter: its colour, its background and the colour of its underline (or None for the terminal's own
+    colour), and whether it is bold, underlined or shown in reverse colours."""
 
     colour: Optional[str] = None
     behind: Optional[str] = None
@@ -74,7 +75,7 @@ class Style(NamedTuple):
 
 
 def colour_of(index: int) -> str:
-    """Returns one of a terminal's 256 colours."""
+    """Returns the colour with this number among a terminal's 256 colours."""
     if index < 16:
         return "#" + NAMED[index]
     if index >= 232:
@@ -84,7 +85,7 @@ def colour_of(index: int) -> str:
 
 
 def taken(style: Style, codes: list[int]) -> Style:
-    """Returns the style after a sequence of colour codes."""
+    """Returns the style after a sequence of colour codes, if `style` is the style before it."""
     while codes:
         code, *codes = codes
         if code in (38, 48, 58):
@@ -92,7 +93,7 @@ def taken(style: Style, codes: list[int]) -> Style:
                 colour, codes = colour_of(codes[1]), codes[2:]
             else:
                 colour, codes = "#" + "".join(f"{it:02x}" for it in codes[1:4]), codes[4:]
-            # (58 is the colour of the line below)
+            # (58 sets the colour of the underline)
             style = {38: style._replace(colour=colour), 48: style._replace(behind=colour), 58: style._replace(under=colour)}[code]
         elif code == 0:
             style = Style()
@@ -113,7 +114,7 @@ Run = Tuple[Style, str]
 
 
 def runs_of(line: str, style: Style) -> tuple[list[Run], Style]:
-    """The stretches of a line that are written in one style, and the style at its end."""
+    """Splits a screen's line into parts with one style each. Also returns the style at the end of the line."""
     found: list[Run] = []
     for text, codes in re.findall(r"([^\x1b]*)(?:\x1b\[([0-9;:]*)m|\x1b.|$)", line):
         if text:
@@ -124,7 +125,7 @@ def runs_of(line: str, style: Style) -> tuple[list[Run], Style]:
 
 
 def draw_screen(drawn: Picture, screen: str, top: float) -> None:
-    """Draws a screen of a terminal below a height."""
+    """Draws a terminal's screen into a picture, from the height `top` downwards."""
     style = Style()
     for row, line in enumerate(screen.split("\n")[:ROWS]):
         runs, style = runs_of(line, style)
@@ -146,7 +147,7 @@ def draw_screen(drawn: Picture, screen: str, top: float) -> None:
 
 
 def picture_of(screens: list[str], version: str) -> str:
-    """The picture: each scene's title and its screen, one below the other."""
+    """Returns the picture as SVG: the title and the screen of each scene, one below the other."""
     width, height = COLUMNS * WIDTH + 2 * EDGE, len(screens) * (TITLE + ROWS * HEIGHT + 12) + 6
     drawn = Picture(width, height, f"ob0 in {version}: " + "; ".join(it.title for it in SCENES))
     drawn.add("style", f".terminal{{font-family:{MONO};white-space:pre}}")
@@ -159,10 +160,10 @@ def picture_of(screens: list[str], version: str) -> str:
 
 
 class Terminal:
-    """Neovim in a terminal of tmux, with a separate home."""
+    """Neovim in a tmux terminal, with a separate home folder."""
 
     def __init__(self, room: str) -> None:
-        # (each has its own server: one that is told to end may still answer the next)
+        # (each terminal has its own tmux server, because a server that is ending may still answer the next one)
         self.words = ["tmux", "-S", os.path.join(room, "tmux"), "-f", "/dev/null"]
         work, settings = os.path.join(room, "work"), os.path.join(room, "settings.vim")
         os.mkdir(work)
@@ -186,7 +187,8 @@ class Terminal:
         return self.run("capture-pane", "-e", "-p")
 
     def wait(self, text: str) -> str:
-        """The screen once it shows a text and has stayed the same for a second."""
+        """Waits until the screen shows this text and hasn't changed for a second, and returns the screen. Ends the
+        script after SECONDS."""
         end, last, since = time.monotonic() + SECONDS, "", time.monotonic()
         while time.monotonic() < end:
             found = self.screen()
@@ -205,13 +207,13 @@ class Terminal:
 
 
 def version() -> str:
-    """Returns "Neovim" and its version."""
+    """Returns "Neovim" followed by its version."""
     said = subprocess.run(["nvim", "--version"], stdout=subprocess.PIPE, check=True).stdout.decode()
     return "Neovim " + common.match_of(r"v(\d+\.\d+\.\d+)", said)[1]
 
 
 def played() -> list[str]:
-    """Returns the screen of each scene, each in a new editor."""
+    """Plays each scene in a new editor, and returns their last screens."""
     screens = []
     for scene in SCENES:
         with tempfile.TemporaryDirectory() as room:

@@ -30,15 +30,15 @@ REST = os.path.join(TOP, "bin", "DEFINITIONS.md")
 SECOND = "<!-- page bin/DEFINITIONS.md -->"
 
 Key = Tuple[str, str, str]  # a crate, a file and a name
-Size = Tuple[int, int]  # how many words, and how many lines
+Size = Tuple[int, int]  # a number of words, and a number of lines
 
-# ---- what isn't in the template
+# ---- data that isn't in the template
 
-# (the meanings of values of the code: the second page shows them last, though the theorem uses them)
+# (definitions about values of the code: the second page shows them last, although the theorem uses them)
 LATE: list[Key] = [("ob0_world", "ModelValues", name) for name in ("model_event_of", "played_edits", "played_publications")]
 LATE += [("ob0_session", "ServeResults", name) for name in ("IsReadInPieces", "UsesAllReads", "max_reads", "LeavesWriterFlushed")]
 LATER: list[Key] = [("ob0_scan", "LexemeClasses", name) for name in ("reserved_word_text", "symbol_text")]
-# (types of the code in them)
+# (the types of the code in these definitions)
 LATER_TYPES = [("ob0_scan", "lexeme", "ReservedWord"), ("ob0_scan", "lexeme", "Symbol")]
 # (the first definitions of the part on edits)
 EDITS: list[Key] = [("ob0_world_rules", "Answers", name) for name in ("AreRequestedEdits", "ServerRefusesAsk")]
@@ -58,7 +58,7 @@ WIDTH = 100
 
 
 class Part(NamedTuple):
-    """A section of a page: its heading, and the lines under it."""
+    """A section of a page: its heading, and the template's lines below it."""
 
     title: str
     lines: list[str]
@@ -69,7 +69,7 @@ CONTRACT = re.compile(r"\{law (\w+)/(\w+) (\w+)\}$")
 
 
 class Template:
-    """The prose of both pages, and the explanations of names."""
+    """The template of both pages, with the explanations of names."""
 
     def __init__(self, text: str) -> None:
         pages, _, tables = text.partition("<!-- words -->\n")
@@ -78,7 +78,7 @@ class Template:
         self.tables = {name: rows_of(rows) for name, rows in re.findall(r"^<!-- table (\w+) -->\n((?:.*\n)*?)(?=^<!-- table|\Z)", tables, re.M)}
 
     def keys(self, parts: Iterable[Part]) -> list[Key]:
-        """The definitions that some parts show, in order."""
+        """Returns the definitions that some sections show, in order."""
         found: list[Key] = []
         for line in (line for part in parts for line in part.lines):
             at = DIRECTIVE.match(line)
@@ -87,12 +87,13 @@ class Template:
         return found
 
     def contracts(self, parts: Iterable[Part]) -> list[Key]:
-        """The contracts that some parts show, in order."""
+        """Returns the contracts that some sections show, in order."""
         found = [CONTRACT.match(line) for part in parts for line in part.lines]
         return [(at[1], at[2], at[3]) for at in found if at]
 
     def kind(self, part: Part) -> str:
-        """Returns which part of the second page's definitions a section contains, or nothing."""
+        """Returns the name of the second page's part whose definitions a section contains, or "" if it contains
+        none."""
         found = [at[2] for at in map(DIRECTIVE.match, part.lines) if at and at[1] == "part"]
         return found[0] if found else ""
 
@@ -103,13 +104,13 @@ def sections_of(text: str) -> list[Part]:
 
 
 def rows_of(text: str) -> list[list[str]]:
-    """The rows of a table without its head."""
+    """Returns the rows of a Markdown table, without its head, as lists of cells."""
     rows = [[cell.strip() for cell in re.split(r"(?<!\\)\|", line)[1:-1]] for line in text.splitlines() if line.startswith("|")]
     return [[cell.replace("\\|", "|") for cell in row] for row in rows[2:]]
 
 
 def shown_by(words: str) -> list[Key]:
-    """The definitions of a line of the template: `CRATE/FILE: NAME NAME; CRATE/FILE: NAME`."""
+    """Parses the list of definitions in a directive of the template: `CRATE/FILE: NAME NAME; CRATE/FILE: NAME`."""
     found: list[Key] = []
     for piece in words.split(";"):
         place, _, names = piece.strip().partition(": ")
@@ -126,7 +127,7 @@ def source(crate: str, module: str) -> list[str]:
 
 
 def contract(crate: str, module: str, name: str) -> list[str]:
-    """Returns the contract of a function without indent, with the first paragraph of its comment."""
+    """Returns the lines of a function's contract without indentation, below the first paragraph of its comment."""
     text = source(crate, module)
     at = next(i for i, line in enumerate(text) if re.search(rf"\bfn {name}\b[(<]", line))
     first = at
@@ -138,7 +139,7 @@ def contract(crate: str, module: str, name: str) -> list[str]:
 
 
 def roots(sources: Sources, functions: Iterable[tuple[str, str, str]]) -> list[Item]:
-    """Returns the definitions and types in the clauses of these functions."""
+    """Returns the definitions and types that the contracts of these functions mention."""
     found: list[Item] = []
     for crate, module, name in functions:
         uses = File.__new__(File)
@@ -157,14 +158,15 @@ def roots(sources: Sources, functions: Iterable[tuple[str, str, str]]) -> list[I
 
 
 class Group:
-    """Definitions of one file, or types of the code of one crate, from the top down."""
+    """Definitions of one file, or types of one crate's code, each before everything that it uses."""
 
     def __init__(self, crate: str, file: File | None, items: list[Any]) -> None:
         self.crate, self.file, self.items = crate, file, items
         self.place: int | None = None  # the number of its part, if an earlier group has definitions of this file
 
     def rule(self) -> str | None:
-        """Returns the rules of docs/LANGUAGE.md that the file states, according to its first lines."""
+        """Returns the rules of docs/LANGUAGE.md that the file states, according to its first comment, or None if it
+        mentions none."""
         found = re.search(r"Rule: (?:.*; )?docs/LANGUAGE\.md, ([^;]*?)\.?$", self.file.title) if self.file else None
         return found[1] if found else None
 
@@ -174,8 +176,8 @@ class Group:
         return f"{self.rule()}: {name}" if by_rule and self.rule() else name
 
     def section(self) -> int:
-        """Returns the position of its section of docs/LANGUAGE.md. A group without a section is first, types of the
-        code are last."""
+        """Returns the position of the group's section of docs/LANGUAGE.md. Groups without a section come first, and
+        types of the code last."""
         if self.file is None:
             return len(SECTIONS)
         if not self.crate.startswith(("ob0_language", "ob0_scan", "ob0_tree")):
@@ -187,7 +189,7 @@ class Group:
 
 
 def kind_of(item: Item) -> str:
-    """Which part of the second page an item is in that the theorem needs."""
+    """Returns the name of the second page's part that contains an item, if the theorem needs the item."""
     crate, file = (item.crate, None) if isinstance(item, Declared) else (item.file.crate, item.file.name)
     if crate == "ob0_text" or (crate, file) == ("ob0_world_rules", "TextEdits"):
         return "texts"
@@ -197,7 +199,8 @@ def kind_of(item: Item) -> str:
 
 
 def by_file(items: Iterable[Item], needs: Callable[[Block], list[Item]]) -> list[Group]:
-    """Items, which come in an order in which what is needed comes first, as groups from the top down."""
+    """Groups items by file or crate. The items come in an order in which each follows everything that it uses; in the
+    result each precedes it."""
     files: dict[File, list[Block]] = {}
     types: dict[str, list[Declared]] = {}
     for item in items:
@@ -226,12 +229,13 @@ def by_file(items: Iterable[Item], needs: Callable[[Block], list[Item]]) -> list
 
 
 def is_derived(block: Block) -> bool:
-    """Returns whether a definition is anything except a type without arguments. Such types are first in their group."""
+    """Returns whether a definition isn't a type without arguments. Types without arguments come first in their
+    group."""
     return not re.match(r"^(?:pub )?(?:record|data) \w+ : Type", block.code[0])
 
 
 class Page:
-    """Both pages: their definitions, the names of these there, and their lines."""
+    """Both pages: their definitions, the names of these on the pages, and the text of the pages."""
 
     def __init__(self, template: Template) -> None:
         self.template, self.sources = template, Sources()
@@ -240,11 +244,11 @@ class Page:
         self.later = {self.named(key): key for key in LATER}
         self.first = [self.named(key) for key in template.keys(template.first)]
         self.groups = self.grouped()
-        self.homes: dict[Item, str] = {}  # the heading that an item is under
+        self.homes: dict[Item, str] = {}  # the heading above each item
         self.on_first: set[int] = set()  # the items of the first page, by identity
-        self.names: dict[tuple[Item, str], str] = {}  # the name that it has on the pages
+        self.names: dict[tuple[Item, str], str] = {}  # the name on the pages of each name that an item defines
         self.give_names()
-        self.notes: dict[object, list[str]] = {}  # the explanations under a definition or a contract
+        self.notes: dict[object, list[str]] = {}  # the explanations below each definition or contract
         self.believed = {names: says for names, says in tables["believed"]}
         self.place_notes()
 
@@ -279,7 +283,7 @@ class Page:
         return found
 
     def give_names(self) -> None:
-        """Sets each item's heading, and a unique name for each definition on the pages."""
+        """Sets the heading of each item, and gives each definition a name that is unique on the pages."""
         taken: set[str] = set()
         headings: set[str] = set()
         for part in self.template.first:
@@ -304,7 +308,7 @@ class Page:
                 self.names[item, item.name] = f"code.{item.name}" if item.name in taken else item.name
 
     def number(self, kind: str) -> int:
-        """Returns the number of the second page's part with these definitions."""
+        """Returns the number of the part of the second page that contains this kind of definitions."""
         title = next(part.title for part in self.template.second if self.template.kind(part) == kind)
         return int(common.match_of(r"Part (\d+)", title)[1])
 
@@ -319,7 +323,7 @@ class Page:
     # ---- names
 
     def shown(self, file: File, word: str) -> str:
-        """Returns a word of a definition in its form on the page."""
+        """Returns a word of a definition in the form in which the page shows it."""
         head, _, rest = word.partition(".")
         if word in file.named:
             return self.names.get((file.named[word], word), word)
@@ -336,7 +340,7 @@ class Page:
         return word
 
     def imported(self, module: str, name: str, word: str) -> str:
-        """Returns a module's name in its form on the page."""
+        """Returns a module's name in the form in which the page shows it."""
         item = self.sources.resolve(module, name) if ".declared." in module else self.sources.resolve(module, name.split(".")[0])
         if isinstance(item, Declared):
             shown = self.names.get((item, item.name), item.name)
@@ -346,7 +350,7 @@ class Page:
         return word if own is None or own == first and "." not in word else own + (f".{rest}" if rest else "")
 
     def code_of(self, block: Block) -> list[str]:
-        """Returns the lines of a definition with the page's names; a field keeps its own."""
+        """Returns the lines of a definition with the page's names. Fields keep their own names."""
         found = []
         for line in block.code:
             code, dashes, comment = line.partition("--")
@@ -358,11 +362,11 @@ class Page:
         return filled(found)
 
     def lines_of(self, item: Item) -> list[str]:
-        """The lines of a definition as the page has them."""
+        """Returns the lines of a definition, or of a type of the code, in the form in which the page shows them."""
         return self.code_of(item) if isinstance(item, Block) else side_by_side(item.code)
 
     def in_words(self, file: File, code: str) -> str:
-        """Returns code with the page's names. An operator with another one's name gets a stroke."""
+        """Returns code with the page's names. An operator gets a stroke (') if another operator has its name."""
         code = WORD.sub(lambda at: self.shown(file, at[0]), code)
         for name in {f"◌{sign}◌" for sign in OPERATOR.findall(code)}:
             item = self.sources.look_up(file, name)
@@ -391,8 +395,8 @@ class Page:
         return ["```agda", *between(shown), "```", ""]
 
     def place_notes(self) -> None:
-        """Puts each explanation below the first definition that uses its name. Stops if a name has none, or doesn't
-        exist."""
+        """Puts each explanation below the first definition that uses its name. Ends the script if a name without a
+        definition has no explanation, or if an explained name doesn't exist."""
         by_name = {shown: item for (item, _), shown in self.names.items()}
         lost = [name for names in self.believed for name in names.split(", ") if name not in by_name]
         if lost:
@@ -419,7 +423,7 @@ class Page:
             common.stop(f"nothing of the first page names {', '.join({*self.believed} - noted)}")
 
     def first_named(self) -> list[tuple[object, list[Item]]]:
-        """Returns the contracts (by name) and the definitions of the first page in order, each with the items that it
+        """Returns the contracts (as names) and the definitions of the first page in order, each with the items that it
         uses."""
         found: list[tuple[object, list[Item]]] = []
         for part in self.template.first:
@@ -429,13 +433,14 @@ class Page:
 
     def contract_lines(self, key: Key, on_first: bool) -> list[str]:
         lines = contract(*key)
-        # (a law's definition has the same comment)
+        # (the definition of a law has the same comment)
         if on_first and key[1] == "laws":
             lines = [line for line in lines if not line.startswith("///")]
         return lines + (noted("//", self.notes.get(key[2], [])) if on_first else [])
 
     def elsewhere(self, items: Iterable[Block], heading: str, named: Iterable[Item] = ()) -> list[str]:
-        """Returns links to the definitions of other groups that these use, and to `named`."""
+        """Returns a line of links to the items in `named` and to those that these definitions use, unless an item is
+        under the same heading."""
         needs = [need for item in items for need in self.needs(item)]
         found = {need: 0 for need in [*named, *needs] if self.homes.get(need, heading) != heading}
         links = []
@@ -454,12 +459,12 @@ class Page:
         return [need for need in self.sources.needs(block) if need in found]
 
     def items_of(self, part: Part) -> list[Item]:
-        """The definitions of a section of either page."""
+        """Returns the definitions in a section of either page."""
         kind = self.template.kind(part)
         return [self.named(key) for key in self.template.keys([part])] + [item for group in self.groups.get(kind, []) for item in group.items]
 
     def lines(self, part: Part, on_first: bool) -> list[str]:
-        """A section of a page as it is written."""
+        """Returns the lines of a section, with each directive of the template replaced."""
         out: list[str] = []
         for line in part.lines:
             directive, law = DIRECTIVE.match(line), CONTRACT.match(line)
@@ -472,7 +477,7 @@ class Page:
         return out
 
     def directive(self, word: str, rest: str, part: Part) -> list[str]:
-        """The lines that stand for a directive of the template, without an empty line at their end."""
+        """Returns the lines that replace a directive of the template, without an empty line at their end."""
         if word == "definitions":
             found = self.fenced(self.named(key) for key in shown_by(rest))
         elif word == "part":
@@ -488,7 +493,8 @@ class Page:
         return found[:-1] if found and not found[-1] else found
 
     def homes_of_believed(self) -> list[str]:
-        """Returns the files of the definitions that the first page uses without showing them."""
+        """Returns a list of files whose definitions the first page uses without showing them, each with the names of
+        these definitions."""
         by_file: dict[str, list[str]] = {}
         for _, needs in self.first_named():
             for need in needs:
@@ -497,7 +503,7 @@ class Page:
                     name = self.names[need, need.names[0]]
                     if name not in by_file.setdefault(place, []):
                         by_file[place].append(name)
-        # (a package has no crates, so these are no links)
+        # (these aren't links, because a package doesn't contain the crates)
         items = [f"{place}: {', '.join(f'`{it}`' for it in names)}" for place, names in sorted(by_file.items())]
         return listed(items)
 
@@ -518,7 +524,7 @@ class Page:
         contains."""
         lines = self.counts(self.items_of(part))[1]
         lines += sum(read_of(["```", *contract(*key)])[1] for key in self.template.contracts([part]))
-        # (any time has as many words)
+        # (every time in place of {first} has the same number of words)
         return read_of(line.replace("{first}", "at most 0 minutes") for line in self.lines(part, True))[0], lines
 
     def first_size(self) -> Size:
@@ -549,14 +555,14 @@ class Page:
         return rows
 
     def left_out(self) -> str:
-        """Returns the definitions that are in no sum."""
+        """Returns the number of definitions that aren't in any sum, and of their lines, in words."""
         many, lines = self.counts(self.uncounted)
         return f"{many} definitions ({lines} lines)"
 
     # ---- the pages
 
     def text(self) -> str:
-        """The first page."""
+        """Returns the text of docs/STATEMENT.md. Ends the script if reading it takes more than FIRST_TAKES minutes."""
         size = self.first_size()
         if minutes(size) > FIRST_TAKES:
             common.stop(f"docs/STATEMENT.md takes {minutes(size)} minutes, and not {FIRST_TAKES}: {size[0]} words, {size[1]} lines")
@@ -564,7 +570,7 @@ class Page:
         return "\n".join(out).rstrip() + "\n"
 
     def second_text(self) -> str:
-        """The second page."""
+        """Returns the text of bin/DEFINITIONS.md."""
         out: list[str] = []
         for part in self.template.second:
             size = self.size_words(part) if self.template.kind(part) else ""
@@ -580,12 +586,13 @@ class Page:
 
 NAMED, NOTATION = "Named and not unfolded", "The notation"
 HEAD_OF_NAMES = ["| Name | What it says | File or part |", "|---|---|---|"]
-# (after which parts the table has a sum)
+# (the parts after which the table has a sum)
 SUMS = {"wire": "Without the language", "language": "With the language"}
 
 
 def filled(lines: list[str]) -> list[str]:
-    """Returns a type that has one part a line in the sources, in as few lines as possible."""
+    """Joins lines of a type that has one part on each line in the sources, so that it takes as few lines as
+    possible."""
     found: list[str] = []
     for line in lines:
         part = re.match(r"^\s+→ .*", line)
@@ -599,7 +606,7 @@ def filled(lines: list[str]) -> list[str]:
 
 
 def side_by_side(lines: list[str]) -> list[str]:
-    """Returns a type of the code with its cases that are only names on shared lines."""
+    """Joins successive lines of an enum that contain only a name, so that the variants share lines."""
     found: list[str] = []
     for line in lines:
         name = re.match(r"^    [A-Z]\w*,$", line)
@@ -612,8 +619,8 @@ def side_by_side(lines: list[str]) -> list[str]:
 
 
 def read_of(text: Iterable[str]) -> Size:
-    """Returns how many words a text contains, including comments, and how many lines of code. Headings, lists of links
-    and the dividing lines of tables aren't counted."""
+    """Counts the words of a text, including comments, and its lines of code. Headings, lists of links and the dividing
+    lines of tables aren't counted."""
     words = lines = 0
     fenced = skipped = False
     for line in text:
@@ -633,7 +640,7 @@ def summed(sizes: Iterable[Size]) -> Size:
 
 
 def minutes(size: Size) -> int:
-    """Returns how many minutes it takes to read this many words and lines."""
+    """Returns how many minutes it takes to read a text of this size."""
     return math.ceil(size[0] / WORDS_A_MINUTE + size[1] / LINES_A_MINUTE)
 
 
@@ -642,13 +649,13 @@ def listed(items: Iterable[str]) -> list[str]:
 
 
 def noted(mark: str, notes: Iterable[str]) -> list[str]:
-    """Returns notes as indented comments that begin with this mark."""
+    """Formats notes as indented comments that begin with this mark."""
     how: dict[str, Any] = {"initial_indent": f"{mark}   ", "subsequent_indent": f"{mark}     "}
     return [line for note in notes for line in textwrap.wrap(note, WIDTH, break_on_hyphens=False, **how)]
 
 
 def between(contracts: Iterable[list[str]]) -> list[str]:
-    """Returns the lines of contracts or definitions, with an empty line between two."""
+    """Joins contracts or definitions into one list of lines, with an empty line between two."""
     found: list[str] = []
     for lines in contracts:
         found += ([""] if found else []) + lines
@@ -656,12 +663,12 @@ def between(contracts: Iterable[list[str]]) -> list[str]:
 
 
 def slug(heading: str) -> str:
-    """Returns the anchor of a heading."""
+    """Returns the anchor of a heading, as it appears in links."""
     return re.sub(r"[^\w\- ]", "", heading.lower()).replace(" ", "-")
 
 
 def wrapped(text: str, indent: str = "") -> list[str]:
-    """Returns the lines of a text. Text between backquotes, and a link, isn't broken."""
+    """Wraps a text into lines. A link, or text between backquotes, isn't broken."""
     kept = re.sub(r"\[?`[^`]*`(?:\]\([^)]*\))?", lambda at: at[0].replace(" ", "\N{NO-BREAK SPACE}"), text)
     lines = textwrap.wrap(kept, 120, subsequent_indent=indent, break_on_hyphens=False, break_long_words=False)
     return [line.replace("\N{NO-BREAK SPACE}", " ") for line in lines]

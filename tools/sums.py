@@ -1,8 +1,8 @@
-"""Computes the sum of a row of tools/mutants.txt, over the words of everything that its verdict depends on.
+"""Computes the checksum of a row of tools/mutants.txt, over the words of everything that its verdict depends on.
 
 These words are in three places: the mutant; each function that it changes, with its contract (also the trait's contract
 and the type's model); and the definitions that the contract uses, directly or through others of the same crate.
-Comments and layout don't count, and local variables are replaced by numbers."""
+Comments and formatting don't count, and local variables are replaced by numbers."""
 from __future__ import annotations
 
 import functools
@@ -17,8 +17,8 @@ import definitions
 import reading
 from edits import Edit
 
-Part = Tuple[str, List[str]]  # the place of the words, and the words
-# The words of an edit: texts, characters, names and numbers, signs.
+Part = Tuple[str, List[str]]  # the name of a part (a function or a definition), and its words
+# The words of an edit: string literals, characters, names and numbers, and signs.
 EDIT_WORD = re.compile(r"\"(?:\\.|[^\"\\])*\"|'(?:\\.|[^'\\])'|\w+|[^\w\s]")
 DEFINITION_WORD = re.compile(r"\"[^\"]*\"|[\w']+|[^\w\s]")
 LOCAL = re.compile(r"[a-z_]\w*$")
@@ -28,7 +28,7 @@ OPENING, CLOSING = frozenset("([{"), frozenset(")]}")
 
 
 class Definitions(definitions.Sources):
-    """The definitions of the crates, without the types of the code."""
+    """Looks up the definitions of the crates, without the types of the code."""
 
     def resolve(self, module: str, name: Optional[str]) -> Optional[definitions.Item]:
         parts = module.split(".")
@@ -46,7 +46,7 @@ class Definitions(definitions.Sources):
 
 
 class Parts:
-    """The words that rows depend on."""
+    """Collects the words on which the verdicts of mutants depend."""
 
     def __init__(self) -> None:
         self.definitions = Definitions()
@@ -59,7 +59,7 @@ class Parts:
         return self.sources[crate]
 
     def of(self, edit: Edit) -> List[Part]:
-        """Returns the words that the row of a form depends on."""
+        """Returns the words on which the verdict of a form depends."""
         source, names = self.source(edit.crate), Names()
         if edit.turned is None:
             files = sorted({path for path, _ in edit.lines})
@@ -71,7 +71,7 @@ class Parts:
         return found + [names.of_edit(edit)] + [(it.names[0], words_of_block(it)) for it in blocks]
 
     def words(self, source: reading.Source, function: reading.Function) -> List[str]:
-        """The words of a function, of its contract and of the model of its type."""
+        """Returns the words of a function, of its contract, and of the model of its type."""
         found = [*source.head_of_block(function), *source.words_of(function), *source.model_of(function.owner)]
         if function.trait and function.trait != function.owner:
             for crate in reversed(common.below(function.crate)):
@@ -81,7 +81,7 @@ class Parts:
         return found
 
     def at_trait(self, crate: str, function: reading.Function) -> Optional[reading.Function]:
-        """Returns a trait's own declaration of a method, if a crate declares the trait."""
+        """Returns the declaration of a method in its trait, or None if this crate doesn't declare the trait."""
         if function.trait not in self.source(crate).traits:
             return None
         named = (it for it in self.source(crate).functions if it.owner == function.trait and it.name == function.name)
@@ -101,13 +101,13 @@ class Parts:
         return found
 
     def named_by(self, crate: str, file: str, words: Iterable[str]) -> List[definitions.Block]:
-        """Returns the definitions that words of a source mean, according to the file's `ghost use` lines."""
+        """Returns the definitions to which the words of a source refer, according to the file's `ghost use` lines."""
         uses = self.uses_of(os.path.join(common.TOP, "crates", crate, file))
         items = (self.definitions.look_up(uses, it) for it in dict.fromkeys(words))
         return [it for it in items if isinstance(it, definitions.Block)]
 
     def uses_of(self, path: str) -> definitions.File:
-        """Returns the imports of a source's `ghost use` lines."""
+        """Reads the `ghost use` lines of a source, and returns their imports."""
         if path not in self.uses:
             found = self.uses[path] = definitions.File.__new__(definitions.File)
             found.uses, found.passed_on, found.named = {}, {}, {}
@@ -118,7 +118,7 @@ class Parts:
 
 
 class Names:
-    """The local variables of functions, numbered in the order of their appearance."""
+    """Gives numbers to the local variables of functions, in the order of their appearance."""
 
     def __init__(self) -> None:
         self.locals: set[str] = set()
@@ -128,8 +128,8 @@ class Names:
         self.locals.update(names)
 
     def numbered(self, words: List[str]) -> List[str]:
-        """Returns words with a number for each local variable. (A name after a dot, in a path, or before a bracket is
-        no variable.)"""
+        """Returns words with each local variable replaced by its number. (A name after a dot, in a path, or before a
+        bracket isn't a variable.)"""
         found = []
         for at, word in enumerate(words):
             before, after = words[at - 1] if at else "", words[at + 1] if at + 1 < len(words) else ""
@@ -140,20 +140,21 @@ class Names:
         return found
 
     def of_edit(self, edit: Edit) -> Part:
-        """The words of a form of a mutant."""
+        """Returns the words of a form's old and new texts."""
         texts = [EDIT_WORD.findall(text) for _, *both in edit.replacements() for text in both]
         self.take(name for it in texts for name in binders(it))
         return "", [word for it in texts for word in [*self.numbered(it), ";"]]
 
 
 def cut(words: Iterable[str]) -> List[str]:
-    """Words of which a path of fields is several. (In a contract it is one.)"""
+    """Returns words with each path of fields, such as `a.b`, split into several words. (In a contract a path is one
+    word.)"""
     return [part for it in words for part in (it.replace(".", " . ").split() if re.match(r"[A-Za-z_]\w*\.", it) else [it])]
 
 
 @functools.lru_cache(maxsize=None)
 def words_of_block(block: definitions.Block) -> List[str]:
-    """The words of a definition, comments apart."""
+    """Returns the words of a definition without its comments."""
     return DEFINITION_WORD.findall("\n".join(re.sub(r"--.*$", "", it) for it in block.code))
 
 
@@ -184,7 +185,7 @@ def binders(words: List[str]) -> List[str]:
 
 
 def names_of_parameters(words: List[str], at: int) -> List[str]:
-    """The parameters of the function whose `fn` is at a place."""
+    """Returns the names of the parameters of a function. Its `fn` is at the index `at`."""
     opens = next((it for it in range(at, len(words)) if words[it] == "("), len(words))
     depth, found = 0, []
     for place in range(opens, len(words) - 2):
@@ -197,7 +198,7 @@ def names_of_parameters(words: List[str], at: int) -> List[str]:
 
 
 def pattern_before(words: List[str], at: int) -> List[str]:
-    """The pattern of the arm whose arrow is at a place, without its guard."""
+    """Returns the pattern of a `match` arm without its guard. The arm's arrow is at the index `at`."""
     depth, first = 0, at
     while first:
         word = words[first - 1]

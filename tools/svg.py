@@ -8,7 +8,7 @@ from typing import Sequence, Tuple
 
 Point = Tuple[float, float]
 
-# names of colours, for light screens and for dark ones
+# each colour's name, with its value for light screens and its value for dark ones
 COLOURS = {
     "page": ("#ffffff", "#0d1117"),
     "ink": ("#1f2328", "#e6edf3"),
@@ -25,32 +25,32 @@ SANS, MONO = "Helvetica, Arial, sans-serif", "'DejaVu Sans Mono', Menlo, Consola
 
 
 def number(value: float) -> str:
-    """A number as SVG has it, with one digit after the point at most."""
+    """Formats a number for SVG, with at most one digit after the point."""
     return f"{value:.1f}".rstrip("0").rstrip(".") if "." in f"{value:.1f}" else f"{value:.0f}"
 
 
 class Picture:
-    """A picture of a size, to which parts are added one after another."""
+    """A picture of a given size. Its methods add parts one after another."""
 
     def __init__(self, width: float, height: float, title: str) -> None:
         self.width, self.height, self.title = width, height, title
         self.parts: list[str] = []
 
     def add(self, tag: str, content: str | None = None, **given: object) -> None:
-        """Adds an element. An attribute's name is written with `_` for `-`."""
+        """Adds an element. A `-` in an attribute's name is written as `_`."""
         pairs = [(name.rstrip("_").replace("_", "-"), value) for name, value in given.items()]
         said = "".join(f' {name}="{number(it) if isinstance(it, (int, float)) else escape(str(it))}"' for name, it in pairs)
         self.parts.append(f"<{tag}{said}/>" if content is None else f"<{tag}{said}>{content}</{tag}>")
 
     def text(self, at: Point, text: str, colour: str = "ink", size: float = 13, anchor: str = "start", weight: str = "normal") -> None:
-        """Adds a line of text that begins, has its middle or ends at a place, by its anchor."""
+        """Adds a line of text. Its beginning, middle or end is at the point `at`, depending on `anchor`."""
         self.add("text", escape(text), x=at[0], y=at[1], class_=colour, font_size=size, text_anchor=anchor, font_weight=weight)
 
     def box(self, at: Point, size: Point, colour: str = "fill") -> None:
         self.add("rect", x=at[0], y=at[1], width=size[0], height=size[1], rx=5, class_=f"{colour} on-line")
 
     def line(self, points: Sequence[Point], colour: str = "line", width: float = 1, has_head: bool = False) -> None:
-        """Adds a line through some points, with an arrow's head at its end if it has one."""
+        """Adds a line through some points, with an arrowhead at its end if `has_head`."""
         path = " ".join(f"{number(x)},{number(y)}" for x, y in points)
         head = {"marker_end": "url(#head)"} if has_head else {}
         self.add("polyline", points=path, class_=f"none on-{colour}", stroke_width=width, **head)
@@ -59,7 +59,7 @@ class Picture:
         self.add("circle", cx=at[0], cy=at[1], r=3.5, class_=colour)
 
     def svg(self) -> str:
-        """The whole picture."""
+        """Returns the whole picture as SVG."""
         light, dark = ("".join(f".{name}{{fill:{it[at]}}}.on-{name}{{stroke:{it[at]}}}" for name, it in COLOURS.items()) for at in (0, 1))
         style = f"{light}.none{{fill:none}}@media(prefers-color-scheme:dark){{{dark}.none{{fill:none}}}}text{{font-family:{SANS}}}"
         head = '<marker id="head" viewBox="0 0 8 8" refX="7" refY="4" markerWidth="8" markerHeight="8" orient="auto">'

@@ -38,12 +38,12 @@ from common import TOP
 LINE = re.compile(r"^(\d+) passed, (\d+) failed(?:, (\d+) skipped)?$")
 RESULTS = os.path.join(TOP, "bin", "results")
 GATE_LOG = os.path.join(TOP, "bin", "gate.log")
-# The numbers of tests, which a test compares; and how many may be left out if OB0_MAY_LACK lists the tools that may
-# lack.
+# The numbers of tests, which a test compares, and how many of them may be left out if OB0_MAY_LACK lists the tools that
+# may be missing.
 LEAST = {"the gate": 94, "end to end": 655}
 MOST_LEFT_OUT = 15
-# The variables OB0_.. and RT_.. that have an effect here. (By others a developer tries a part of the tests, or another
-# mode of the kit.)
+# The variables OB0_.. and RT_.. that have an effect here. (With other variables a developer tries some of the tests, or
+# another mode of the kit.)
 KEPT_VARIABLES = {"OB0_MAY_LACK", "OB0_MINUTES", "RT_JOBS"}
 # The kit's last line about a crate.
 ENDED = re.compile(r"rt: (ob0\w*) (?:(proved)|is kept|NOT PROVED)\b")
@@ -52,7 +52,7 @@ SHARE = re.compile(r"done in this run: .*|every proof and must-fail edit was don
 WRONG = re.compile(r"\berror\b|it is not proved|no proof:|panicked|FAILED|\bfailed\b")
 # A line of tools/refusals.py, or one of tools/mutants.py, whose word isn't `refused` or, for a right form, `proved`.
 FAILED_MUTANT = re.compile(r"^(?:FAILED: |  (?!(?:refused|proved) {2})\w[\w ]*? +)(\S+/\S+): (.*)$", re.M)
-LONGEST_LINE = 300  # characters
+LONGEST_LINE = 300  # the number of characters of a line that the screen shows
 
 
 class Failure(NamedTuple):
@@ -124,7 +124,7 @@ class Gate:
         self.rests = trusted.Trusted()
 
     def take(self, line: str) -> str:
-        """Handles a line of `rt ci`'s output, and returns the text for the screen."""
+        """Handles a line of `rt ci`'s output. Returns the text to show on the screen, or "" if there is none."""
         self.log.write(line)
         self.libraries.take(line)
         self.refusals.take(line)
@@ -138,8 +138,8 @@ class Gate:
         return self.of_kit(line, block)
 
     def of_kit(self, line: str, block: list[str]) -> str:
-        """Returns the text for the screen of a line that begins with `rt:`. `block` are the lines since the previous
-        one."""
+        """Handles a line that begins with `rt:`, and returns the text to show on the screen. `block` contains the lines
+        since the previous such line."""
         text = line.rstrip("\n")
         ended, share = ENDED.match(line), SHARE.search(line)
         crate = re.match(r"rt: (?:must-fail )?(ob0\w*)", line)
@@ -157,13 +157,13 @@ class Gate:
         return "" if ": refused, as it must be" in line else f"[{RUN.timer}] {text[:LONGEST_LINE]}\n"
 
     def fail(self, names: list[str]) -> None:
-        """Takes the names of failures that the kit lists at the end."""
+        """Records failures. The kit lists their names at the end."""
         for name in names:
             RUN.fail(name, self.told.get(re.split(r"[ /]", name)[0], ["bin/gate.log has what was printed"]))
 
 
 class Heard(io.StringIO):
-    """Passes text on to the standard output, and stores it."""
+    """A stream that passes text on to the standard output, and also stores it."""
 
     def write(self, text: str) -> int:
         if sys.__stdout__:
@@ -239,7 +239,7 @@ def of_mutants(taken: Gate) -> Counts:
     RUN.at = "the mutants"
     said = Heard()
     with contextlib.redirect_stdout(said):
-        # (the kit has counted those that it refused)
+        # (the kit has already counted the edits that it refused)
         refused, others = taken.refusals.end()
         tried = Counts(*mutants.try_some(taken.libraries))
     shutil.rmtree(build.ROOMS, ignore_errors=True)
@@ -251,7 +251,7 @@ def of_mutants(taken: Gate) -> Counts:
 
 
 def spent() -> float:
-    """Returns how many seconds of the processors this run took so far."""
+    """Returns how many seconds of processor time this run has used so far."""
     times = os.times()
     return times.children_user + times.children_system
 
@@ -343,7 +343,7 @@ def main(flags: list[str]) -> int:
     os.makedirs(os.path.dirname(RESULTS), exist_ok=True)
     with common.one_at_a_time(), common.ended_by_signals(lambda: f"at {RUN.at}, after {RUN.timer}"):
         with tempfile.TemporaryDirectory(prefix="ob0-") as room:
-            # (a program that `rt` or a test runs as another user has to get through)
+            # (a program that `rt` or a test runs as another user must be able to enter the folder)
             os.chmod(room, 0o711)
             tempfile.tempdir = os.environ["TMPDIR"] = room
             with open(RESULTS, "w", encoding="utf-8"):
@@ -352,7 +352,7 @@ def main(flags: list[str]) -> int:
             shutil.rmtree(build.ROOMS, ignore_errors=True)
             common.need("rt")
             if not editors.is_here("another user"):
-                # (root's `rt ci` runs programs and tests as another user, at its end)
+                # (if root runs `rt ci`, it runs programs and tests as another user at its end)
                 common.stop(f"root can't become another user here, as `rt ci` needs: {editors.HOW_TO_GET['another user']}")
             say_missing()
             return end(whole(flags))

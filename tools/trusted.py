@@ -8,20 +8,21 @@ from typing import List
 import common
 
 PAGE = os.path.join(common.TOP, "docs", "PROMISES.md")
-# The words of the checker's last line that say what is trusted.
+# The words in the checker's last line that state its assumptions.
 WORD = re.compile(r"\b(?:axioms=\d+|native=\S+|\S+=trusted)")
 BLOCK = re.compile(r"^## What is trusted$.*?^```\n(.*?)^```$", re.MULTILINE | re.DOTALL)
 
 
 class Trusted:
-    """The last lines of `rt ci` on the crate `ob0`. There are none if an earlier run proved it."""
+    """Collects the lines of `rt ci` that list the assumptions of the crate `ob0`. There are none if an earlier run has
+    proved this crate."""
 
     def __init__(self) -> None:
         self.lines: List[str] = []
         self.said: List[str] = []
 
     def take(self, line: str) -> None:
-        """Takes a line of `rt ci`'s output."""
+        """Stores a line of `rt ci`'s output if it belongs to these lines."""
         line = line.strip()
         if line.startswith("axioms "):
             self.lines.append(line)
@@ -33,7 +34,7 @@ class Trusted:
             self.lines = []
 
     def difference(self) -> List[str]:
-        """Returns the gate's lines if the page lists others, otherwise nothing."""
+        """Returns the gate's lines unless they agree with the page; otherwise an empty list."""
         return [] if not self.said or listed() == self.said else self.said
 
 

@@ -34,22 +34,23 @@ import harness  # noqa: E402
 from framing import Message  # noqa: E402
 
 WORDS = ("check:", "run:", "rename", "messages:", "examples")
-# bytes of a file (or an input): what is longer takes the program that `rt try` makes long, and is left to bin/ob0
+# the maximal number of bytes of a file or an input: for longer ones the program of `rt try` is slow, so bin/ob0 tests
+# them
 LARGEST = {"check": 1_100_000, "run": 100_000, "rename": 100_000}
 COMMANDS = ("check", "run", "rename")
 STEP = 15  # seconds between two lines while the program is compiled and run
-CHECKED = 8  # how many modules are checked by the command, before the others are opened in one conversation
-RENAMED = 6  # how many renamings are made by the command, before the others are requested in that conversation
-MEMORY = 3_500_000_000  # bytes for each `rt try`
+CHECKED = 8  # how many modules the command `check` checks; the others are opened in one conversation
+RENAMED = 6  # how many renamings the command `rename` makes; the others are requested in that conversation
+MEMORY = 3_500_000_000  # bytes of memory for each `rt try`
 CHECK = ("check", "FILE")
 
 
 class Unknown(Exception):
-    """A test needs something that `rt try` doesn't offer."""
+    """Raised if a test needs something that `rt try` doesn't offer."""
 
 
 class Case(NamedTuple):
-    """A command that a test runs: its words, with FILE in place of a file's name; that file's content; and standard
+    """A command that a test runs: its words, with FILE in place of a file's name, the file's content, and the standard
     input."""
 
     words: Tuple[str, ...]
@@ -57,11 +58,12 @@ class Case(NamedTuple):
     given: bytes
 
     def is_writable(self) -> bool:
-        """Returns whether `rt try` takes these words: one a line, and none empty."""
+        """Returns whether the words can be passed to `rt try`, which takes one on each line: no word may be empty or
+        contain a line end."""
         return all(it and "\n" not in it for it in self.words)
 
     def is_request(self) -> bool:
-        """Returns whether this is a renaming of a small text at a place."""
+        """Returns whether the case renames an identifier at a position of a small text."""
         words = self.words
         is_renaming = len(words) == 5 and words[:2] == ("rename", "FILE") and words[2].isdigit() and words[3].isdigit()
         return is_renaming and self.text is not None and is_text(self.text) and b"\r" not in self.text and not self.given
@@ -74,13 +76,14 @@ class Cases:
         self.wanted: dict[Case, None] = {}
         self.found: dict[Case, harness.Ended] = {}
         self.opened: list[Case] = []  # the modules that are opened in one conversation
-        self.requested: list[Case] = []  # the renamings that are requested there
+        self.requested: list[Case] = []  # the renamings that are requested in it
         self.noting = True
 
     def run(
         self, words: Sequence[str], given: bytes = b"", stack: int | None = None, cwd: str | None = None
     ) -> harness.Ended:
-        """Replaces `harness.run`: notes the words, the input and the files that they mention."""
+        """Replaces `harness.run`. While cases are noted, records the words, the input and the files that the words
+        mention; afterwards returns the result of the case."""
         plain, text, wants_help = list(words), None, {"-h", "--help"} & {*words}
         if words[:1] and words[0] in COMMANDS and not wants_help:
             at = next((at for at, it in enumerate(words) if at and os.path.isfile(os.path.join(cwd or ".", it))), None)
@@ -100,8 +103,8 @@ class Cases:
         return self.found[case]
 
     def note(self, name: str, function: harness.Test) -> tuple[str, Exception | None]:
-        """Notes the cases of a test. If `rt try` doesn't offer something that the test needs, notes no case and returns
-        the reason."""
+        """Notes the cases of a test. If the test needs something that `rt try` doesn't offer, drops its cases and
+        returns the reason."""
         before = dict(self.wanted)
         why = play(function)
         if not isinstance(why, (Unknown, harness.Skipped)):
@@ -110,11 +113,11 @@ class Cases:
         return name, why
 
     def unless_noting(self, check: Callable[..., None]) -> Callable[..., None]:
-        """Returns a check of the harness that checks nothing while the cases are noted."""
+        """Wraps a check of the harness, so that it checks nothing while cases are noted."""
         return lambda *words, **named: None if self.noting else check(*words, **named)
 
     def put_together(self) -> None:
-        """Moves most checked modules and most renamings from separate cases into one conversation."""
+        """Moves most modules to check and most renamings from separate cases into one conversation."""
         checks = [it for it in self.wanted if it.words == CHECK and it.text is not None and is_text(it.text) and not it.given]
         renamings = [it for it in self.wanted if it.is_request()]
         by_command = [it for it in renamings if it.is_writable()][:RENAMED]
@@ -134,8 +137,8 @@ class Cases:
             self.wanted[Case(("serve",), None, conversation)] = None
 
     def take_conversation(self, said: bytes) -> None:
-        """Notes the output of `check` for each opened module, from its diagnostics, and of `rename`, from the
-        answer."""
+        """Stores the results from the conversation's output: for `check` from the diagnostics of each opened module,
+        and for `rename` from the answers."""
         contents, printed = [json.loads(it) for it in harness.unframed(said)], {}
         for params in (it["params"] for it in contents if "params" in it):
             at = int(params["uri"].rpartition("/")[2])
@@ -189,7 +192,7 @@ class Cases:
 
 
 def is_text(content: bytes) -> bool:
-    """Returns whether an editor can open this."""
+    """Returns whether an editor can open a file with this content."""
     try:
         content.decode()
     except UnicodeDecodeError:
@@ -198,7 +201,7 @@ def is_text(content: bytes) -> bool:
 
 
 def renamed(text: str, answer: dict[str, Any]) -> harness.Ended:
-    """Returns what `rename` prints, by the answer to the request: the refusal, or the text with the edits, each on one line."""
+    """Returns the output of `rename` for an answer to the request: the refusal, or the text with the edits made."""
     if "error" in answer:
         return harness.Ended(b"", f"refused: {answer['error']['message']}\n".encode(), 1)
     lines = [it.encode("utf-16-le") for it in text.split("\n")]
@@ -210,13 +213,13 @@ def renamed(text: str, answer: dict[str, Any]) -> harness.Ended:
 
 
 def lanes_for(count: int) -> int:
-    """Returns how many `rt try` are run side by side: each is two processes while it compiles."""
+    """Returns how many `rt try` run at the same time. Each consists of two processes while it compiles."""
     memory = os.sysconf("SC_PAGE_SIZE") * os.sysconf("SC_PHYS_PAGES")
     return max(1, min(len(os.sched_getaffinity(0)) // 2, memory // MEMORY, count // 8))
 
 
 def compiled(cases: Cases) -> None:
-    """Runs all noted cases, and notes their results."""
+    """Runs all noted cases with `rt try`, and stores their results."""
     cases.put_together()
     lanes, timer = lanes_for(len(cases.wanted)), common.Timer()
     with tempfile.TemporaryDirectory() as room:
@@ -241,7 +244,7 @@ def compiled(cases: Cases) -> None:
 
 
 class Try:
-    """One `rt try` on a folder of cases."""
+    """A running `rt try` on a folder of cases."""
 
     def __init__(self, flags: list[str], folder: str) -> None:
         self.out, self.err = tempfile.TemporaryFile(), tempfile.TemporaryFile()
@@ -252,17 +255,17 @@ class Try:
         return self.process.poll() is None
 
     def said(self) -> tuple[bytes, bytes]:
-        """Returns what it has printed on both outputs."""
+        """Returns the bytes that `rt try` has printed to standard output and to standard error."""
         out, err = (os.pread(it.fileno(), os.fstat(it.fileno()).st_size, 0) for it in (self.out, self.err))
         return out, err
 
     def ended(self) -> int:
-        """Returns how many cases have ended."""
+        """Returns how many cases have been run so far."""
         return len(re.findall(rb"^case=", self.said()[1], re.M))
 
 
 def play(function: harness.Test) -> Exception | None:
-    """Plays a test, and returns None if it passed, otherwise why it didn't."""
+    """Runs a test. Returns None if it passes, otherwise the exception that it raised."""
     try:
         function()
     except FileNotFoundError as why:
@@ -289,7 +292,7 @@ def main(words: list[str]) -> int:
 
 
 def replace_in_harness(cases: Cases) -> None:
-    """Replaces functions of the harness, so that tests note what they run."""
+    """Replaces functions of the harness, so that tests note their commands instead of running them."""
     checks = {"same": cases.unless_noting(harness.same), "holds": cases.unless_noting(harness.holds), "ends": without_last_line_feed}
     speaking = dict.fromkeys(("Server", "serve", "serve_in_pieces"), Conversation)
     replaced: dict[str, object] = {"run": cases.run, **checks, **speaking}

@@ -1,9 +1,10 @@
-"""Reads and writes tools/mutants.txt: what each mutant of crates/*/must-fail and crates/*/wrong-bodies came to when it was last tried.
+"""Reads and writes tools/mutants.txt, which contains the result of the last trial of each mutant of crates/*/must-fail
+and crates/*/wrong-bodies.
 
-A line is 'PATH SUM VERDICT': the mutant, a sum over what its verdict stands on (tools/sums.py), and what refused it, 'GOAL of
-FUNCTION', or a word for another verdict. The path of a right form ends in ':right', and its verdict is 'proved' if it is as it has to
-be. A form that was never tried has '-' for its sum. A row is of the present sources as long as its sum is; tools/mutants.py tries the
-others again, and with --all each of them."""
+A line is 'PATH SUM VERDICT': the mutant, a checksum of everything that its verdict depends on (tools/sums.py), and the
+goal that refused it, 'GOAL of FUNCTION', or a word for another verdict. The path of a right form ends in ':right', and
+its verdict must be 'proved'. A form that was never tried has '-' as its checksum. A row is current if its checksum fits
+the present sources. tools/mutants.py tries the forms with other rows again, and with --all every form."""
 from __future__ import annotations
 
 import os
@@ -23,7 +24,8 @@ REFUSED = re.compile(r"(\S+) of (\S+)$")
 
 
 class Row(NamedTuple):
-    """A line of tools/mutants.txt."""
+    """A line of tools/mutants.txt: a mutant's path, the checksum of the sources on which it was tried, and the
+    verdict."""
 
     path: str
     sum: str
@@ -34,7 +36,8 @@ class Row(NamedTuple):
         return f"{self.path} {self.sum} {self.verdict}"
 
     def is_well(self, edit: edits.Edit) -> bool:
-        """Returns whether a goal of the claimed clause refused the mutant, or whether the right form was proved."""
+        """Returns whether the verdict is as it must be: a goal of the claimed clause refused the mutant, or the right
+        form was proved."""
         if edit.is_right:
             return self.verdict == IS_PROVED
         found = REFUSED.match(self.verdict)
@@ -42,7 +45,7 @@ class Row(NamedTuple):
 
 
 def is_met(edit: edits.Edit, goal: str, proof: str) -> bool:
-    """Returns whether a goal belongs to the clause in a mutant's first line."""
+    """Returns whether a goal of this proof belongs to the clause and the function in the mutant's first line."""
     claim = edit.claim
     if not claim:
         return False
@@ -52,7 +55,7 @@ def is_met(edit: edits.Edit, goal: str, proof: str) -> bool:
 
 
 class Mutants:
-    """The forms of all mutants with their present sums, and their rows."""
+    """All mutants and their right forms, with their present checksums and their rows."""
 
     def __init__(self, path: str = PATH) -> None:
         self.path, self.parts = path, sums.Parts()
@@ -65,48 +68,48 @@ class Mutants:
         self.rows = {it.path: it for it in rows_of(path)}
 
     def read(self, crate: str) -> None:
-        """Reads a crate's sources and mutants."""
+        """Reads a crate's sources and its mutants."""
         for edit in edits.forms_of(crate, self.parts.source(crate)):
             self.edits[edit.path], self.words[edit.path] = edit, self.parts.of(edit)
 
     def row(self, path: str) -> Row:
-        """Returns the row of a form, or a row that says that it was never tried."""
+        """Returns the row of a form. If it was never tried, returns a row that says so."""
         return self.rows.get(path, Row(path, NEVER, NOT_TRIED))
 
     def is_current(self, path: str) -> bool:
-        """Returns whether a form has the verdict that it must have, for the present sources."""
+        """Returns whether the present sources gave a form the verdict that it must have."""
         row = self.row(path)
         return row.sum == self.sums[path] and row.is_well(self.edits[path])
 
     @property
     def stale(self) -> List[str]:
-        """Returns the paths of the other forms, in order."""
+        """Returns the paths of the forms whose rows aren't current, in order."""
         return [it for it in sorted(self.edits) if not self.is_current(it)]
 
     @property
     def mutants(self) -> List[str]:
-        """The paths of the mutants without their right forms, in order."""
+        """Returns the paths of the mutants, without their right forms, in order."""
         return sorted(path for path, edit in self.edits.items() if not edit.is_right)
 
     def keep(self, path: str, tried_on: str, verdict: str) -> None:
-        """Sets the verdict of a form, with the sum of the sources on which it was tried."""
+        """Sets the verdict of a form, with the checksum of the sources on which it was tried."""
         self.rows[path] = Row(path, tried_on, verdict)
 
     def write(self) -> None:
-        """Writes a row for each form, sorted."""
+        """Writes tools/mutants.txt, with a row for each form, sorted by path."""
         with open(self.path + ".new", "w", encoding="utf-8") as file:
             file.writelines(self.row(it).line + "\n" for it in sorted(self.edits))
         os.replace(self.path + ".new", self.path)
 
 
 def row_of(line: str) -> Optional[Row]:
-    """Returns the row in a line, or None if the line has another form."""
+    """Parses a line of tools/mutants.txt. Returns None if the line has another form."""
     parts = line.rstrip("\n").split(" ", 2)
     return Row(*parts) if len(parts) == 3 else None
 
 
 def rows_of(path: str) -> List[Row]:
-    """Returns the rows of a file, which are none if it doesn't exist."""
+    """Reads the rows of a file. Returns an empty list if the file doesn't exist."""
     if not os.path.isfile(path):
         return []
     with open(path, encoding="utf-8") as file:

@@ -1,5 +1,6 @@
-"""The package of the VS Code extension: a zip with two lists of what is in it, and the modules of Node that it needs, with their
-notices. The modules are those that `npm install` gets in editors/vscode, or Debian's."""
+"""Makes the package of the VS Code extension: a zip archive with the extension's files, two lists of its contents, and
+the Node modules that it needs with their notices. The modules come from `npm install` in editors/vscode, or from
+Debian."""
 from __future__ import annotations
 
 import io
@@ -23,7 +24,7 @@ Files = Dict[str, bytes]
 
 
 class Modules(NamedTuple):
-    """Folders with modules of Node, and the root of the system that they belong to."""
+    """The folders that contain Node modules, and the root of the system to which they belong."""
 
     root: str
     folders: List[str]
@@ -37,8 +38,8 @@ def of_system(root: str) -> Modules:
 
 
 def modules() -> Modules | None:
-    """Returns the first modules that include the client: npm's, the ones in the root of Debian 13 that `make editors`
-    makes, or this system's."""
+    """Returns the first of these places that contains the module of the client: npm's folder, the root of Debian 13
+    that `make editors` makes, or this system. Returns None if none does."""
     places = [Modules("/", [os.path.join(FOLDER, "node_modules")]), of_system(os.path.join(TOP, "bin", "roots", "trixie")), of_system("/")]
     return next((it for it in places if it.folder_of(CLIENT)), None)
 
@@ -49,7 +50,8 @@ def read(path: str) -> bytes:
 
 
 def needed(found: Modules, names: list[str]) -> list[str]:
-    """Returns the names of modules and of everything that they need, according to their manifests."""
+    """Returns the names of these modules and of all modules that they depend on, according to their manifests. Ends the
+    script if one is missing."""
     waiting, known = list(names), set()
     while waiting:
         name = waiting.pop()
@@ -63,7 +65,7 @@ def needed(found: Modules, names: list[str]) -> list[str]:
 
 
 def files_of(folder: str) -> Files:
-    """Returns the files of a module that are needed to run it, without types and files for developers."""
+    """Returns the files of a module that are needed to run it, without type declarations and files for developers."""
     found = {}
     for at, folders, names in os.walk(folder):
         folders[:] = sorted(it for it in folders if it not in ("node_modules", "test", "tests"))
@@ -104,13 +106,14 @@ def with_modules(found: Modules, files: Files) -> Files:
         version = json.loads(read(os.path.join(folder, "package.json")))["version"]
         notices.append(f"{name} {version}\n\n{notice_of(found, name).strip()}\n")
     made[NOTICES] = f"\n{'-' * 72}\n\n".join(["The extension has these modules in node_modules.\n", *notices]).encode()
-    # (a link out of the folder leads nowhere in the extension)
+    # (a link to another folder leads nowhere in the extension, so only its text is kept)
     made["README.md"] = re.sub(rb"\[([^\]]*)\]\(\.\./[^)]*\)", rb"\1", files["README.md"])
     return made
 
 
 def manifest(about: Any) -> bytes:
-    """Returns the manifest by which VS Code and its marketplaces identify an extension."""
+    """Returns the manifest from which VS Code and its marketplaces read the extension's name, version and
+    description."""
     named = {"Manifest": "package.json", "Content.Details": "README.md", "Content.Changelog": "CHANGELOG.md"}
     named["Content.License"] = "LICENSE.txt"
     places = {f"Microsoft.VisualStudio.{'Code' if it == 'Manifest' else 'Services'}.{it}": path for it, path in named.items()}
@@ -145,7 +148,7 @@ def manifest(about: Any) -> bytes:
 
 
 def content_types(names: list[str]) -> bytes:
-    """The list of the kinds of files, by their endings."""
+    """Returns the list of MIME types that the package must contain, one for each file ending."""
     endings = sorted({os.path.splitext(it)[1] for it in names})
     lines = "".join(f'\n  <Default Extension="{it}" ContentType="{KINDS[it]}"/>' for it in endings)
     lines += '\n  <Default Extension=".vsixmanifest" ContentType="text/xml"/>'
@@ -156,7 +159,7 @@ def content_types(names: list[str]) -> bytes:
 
 
 def archive(files: Files, moment: int) -> bytes:
-    """The package of an extension, every file of which has this time."""
+    """Returns the bytes of the extension's package. All its files have the modification time `moment`."""
     held = {f"extension/{name}": content for name, content in sorted(files.items())}
     lists = {"extension.vsixmanifest": manifest(json.loads(files["package.json"])), "[Content_Types].xml": content_types(list(files))}
     out, written = io.BytesIO(), time.gmtime(max(moment, 315532800))[:6]

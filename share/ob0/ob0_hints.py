@@ -1,9 +1,10 @@
-"""Hints beside the messages of errors: what a beginner probably meant. They come from hints.json: for messages, rows of a
-hint and the cases in which it is given; the first case that fits an error counts. A case has conditions on the token at
-the error (`at`), the two before it, the next one, the first and the last one in the line, whether the `line` is a new
-one for the token before, and the word that opens the innermost construct around it (`inside`). A condition lists
-tokens: a word in small letters stands for any but the reserved word, and `<name>` and the like for a class.
-docs/MESSAGES.md has a row for each case."""
+"""Finds a hint for an error message: what a beginner probably meant. The hints are in hints.json. For each message it
+lists hints, each with the cases in which the hint is given; the first case that fits an error decides. A case contains
+conditions on tokens: the one at the error (`at`), the two before it (`before`, `before2`), the next one, the first and
+the last one in the line, and the word that opens the innermost construct (`inside`). `line` says whether the error is
+in another line than the token before it. A condition lists tokens. A word in small letters stands for the word in any
+case, unless it is reserved. `<name>` and similar words stand for a class of tokens. docs/MESSAGES.md has a row for each
+case."""
 from __future__ import annotations
 
 import bisect
@@ -22,7 +23,7 @@ Rule = Tuple[str, Dict[str, str]]  # a hint and a case
 
 
 class Token(NamedTuple):
-    """A token, the offset at which it begins, and its line, counted from 1."""
+    """A token of the text, the offset at which it begins, and its line, counted from 1."""
 
     text: str
     start: int
@@ -30,7 +31,7 @@ class Token(NamedTuple):
 
 
 def rules() -> Dict[str, List[Rule]]:
-    """Returns the rules for each message, in order."""
+    """Reads hints.json, and returns the rules for each message, in order."""
     found: Dict[str, List[Rule]] = {}
     with open(os.path.join(os.path.dirname(os.path.abspath(__file__)), "hints.json"), encoding="utf-8") as file:
         for messages, rows in json.load(file).items():
@@ -40,7 +41,7 @@ def rules() -> Dict[str, List[Rule]]:
 
 
 def meant(word: str) -> str:
-    """Returns the reserved word that a name was probably meant to be, or an empty text."""
+    """Returns the reserved word that the writer of a name probably meant, or "" if there is none."""
     if word in RESERVED or not word.isalpha():
         return ""
     close = difflib.get_close_matches(word.upper(), RESERVED, 1, 0.75) if len(word) > 2 and word.isupper() else []
@@ -48,7 +49,7 @@ def meant(word: str) -> str:
 
 
 def is_one(token: str, pattern: str) -> bool:
-    """Whether a token is the one that a word of a condition stands for, or of its class."""
+    """Returns whether a token matches one word of a condition: a token, or a class such as `<name>`."""
     is_name = token[:1].isalpha() and token.isascii() and token not in RESERVED
     classes = {
         "<name>": is_name,
@@ -63,7 +64,7 @@ def is_one(token: str, pattern: str) -> bool:
 
 
 class Hints:
-    """The hints for the errors of a text."""
+    """Finds the hints for the errors of one text."""
 
     def __init__(self, text: bytes, starts: List[int]) -> None:
         self.rules, self.tokens, depth = rules(), [Token("", 0, 0)] * 2, 0
@@ -75,7 +76,7 @@ class Hints:
             depth -= it[0] == b"*)" and depth > 0
 
     def facts(self, offset: int) -> Dict[str, str]:
-        """Returns what the conditions are on, and what the hints cite, for the token at an offset."""
+        """Returns the facts about the token at an offset that conditions test and hints cite, by name."""
         index = next((index for index, it in enumerate(self.tokens) if index > 1 and it.start >= offset), len(self.tokens))
         before2, before, at, following = [*self.tokens, *[Token("", offset, 0)] * 2][index - 2 : index + 2]
         line, opened = at.line or before.line, [""]
@@ -90,13 +91,13 @@ class Hints:
         return {**of_tokens, **of_line, "inside": opened[-1], "number": str(before.line)}
 
     def rule(self, message: str, offset: int) -> Optional[Rule]:
-        """Returns the first rule that fits an error, or None."""
+        """Returns the first rule that fits an error, or None if no rule fits."""
         facts = self.facts(offset)
         fits: Callable[[Dict[str, str]], bool] = lambda case: all(any(is_one(facts[it], one) for one in case[it].split(" ")) for it in case)
         return next((it for it in self.rules.get(message, []) if fits(it[1])), None)
 
     def hint(self, message: str, offset: int) -> str:
-        """Returns the hint for an error, or an empty text."""
+        """Returns the hint for an error, or "" if there is none."""
         hint, case = self.rule(message, offset) or ("", {})
         facts = self.facts(offset)
         words = (meant(facts[it]) for it in ("at", "before", "first") if it in case)

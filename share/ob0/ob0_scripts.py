@@ -1,5 +1,5 @@
-"""What the scripts ob0-check, ob0-format, ob0-rename and ob0-trace share: modules are read and replaced, the server is
-asked, and lines are printed."""
+"""Functions that the scripts ob0-check, ob0-format, ob0-rename and ob0-trace share: they read and replace modules, ask
+the server, and print lines."""
 from __future__ import annotations
 
 import argparse
@@ -18,7 +18,7 @@ import tempfile
 from typing import Any, Callable, Dict, Iterator, List, NamedTuple, NoReturn, Optional, TextIO, Tuple, Union
 
 VERSION = "0.1.0"
-LONGEST = 1 << 20  # the bytes that a module may have
+LONGEST = 1 << 20  # the maximal number of bytes of a module
 STOPPING = (signal.SIGINT, signal.SIGTERM, signal.SIGHUP)
 ENDINGS = (".ob0", ".mod", ".Mod")
 STANDARD_INPUT = "-"
@@ -26,15 +26,16 @@ START = {"line": 0, "character": 0}
 TOO_LONG = {"code": "TooLong", "message": "text too long", "range": {"start": START, "end": START}}
 HERE = os.path.dirname(os.path.realpath(sys.argv[0]))
 
-Members = Dict[str, Any]  # of a JSON object
+Members = Dict[str, Any]  # the members of a JSON object
 
 
 class Failure(Exception):
-    """The server can't be used."""
+    """Raised if the server can't be used."""
 
 
 class Refused(Exception):
-    """A file isn't treated: the status that this gives, and why, in words that follow the file's name."""
+    """Raised if a script refuses a file. Contains the exit status, and the reason in words that follow the file's
+    name."""
 
     def __init__(self, status: int, why: str) -> None:
         super().__init__(why)
@@ -42,11 +43,12 @@ class Refused(Exception):
 
 
 class Stopped(BaseException):
-    """A signal has come, which is its argument."""
+    """Raised when a signal arrives. Its argument is the signal's number."""
 
 
 def program(named: str = "") -> str:
-    """Returns the path of `ob0`: the one that is named, or else beside the script that runs or on PATH."""
+    """Returns the path of `ob0`: the path `named` if given, otherwise the program in the script's folder or on PATH.
+    Raises Failure if there is none."""
     found = named or shutil.which("ob0", path=HERE + os.pathsep + os.environ.get("PATH", ""))
     if not found:
         raise Failure("ob0 is neither beside this program nor on PATH")
@@ -54,7 +56,7 @@ def program(named: str = "") -> str:
 
 
 class Server:
-    """`ob0 serve`, in a conversation whose positions count bytes."""
+    """A running `ob0 serve`, in a conversation whose positions count bytes."""
 
     def __init__(self) -> None:
         self.process = subprocess.Popen([program(), "serve"], stdin=subprocess.PIPE, stdout=subprocess.PIPE)
@@ -79,7 +81,8 @@ class Server:
             raise Failure("the server ended") from None
 
     def take(self, member: str, wanted: object) -> Members:
-        """Returns the next message that the server sends in which a member is the wanted one."""
+        """Returns the server's next message in which the member `member` has the value `wanted`. Skips other messages.
+        Raises Failure if the server ends."""
         length = 0
         for line in iter(lambda: self.answers.readline().strip(), b""):
             name, _, value = line.partition(b":")
@@ -102,12 +105,13 @@ class Server:
         return found["result"]
 
     def diagnostics(self) -> Any:
-        """Returns the diagnostics that come after a notification about a document."""
+        """Returns the diagnostics that the server publishes next."""
         return self.take("method", "textDocument/publishDiagnostics")["params"]["diagnostics"]
 
     def answer(self, text: bytes, method: str = "", params: Optional[Members] = None) -> Tuple[List[Members], Any]:
-        """Opens a text and closes it again. Returns its diagnostics, and the answer to a request that is made if it has
-        none. (Of a text that is too long the server examines nothing else, so it isn't sent.)"""
+        """Opens a text in the server and closes it again. Returns its diagnostics and, if it has none, the answer to
+        the request `method`. (A text that is too long isn't sent, because the server would examine nothing else in
+        it.)"""
         if len(text) > LONGEST:
             return [TOO_LONG], None
         document = {"uri": f"file:///{next(self.numbers)}"}
@@ -121,7 +125,7 @@ class Server:
         return found, result
 
     def end(self) -> None:
-        """Ends the server by the protocol."""
+        """Ends the server with `shutdown` and `exit`, and waits for it."""
         self.request("shutdown", None)
         self.notify("exit", None)
         self.given.close()
@@ -133,30 +137,30 @@ class Server:
 
 
 def line_starts(text: bytes) -> List[int]:
-    """Returns the offset at which each line begins."""
+    """Returns the offset at which each line of a text begins."""
     return [0, *(it.end() for it in re.finditer(rb"\r\n|\r|\n", text))]
 
 
 class Place(NamedTuple):
-    """A line and a column, both counted from 1, and the column in characters as editors count them."""
+    """A line and a column, both counted from 1. The column counts characters, as editors do."""
 
     line: int
     column: int
 
 
 def offset_of(starts: List[int], position: Dict[str, int]) -> int:
-    """Returns the offset of a position of the server's, whose characters are bytes."""
+    """Converts a position from the server, which counts bytes, to an offset."""
     return starts[position["line"]] + position["character"]
 
 
 def place_of(text: bytes, starts: List[int], position: Dict[str, int]) -> Place:
-    """Returns the place of a position of the server's."""
+    """Converts a position from the server to a line and a column, both counted from 1."""
     before = text[starts[position["line"]] : offset_of(starts, position)]
     return Place(position["line"] + 1, len(before.decode(errors="replace")) + 1)
 
 
 def bytes_of(path: str) -> bytes:
-    """Returns the bytes of a file or of standard input; of more than a module may have, one byte too many."""
+    """Reads a file, or standard input if the path is `-`. Reads at most one byte more than a module may have."""
     if path == STANDARD_INPUT and sys.stdin is None:
         raise OSError(errno.EBADF, "it is closed")
     with open(sys.stdin.fileno() if path == STANDARD_INPUT else path, "rb", closefd=path != STANDARD_INPUT) as file:
@@ -164,7 +168,8 @@ def bytes_of(path: str) -> bytes:
 
 
 def text_of(path: str) -> bytes:
-    """Returns the text of a module's file. One that is too long isn't examined, and is cut where it is too long."""
+    """Reads a module's file. Raises Refused if it isn't UTF-8. A text that is too long is cut after one byte too many,
+    and isn't examined."""
     text = bytes_of(path)
     try:
         text[: 0 if len(text) > LONGEST else None].decode()
@@ -174,8 +179,8 @@ def text_of(path: str) -> bytes:
 
 
 def begins_with_module(path: str) -> bool:
-    """Whether the first word of a file is MODULE, also in small letters, after comments and a byte order mark. (Go's
-    files also begin with that word; a path follows it there.)"""
+    """Returns whether the first word of a file, after comments and a byte order mark, is MODULE in any case. If a path
+    follows the word, as in Go's module files, it must be in capitals."""
     depth, text = 0, re.sub(rb"^\xef\xbb\xbf", b"", bytes_of(path))
     for it in re.finditer(rb"\(\*|\*\)|[^ \t\r\n(*]+|[(*]", text):
         if it[0] == b"(*":
@@ -191,9 +196,9 @@ def begins_with_module(path: str) -> bool:
 
 
 def modules_at(path: str) -> Iterator[str]:
-    """Yields a path; if it is a folder, instead the modules in it and in the folders below, except behind links and in
-    hidden folders. A file that ends in .mod can be of another language, and is a module only if its first word is
-    MODULE."""
+    """Yields the path of a file, or all modules in a folder and its subfolders, except in hidden folders and behind
+    symbolic links. A file whose name ends in .mod or .Mod is only yielded if its first word is MODULE, because other
+    languages also use that ending."""
     if path == STANDARD_INPUT or not os.path.isdir(path):
         yield path
         return
@@ -209,7 +214,7 @@ def modules_at(path: str) -> Iterator[str]:
 
 
 def attributes_of(path: str) -> List[str]:
-    """Returns the names of a file's attributes, except those that the system gives to each file."""
+    """Returns the names of a file's extended attributes, except the ones that the system gives to every file."""
     try:
         return [it for it in os.listxattr(path) if not it.startswith("security.")]
     except OSError as why:
@@ -219,7 +224,7 @@ def attributes_of(path: str) -> List[str]:
 
 
 def keep_attributes(old: str, new: str) -> None:
-    """Gives a new file the old one's owner, group, mode and access list, or raises Refused."""
+    """Copies the owner, group, mode and access list of an old file to a new one. Raises Refused if that fails."""
     found, made = os.stat(old), os.stat(new)
     try:
         if (found.st_uid, found.st_gid) != (made.st_uid, made.st_gid):
@@ -232,7 +237,7 @@ def keep_attributes(old: str, new: str) -> None:
 
 
 def need_replaceable(path: str) -> None:
-    """Refuses a file that can't be replaced without a change to more than its text."""
+    """Raises Refused unless a file can be replaced without changing anything except its text."""
     found = os.stat(path)
     if not stat.S_ISREG(found.st_mode) or os.path.abspath(path).startswith(("/dev/", "/proc/")):
         raise Refused(4, ": only a file can be replaced")
@@ -243,8 +248,8 @@ def need_replaceable(path: str) -> None:
 
 
 def replace(path: str, old: bytes, text: bytes) -> None:
-    """Replaces a file whole, so that a failure leaves the old one. Refuses a file that no longer has the old text,
-    since another program has changed it. Signals wait until that is done."""
+    """Replaces a file's text in one step, so that the old file remains if something fails. Raises Refused if another
+    program has changed the old text meanwhile. Signals are held back until the file is replaced."""
     need_replaceable(path)
     path = os.path.realpath(path)
     before = signal.pthread_sigmask(signal.SIG_BLOCK, STOPPING)
@@ -265,8 +270,8 @@ def replace(path: str, old: bytes, text: bytes) -> None:
 
 
 def why_unprinted(stream: Optional[TextIO], text: Union[str, bytes]) -> str:
-    """Prints a text, in which a name has the bytes that it has in its folder. Returns why it can't be printed, or an
-    empty text."""
+    """Prints a text; file names in it are printed with their original bytes. Returns why that failed, or "" if it
+    succeeded."""
     if stream is None:
         return "it is closed"
     left = os.fsencode(text)
@@ -284,7 +289,7 @@ def complain(line: str) -> None:
 
 
 class Output:
-    """Standard output. Once it fails, nothing more is written to it."""
+    """Standard output. After the first failure nothing more is written, and `why` contains the reason."""
 
     why = ""
 
@@ -296,8 +301,8 @@ class Output:
 
 
 class Work:
-    """What a script does with each file: `visit` returns the status that a file gives, or raises why it gives none.
-    Each file is visited, whatever came of the ones before it."""
+    """The work of a script on several files. `visit`, which each script defines, treats one file and returns its exit
+    status. If it raises an error for one file, the next files are still visited."""
 
     def __init__(self, name: str) -> None:
         self.name, self.out, self.status = name, Output(), 0
@@ -307,12 +312,12 @@ class Work:
         raise NotImplementedError
 
     def fail(self, path: str, status: int, why: str) -> None:
-        """Notes and reports that nothing could be done with a file."""
+        """Reports why nothing could be done with a file, and records the exit status."""
         self.status = max(self.status, status)
         complain(path + why)
 
     def try_one(self, path: str, function: Callable[[], int]) -> None:
-        """Notes the status that a function gives, or reports why it can't do its work with a path."""
+        """Calls a function for a path and records the status that it returns. If it raises an error, reports that."""
         try:
             self.status = max(function(), self.status)
         except Refused as refused:
@@ -325,7 +330,7 @@ class Work:
             self.end_server()
 
     def visit_each(self, path: str) -> int:
-        """Visits the modules at a path, each with a server that hasn't failed."""
+        """Visits all modules at a path, and starts a new server after one has failed."""
         for it in modules_at(path):
             self.server = self.server or Server()
             self.try_one(it, functools.partial(self.visit, self.server, it))
@@ -337,7 +342,7 @@ class Work:
         self.server = None
 
     def visit_all(self, paths: List[str]) -> int:
-        """Visits the modules at each path, and returns the highest status."""
+        """Visits all modules at each of these paths, and returns the highest exit status."""
         self.server = Server()
         try:
             for path in paths:
@@ -349,19 +354,19 @@ class Work:
         return self.end()
 
     def only(self, path: str, function: Callable[[], int]) -> int:
-        """Does one thing with a path, and returns the status."""
+        """Calls a function for a single path, and returns the exit status."""
         self.try_one(path, function)
         return self.end()
 
     def end(self) -> int:
-        """Returns the highest status, after a complaint if standard output has failed."""
+        """Returns the highest exit status. If standard output has failed, reports that and returns 4."""
         if self.out.why:
             complain(f"{self.name}: standard output can't be written: {self.out.why}")
         return 4 if self.out.why else self.status
 
 
 def parser(name: str, what: str) -> argparse.ArgumentParser:
-    """Returns what reads the command line of a script."""
+    """Creates a script's parser of command lines, which also knows --version."""
     found = argparse.ArgumentParser(prog=name, description=what, allow_abbrev=False)
     found.add_argument("-V", "--version", action="version", version=f"{name} {VERSION}", help="print the version")
     return found
@@ -374,7 +379,8 @@ def stop(number: int, frame: object) -> NoReturn:
 
 
 def run(name: str, work: Callable[[], int]) -> int:
-    """Does the work of a script, and returns its status. A signal ends the work first, and then the script."""
+    """Calls a script's function `work`, and returns the exit status. If a signal arrives, the work ends first, and then
+    the signal ends the script."""
     for number in STOPPING:
         if signal.getsignal(number) != signal.SIG_IGN:
             signal.signal(number, stop)

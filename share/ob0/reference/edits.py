@@ -1,5 +1,5 @@
-"""Renaming and inlining, by docs/PROTOCOL.md and docs/LANGUAGE.md. An edit is a triple of a start, an end and a new text; a
-refusal is its name, with the range in it."""
+"""Computes the edits of renaming and inlining, according to docs/PROTOCOL.md and docs/LANGUAGE.md. An edit is a triple
+of a start, an end and the new text. A refusal is a pair of its name and the range that it mentions, or None."""
 from __future__ import annotations
 
 import re
@@ -17,7 +17,8 @@ Refusal = Tuple[str, Optional[Span]]
 
 
 class Meant(NamedTuple):
-    """What an identifier is: of a name its token and what declares it; of a field the token that declares it, and its record."""
+    """The thing that an identifier refers to. For a name: the identifier's token and its declaration. For a field: the
+    token that declares the field, and its record type."""
 
     token: Token
     declared: Declared | None
@@ -31,7 +32,7 @@ def patched(text: str, edits: Iterable[Edit]) -> str:
 
 
 def at_place(found: Text, at: int) -> Meant | None:
-    """What the identifier at a place is, None where there is none."""
+    """Returns the thing that the identifier at an offset refers to, or None if there is no identifier."""
     for token, declared in found.bound.items():
         if token.start <= at <= token.end:
             return Meant(token, declared, None)
@@ -42,14 +43,15 @@ def at_place(found: Text, at: int) -> Meant | None:
 
 
 def bindings(found: Text) -> list[int | str]:
-    """For each identifier that is bound, in order, the place in this list of what declares it (or a predeclared name)."""
+    """Returns, for each bound identifier in order, the index in this list of its declaration, or the name if it is
+    predeclared."""
     names = sorted(found.bound.items(), key=lambda it: it[0].start)
     index = {declared: at for at, (token, declared) in enumerate(names) if declared.token is token}
     return [index.get(declared, declared.name) for _, declared in names]
 
 
 def rename(text: str, at: int, new: str) -> list[Edit] | Refusal:
-    """The edits of a rename in a well-typed text, or the refusal: a name and a place."""
+    """Returns the edits that rename the identifier at an offset of a well-typed text, or the refusal."""
     found = Text(text)
     meant = at_place(found, at)
     if not meant:
@@ -72,7 +74,7 @@ def rename(text: str, at: int, new: str) -> list[Edit] | Refusal:
     edits = [(start, end, new) for start, end in sorted(places)]
     after = patched(text, edits)
     if declared:
-        # (a text past the limit has no tree: what is bound in it is looked up without its last spaces)
+        # (a text over the limit has no tree, so names are looked up in the text without its last spaces)
         changed = Text(after.rstrip())
         names = sorted(found.bound.items(), key=lambda it: it[0].start)
         for before, now, (token, _) in zip(bindings(found), bindings(changed), names):
@@ -88,7 +90,8 @@ def literal(value: Value) -> str:
 
 
 def inline(text: str, at: int, everywhere: bool) -> list[Edit] | Refusal:
-    """The edits of inlining a constant, or the refusal."""
+    """Returns the edits that replace one use of a constant by its value (or all uses, and its declaration, if
+    `everywhere`), or the refusal."""
     found = Text(text)
     meant = at_place(found, at)
     of = meant.declared if meant else None

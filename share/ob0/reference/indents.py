@@ -1,4 +1,5 @@
-"""How far in each line of a text is, by a walk over the whole text. Editors find the same from the heading above a line."""
+"""Computes how far each line of a text is indented, by reading the whole text. The editors' files compute the same from
+the nearest heading above a line."""
 from __future__ import annotations
 
 import re
@@ -11,7 +12,8 @@ FRESH = {";", "BEGIN", "THEN", "DO", "ELSE", "REPEAT", "CONST", "TYPE", "VAR"}
 
 
 class State(NamedTuple):
-    """What is open before a line: comments, blocks and the rest with their levels, parentheses; and whether a statement begins."""
+    """The open constructs before a line: the depth of comments, a stack of blocks, statements and records with their
+    levels, and the number of open parentheses. `fresh` says whether a statement or declaration begins there."""
 
     depth: int
     stack: List[Tuple[str, int]]
@@ -20,7 +22,8 @@ class State(NamedTuple):
 
 
 def tokens(line: str, depth: int) -> Iterator[Tuple[str, int]]:
-    """Yields the tokens of a line outside comments, and after the last one an empty one, each with the depth of comments there."""
+    """Yields the tokens of a line outside comments, each with the depth of open comments. At the end of the line yields
+    an empty token with the depth there."""
     at = 0
     while True:
         found = (DELIMITER if depth else TOKEN).search(line, at)
@@ -37,12 +40,12 @@ def tokens(line: str, depth: int) -> Iterator[Tuple[str, int]]:
 
 
 def inside(stack: List[Tuple[str, int]]) -> int:
-    """The level inside the innermost block or statement."""
+    """Returns the level of a line inside the innermost block or statement."""
     return next((level + 1 for kind, level in reversed(stack) if kind != "record"), 0)
 
 
 def after(state: State, token: str) -> State:
-    """The state after a token."""
+    """Returns the state after a token."""
     stack, parens = list(state.stack), state.parens
     if token in ("MODULE", "RECORD"):
         stack.append(("block" if token == "MODULE" else "record", 0))
@@ -65,7 +68,7 @@ def states(lines: List[str]) -> Iterator[State]:
 
 
 def level(state: State, word: str) -> int:
-    """The level of a line that begins with a word, in a state."""
+    """Returns the level of a line that begins with this word, if `state` is the state before it."""
     if not state.stack:
         return 0
     kind, outer = state.stack[-1]
@@ -80,7 +83,7 @@ def level(state: State, word: str) -> int:
 
 
 def first_word(lines: List[str]) -> str:
-    """The first token in these lines, or an empty one."""
+    """Returns the first token in these lines, or "" if there is none."""
     depth = 0
     for line in lines:
         for token, depth in tokens(line, depth):
@@ -90,14 +93,15 @@ def first_word(lines: List[str]) -> str:
 
 
 def levels(text: str) -> List[Tuple[int, bool]]:
-    """The level of each line, and whether it begins in a comment."""
+    """Returns, for each line, its level and whether it begins inside a comment."""
     lines = text.split("\n")
     found = enumerate(states(lines))
     return [(level(state, first_word(lines[at : at + 51])), state.depth > 0) for at, state in found]
 
 
 def indented(text: str, are_comments_left: bool) -> str:
-    """A text whose lines are indented by their levels; lines that begin in a comment are left as they are, or are indented too."""
+    """Returns a text with each line indented by its level. Lines that begin inside a comment stay unchanged if
+    `are_comments_left`."""
     found = []
     for line, (depth, is_comment) in zip(text.split("\n"), levels(text)):
         if is_comment and are_comments_left:

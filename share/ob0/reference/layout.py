@@ -1,4 +1,4 @@
-"""Formatting, by docs/LANGUAGE.md: the edits that lay a module out."""
+"""Computes the edits that format a module, according to docs/LANGUAGE.md."""
 from __future__ import annotations
 
 from reference.edits import Edit
@@ -8,7 +8,7 @@ from reference.text import Text
 
 
 def levels(module: Node) -> dict[Token, int]:
-    """The tokens that begin a line, each with its level."""
+    """Returns the tokens that begin a line in a formatted module, each with the line's level."""
     found = {module.first: 0}
 
     def block(node: Node, level: int) -> None:
@@ -38,7 +38,7 @@ def levels(module: Node) -> dict[Token, int]:
 
 
 def layout(text: str, indent: str) -> list[Edit]:
-    """The edits that lay a well-typed text out, each a whole gap."""
+    """Returns the edits that format a well-typed text. Each edit replaces the whole white space between two lexemes."""
     found = Text(text)
     begins, parser = levels(found.module), found.parser
     lexemes = found.lexemes
@@ -48,7 +48,7 @@ def layout(text: str, indent: str) -> list[Edit]:
         return "\n" + indent * level
 
     def level_at(place: int) -> int:
-        """The level of the line of the token at or after this place in the list."""
+        """Returns the level of the line that contains the first token at or after this index of the list of lexemes."""
         token = next((it for it in lexemes[place:] if it.kind != "comment"), None)
         if token is None:
             return 0

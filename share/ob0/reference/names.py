@@ -1,4 +1,5 @@
-"""Scopes, by docs/LANGUAGE.md: the declaration that each name is bound to, and the faults Duplicate, Undeclared and EndName."""
+"""Applies the rules of scopes in docs/LANGUAGE.md: binds each name to its declaration, and finds the faults Duplicate,
+Undeclared and EndName."""
 from __future__ import annotations
 
 
@@ -14,8 +15,8 @@ if TYPE_CHECKING:
 
 
 class Declared:
-    """A declaration: its kind is 'const', 'type', 'var' or 'procedure'. The type, the value and the formal parameters are
-    filled in by the rules of types; the token is None, and the block is empty, for a predeclared name."""
+    """A declaration. Its kind is 'const', 'type', 'var' or 'procedure'. The rules of types fill in the type, the value
+    and the formal parameters. A predeclared name has no token and an empty block."""
 
     def __init__(
         self,
@@ -37,7 +38,8 @@ class Declared:
 
 
 class Scopes:
-    """`bound` has the declaration of each identifier that declares, uses or closes; fields and the module's name are in none."""
+    """Binds the names of a module. `bound` maps each identifier that declares, uses or closes a name to its
+    declaration. It doesn't contain fields and the module's name."""
 
     def __init__(self, module: Node, predeclared: Iterable[Declared]) -> None:
         self.faults: set[tuple[int, int, str]] = set()
@@ -88,7 +90,7 @@ class Scopes:
             self.bound[node.closing] = node.declared
 
     def heading(self, node: Node) -> None:
-        """The parameters, in the procedure's block, and then its name, in the block around it."""
+        """Declares a procedure's parameters in its own block, and then its name in the surrounding block."""
         for _, tokens, written in node.formals:
             self.type(written)
             for it in tokens:

@@ -1,4 +1,4 @@
-"""The grammar, by docs/LANGUAGE.md: the tree of a text, or the first fault of its syntax."""
+"""Parses a text according to the grammar in docs/LANGUAGE.md: builds its tree, or finds the first syntax fault."""
 from __future__ import annotations
 
 from typing import Any, NoReturn, TYPE_CHECKING
@@ -10,14 +10,15 @@ if TYPE_CHECKING:
 
 
 class Refused(Exception):
-    """The parser's fault: a code, a token and a message."""
+    """Raised at the first syntax fault. Its arguments are a code, a token and a message."""
 
 
 class Node:
-    """A part of the tree, from one token to another. Its kind says which of these parts it has."""
+    """A node of the syntax tree, with its first and its last token. Its kind determines which of the attributes below
+    it has."""
 
-    # a module or a procedure: its name, its declarations, its body and the closing name; a procedure has parameters too, and
-    # what the rules of scopes find out
+    # A module or a procedure has a name, declarations, a body and the closing name. A procedure also has parameters,
+    # and the declaration that the rules of scopes create.
     name: Token
     constants: list[tuple[Token, Node]]
     types: list[tuple[Token, Node]]
@@ -31,20 +32,20 @@ class Node:
     length: Node
     element: Node
     fields: list[tuple[list[Token], Node]]
-    # a statement: parts of IF are conditions with statements, and `other` is after its ELSE
+    # a statement: the parts of an IF are conditions with statements, and `other` contains the statements after its ELSE
     target: Node
     right: Node
     arguments: list[Node]
     condition: Node
     parts: list[tuple[Node, list[Node]]]
     other: list[Node]
-    # an expression; a selector is a sign with the field's name, or with the index
+    # an expression; a selector is a pair of `.` and the field's name, or of `[` and the index
     operator: str
     left: Node
     operand: Node
     inside: Node
     selectors: list[tuple[Token, Token | Node]]
-    # the words that begin a line beside its first token
+    # the words, in addition to the node's first token, that begin a line
     words: list[Token]
 
     def __init__(self, kind: str, first: Token, **parts: Any) -> None:
@@ -56,12 +57,12 @@ RELATIONS = ("=", "#", "<", "<=", ">", ">=")
 
 
 class Parser:
-    """By descent, one function for each production."""
+    """A recursive-descent parser with a method for each production."""
 
     def __init__(self, text: str, tokens: list[Token]) -> None:
         end = Token("end", "", len(text))
         self.tokens, self.at = [*(it for it in tokens if it.kind != "comment"), end], 0
-        # what the layout needs: signs, and parentheses that open parameters or arguments
+        # needed for formatting: unary signs, and parentheses that open parameters or arguments
         self.signs: set[Token] = set()
         self.opening: set[Token] = set()
 
@@ -73,21 +74,22 @@ class Parser:
         raise Refused("Syntax", self.tokens[self.at], f"expected {expected}")
 
     def need(self, kind: str) -> Token:
-        """Takes a token of this kind and gives it."""
+        """Consumes a token of this kind and returns it. Raises Refused if the next token is of another kind."""
         if self.kind != kind:
             self.refuse({"ident": "identifier", "end": "end of text"}.get(kind, kind))
         self.at += 1
         return self.tokens[self.at - 1]
 
     def has(self, *kinds: str) -> Token | None:
-        """Takes a token of one of these kinds, if it is there."""
+        """Consumes and returns the next token if it is of one of these kinds, otherwise returns None."""
         if self.kind not in kinds:
             return None
         self.at += 1
         return self.tokens[self.at - 1]
 
     def deeper(self, depth: int) -> int:
-        """The nesting of what the next token opens."""
+        """Returns the nesting depth inside the construct that the next token opens. Raises Refused if it is nested too
+        deep."""
         if depth == 100:
             raise Refused("TooDeep", self.tokens[self.at], "nested too deep")
         return depth + 1
@@ -105,7 +107,7 @@ class Parser:
         return self.close(node)
 
     def block(self, node: Node, depth: int) -> None:
-        """Declarations, a body, END and the closing name."""
+        """Parses the declarations, the body, END and the closing name of a module or procedure."""
         node.constants, node.types, node.variables, node.procedures, node.body = [], [], [], [], []
         first = self.at
         if self.has("CONST"):

@@ -1,4 +1,5 @@
-"""What is at a place, by docs/PROTOCOL.md and docs/LANGUAGE.md: the hover text, the declaration, and every use."""
+"""Answers questions about an identifier, according to docs/PROTOCOL.md and docs/LANGUAGE.md: its hover text, its
+declaration and all its uses."""
 from __future__ import annotations
 
 
@@ -41,8 +42,9 @@ def span(token: Token) -> Span:
 
 
 def at_place(found: Text, at: int) -> tuple[Span, str, Span | None, list[Span]] | None:
-    """At a place of a well-typed text: the span of the name or field there, its hover text, the span of what
-    declares it, and all its places, that one too. None where there is none."""
+    """Returns four facts about the name or field at an offset of a well-typed text: its span, its hover text, the span
+    of its declaration (None if it is predeclared), and the spans of all its occurrences. Returns None if there is no
+    name or field."""
     for token, declared in found.bound.items():
         if on(token, at):
             at_declaration = span(declared.token) if declared.token else None

@@ -1,4 +1,4 @@
-"""Runs of a well-typed module, by docs/LANGUAGE.md: what is written, and how the run ends."""
+"""Runs a well-typed module according to docs/LANGUAGE.md: computes its output and how the run ends."""
 from __future__ import annotations
 
 import copy
@@ -11,12 +11,13 @@ from reference.text import Text
 from reference.types import INTEGER, Type
 from reference.values import Ends, apply, whole
 
-Activation = Dict[Declared, Any]  # of a variable its cell, of a procedure the activation in which it was declared
-Place = Tuple[Any, Any]  # a holder, and a key in it
+Activation = Dict[Declared, Any]  # each variable's cell, and for each procedure the activation in which it was declared
+Place = Tuple[Any, Any]  # a list or dict, and the key of a value in it
 
 
 class Run:
-    """A run of a well-typed module."""
+    """A run of a well-typed module. `out` contains the written numbers and line ends, and `end` states how the run
+    ended."""
 
     def __init__(self, text: str, given: Iterable[int] = (), calls: int = 64, turns: int = 100000) -> None:
         self.given, self.calls, self.turns, self.open = list(given), calls, turns, 0
@@ -34,8 +35,8 @@ class Run:
         return "".join("\n" if it == "\n" else f" {it}" for it in self.out)
 
     def enter(self, node: Node, frame: Activation) -> None:
-        """Runs a body with new variables in an activation. An activation maps each variable to a cell, and each
-        procedure to the activation in which it was declared."""
+        """Executes the body of a module or procedure after creating its variables in `frame`. An activation maps each
+        variable to its cell, and each procedure to the activation in which it was declared."""
         for names, _ in node.variables:
             for it in names:
                 declared = self.bound[it]
@@ -107,7 +108,8 @@ class Run:
             self.out.append("\n")
 
     def place(self, node: Node, frame: Activation) -> Place:
-        """A place: a holder and a key in it."""
+        """Evaluates a designator to a place: a list or a dict, and the key of the value in it. Raises Ends if an index
+        is out of range."""
         cell = frame[self.bound[node.first]]
         holder, key = cell if isinstance(cell, tuple) else (cell, 0)
         for _, part in node.selectors:
@@ -144,7 +146,8 @@ class Run:
 
 
 def put(holder: Any, key: Any, value: Any) -> None:
-    """Gives a place another value. Of an array or a record each part stays where it is, as VAR parameters lead to it still."""
+    """Assigns a value to a place. An array or a record is overwritten part by part, because VAR parameters may still
+    refer to its parts."""
     if isinstance(value, (list, dict)):
         for it in value if isinstance(value, dict) else range(len(value)):
             put(holder[key], it, value[it])
@@ -153,7 +156,8 @@ def put(holder: Any, key: Any, value: Any) -> None:
 
 
 class Frame(Activation):
-    """An activation: what isn't found here is found in the one round it."""
+    """The activation of a procedure. Names that it doesn't contain are looked up in the activation of the surrounding
+    block."""
 
     def __init__(self, outer: Activation) -> None:
         super().__init__()
@@ -164,7 +168,7 @@ class Frame(Activation):
 
 
 def zero(type_: Type | None) -> Any:
-    """The first value of a variable of a well-typed module."""
+    """Returns the initial value of a variable of this type."""
     assert type_
     if type_.form == "array":
         return [zero(type_.element) for _ in range(type_.length)]

@@ -1,4 +1,4 @@
-"""Scanning, by docs/LANGUAGE.md: the lexemes of a text, and what is wrong with them. Offsets count characters."""
+"""Scans a text into lexemes, according to docs/LANGUAGE.md, and finds the lexical faults. Offsets count characters."""
 from __future__ import annotations
 
 import re
@@ -7,18 +7,19 @@ WORDS = (
     "ARRAY BEGIN CONST DIV DO ELSE ELSIF END IF MOD MODULE OF OR PROCEDURE RECORD REPEAT THEN TYPE UNTIL VAR WHILE".split()
 )
 SYMBOLS = sorted("& * + - = # < <= > >= ~ . , ; : := ( ) [ ]".split(), key=len, reverse=True)
-LIMIT, MOST = 1048576, 2147483647  # bytes of a text, the greatest number
+LIMIT, MOST = 1048576, 2147483647  # the maximal number of bytes of a text, and the greatest number
 
 
 class Token:
-    """A lexeme: its kind is 'ident', 'integer', 'comment', 'end', or its own spelling."""
+    """A lexeme. Its kind is 'ident', 'integer', 'comment' or 'end'; the kind of a reserved word or a symbol is its
+    spelling."""
 
     def __init__(self, kind: str, text: str, start: int) -> None:
         self.kind, self.text, self.start, self.end = kind, text, start, start + len(text)
 
 
 def comment_end(text: str, at: int) -> int | None:
-    """Where the comment that opens here ends, or None."""
+    """Returns the offset after the comment that opens at `at`, or None if it isn't closed."""
     depth = 0
     while at < len(text):
         pair = text[at : at + 2]
@@ -34,12 +35,12 @@ def comment_end(text: str, at: int) -> int | None:
 
 SPACE = re.compile(r"[ \t\r\n]+")
 WORD = re.compile(r"[A-Za-z][A-Za-z0-9]*")
-NUMBER = re.compile(r"([0-9]+)[A-Za-z0-9]*")  # and the letters that join it
+NUMBER = re.compile(r"([0-9]+)[A-Za-z0-9]*")  # a number, and letters that follow it without a space
 SYMBOL = re.compile("|".join(map(re.escape, SYMBOLS)))
 
 
 def scan(text: str) -> tuple[list[Token], list[tuple[str, int, int]]]:
-    """The lexemes that aren't white space, and the faults, triples of a code, a start and an end."""
+    """Returns the lexemes of a text without white space, and the faults as triples of a code, a start and an end."""
     if len(text.encode()) > LIMIT:
         return [], [("TooLong", 0, 0)]
     found: list[Token] = []

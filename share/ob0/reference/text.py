@@ -1,4 +1,5 @@
-"""A text with everything that the rules say of it, layer by layer: a layer is gone through only where those before it found no fault."""
+"""Applies all rules of the language to a text, one layer after another. A layer is checked only if the layers before it
+found no fault."""
 from __future__ import annotations
 
 import re
@@ -22,8 +23,8 @@ sys.setrecursionlimit(20000)
 
 
 class Text:
-    """`faults` has a code, a start, an end and, of the parser's, a message for each. `bound` and `fields` are those of Scopes
-    and Types; without a tree both are empty."""
+    """An analysed text. `faults` lists a code, a start, an end and a message for each fault; only the parser's faults
+    have a message. `bound` and `fields` are the ones of Scopes and Types, and are empty if the text has no tree."""
 
     def __init__(self, text: str) -> None:
         self.text = text
@@ -51,14 +52,15 @@ class Text:
         return not self.faults
 
     def position(self, at: int, utf8: bool = False) -> tuple[int, int]:
-        """Line and character of an offset."""
+        """Returns the line and the character of an offset, as LSP counts them: in UTF-16 units, or in bytes if
+        `utf8`."""
         before = re.split(r"\r\n|\r|\n", self.text[:at])
-        # (between CR and LF is the end of the line)
+        # (an offset between CR and LF counts as the end of the line before)
         if self.text[at - 1 : at + 1] == "\r\n":
             before = re.split(r"\r\n|\r|\n", self.text[: at - 1])
         line = before[-1]
         return len(before) - 1, len(line.encode()) if utf8 else len(line.encode("utf-16-le")) // 2
 
     def places(self, declared: Declared) -> list[Span]:
-        """Where a declaration is declared, used and closed, in order."""
+        """Returns the spans at which a name is declared, used and closed, in order."""
         return sorted((token.start, token.end) for token, it in self.bound.items() if it is declared)

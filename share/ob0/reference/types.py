@@ -1,4 +1,5 @@
-"""Types, by docs/LANGUAGE.md: the type of each declaration, expression and designator, and the faults of types and constants."""
+"""Applies the rules of types in docs/LANGUAGE.md: computes the type of each declaration, expression and designator, and
+finds the faults of types and constants."""
 from __future__ import annotations
 
 from collections.abc import Iterable
@@ -13,13 +14,14 @@ Field = Tuple[str, "Type | None", Token]  # its name, its type, and the token th
 
 
 class Type:
-    """A type; each ARRAY and RECORD in the text makes one of its own. None is an unknown one."""
+    """A type. Each ARRAY and RECORD in the text creates a different one. An unknown type is represented by None."""
 
     def __init__(self, form: str, length: int = 0, element: Type | None = None, fields: Iterable[Field] = ()) -> None:
         self.form, self.length, self.element, self.fields = form, length, element, list(fields)
 
     def size(self) -> tuple[int, int]:
-        """Scalars and depth."""
+        """Returns how many scalars a value of the type contains, and how deep arrays and records are nested in the
+        type."""
         if self.form == "array":
             scalars, depth = self.element.size() if self.element else (0, 0)
             return self.length * scalars, depth + 1
@@ -42,7 +44,8 @@ PREDECLARED = [
 
 
 class Types:
-    """`fields` has each identifier that is a field's, with the identifier that declares it and its record."""
+    """Computes the types of a module. `fields` lists each identifier of a field, with the identifier that declares the
+    field and its record type."""
 
     def __init__(self, module: Node, bound: dict[Token, Declared]) -> None:
         self.faults: set[tuple[int, int, str]] = set()
@@ -70,15 +73,16 @@ class Types:
         self.sequence(node.body)
 
     def variables(self, tokens: list[Token], written: Node) -> list[Type | None]:
-        """Gives variables their type, and returns it once for each."""
+        """Sets the type of variables that are declared together, and returns a list with this type once for each of
+        them."""
         type_ = self.type(written)
         for it in tokens:
             self.bound[it].type = type_
         return [type_] * len(tokens)
 
     def constant(self, node: Node, type_: Type | None = None) -> tuple[Type | None, Value | None]:
-        """The type and value of a constant expression, None where they have a fault. An expression that isn't of the required
-        type isn't evaluated."""
+        """Returns the type and the value of a constant expression; each is None if it can't be computed. If a type is
+        required and the expression has another one, reports that and doesn't evaluate the expression."""
         if type_ and not self.requires(node, type_, True):
             return None, None
         type_ = type_ or self.expression(node, True)
@@ -91,7 +95,7 @@ class Types:
             return None, None
 
     def constant_of(self, node: Node) -> Value:
-        """The value of a constant that an expression without a fault names."""
+        """Returns the value of the constant that a designator names. Raises Ends if the value is unknown."""
         found = self.bound[node.first].value
         if found is None:
             raise Ends("Unknown")
@@ -132,14 +136,14 @@ class Types:
         return made
 
     def requires(self, node: Node, type_: Type, constant: bool = False) -> bool:
-        """Whether an expression has a type; another one is reported."""
+        """Returns whether an expression has this type. Reports TypeMismatch if it has another type."""
         found = self.expression(node, constant)
         if found and found is not type_:
             self.report("TypeMismatch", node.first, node.last)
         return found is type_
 
     def expression(self, node: Node, constant: bool = False) -> Type | None:
-        """The type of an expression, None where something in it has a fault."""
+        """Returns the type of an expression, or None if a part of it has a fault."""
         if node.kind == "integer":
             return INTEGER
         if node.kind == "parens":
@@ -160,7 +164,7 @@ class Types:
             self.report("TypeMismatch", node.left.first, node.left.last)
             return None
         if node.operator in "=#":
-            # (where the left one is unknown nothing is required of the right one)
+            # (if the left operand's type is unknown, the right operand may have any type)
             wants = [it for it in (left or right,) if it]
         if right and right not in wants:
             self.report("TypeMismatch", node.right.first, node.right.last)
@@ -168,7 +172,8 @@ class Types:
         return result if left and right else None
 
     def designator(self, node: Node, constant: bool = False) -> Type | None:
-        """The type of a designator in an expression."""
+        """Returns the type of a designator in an expression, or None if it has a fault. With `constant`, reports
+        variables as NotConstant."""
         found, type_ = self.bound.get(node.first), None
         if found and found.kind in ("type", "procedure"):
             self.report("WrongKind", node.first)
@@ -179,7 +184,7 @@ class Types:
         return self.select(node, type_, constant)
 
     def select(self, node: Node, type_: Type | None, constant: bool = False) -> Type | None:
-        """The type of a designator whose name has a type."""
+        """Returns the type of a designator after its selectors, if its name has the type `type_`."""
         for token, part in node.selectors:
             type_ = self.index(token, part, type_, constant) if isinstance(part, Node) else self.field(token, part, type_)
         return type_
@@ -238,7 +243,7 @@ class Types:
             for it in node.arguments:
                 self.expression(it)
         elif len(found.formals) != len(node.arguments):
-            # (of the arguments only the names are looked up)
+            # (the arguments' types aren't checked)
             self.report("ArgumentCount", node.name)
         else:
             for (by_place, type_), argument in zip(found.formals, node.arguments):
@@ -247,7 +252,7 @@ class Types:
                     self.report("TypeMismatch", argument.first, argument.last)
 
     def place(self, node: Node) -> Type | None:
-        """The type of an argument of a VAR parameter."""
+        """Returns the type of an argument of a VAR parameter. Reports NotVariable if the argument isn't a variable."""
         if node.kind != "designator":
             self.expression(node)
             self.report("NotVariable", node.first, node.last)

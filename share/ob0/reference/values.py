@@ -1,4 +1,4 @@
-"""Values: what an operator gives, and what a constant expression is, by docs/LANGUAGE.md."""
+"""Evaluates operators and constant expressions, according to docs/LANGUAGE.md."""
 from __future__ import annotations
 
 from collections.abc import Callable
@@ -11,7 +11,7 @@ LEAST, MOST = -2147483648, 2147483647
 
 
 class Ends(Exception):
-    """The end of a run, or of an evaluation."""
+    """Raised if a run, or the evaluation of a constant expression, ends early. The argument names the reason."""
 
 
 def whole(number: int) -> int:
@@ -21,7 +21,8 @@ def whole(number: int) -> int:
 
 
 def apply(operator: str, left: Value, right: Value) -> Value:
-    """The value of an operation on two values, & and OR aside."""
+    """Applies an operator, except & and OR, to two values. Raises Ends if the result overflows or a divisor isn't
+    positive."""
     if operator in ("DIV", "MOD"):
         if right < 1:
             raise Ends("Divisor")
@@ -32,7 +33,8 @@ def apply(operator: str, left: Value, right: Value) -> Value:
 
 
 def value_of(node: Node, constant_of: Callable[[Node], Value]) -> Value:
-    """The value of a constant expression."""
+    """Returns the value of a constant expression, with `constant_of` for the constants in it. Raises Ends if an
+    operation in it fails."""
     if node.kind == "integer":
         return int(node.first.text)
     if node.kind == "parens":
