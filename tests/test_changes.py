@@ -99,12 +99,12 @@ def session(seed: int, utf8: bool, steps: int) -> None:
         same(server.end(), 0, "the status")
 
 
-@test("changes: after 1,000 random steps in UTF-16 units the server reports each bad character at the editor's position")
+@test("changes: in UTF-16 units the server reports bad characters at their positions after each of 1,000 random steps")
 def utf16() -> None:
     session(1, False, 1000)
 
 
-@test("changes: after 1,000 random steps in UTF-8 units the server reports each bad character at the editor's position")
+@test("changes: in UTF-8 units the server reports bad characters at their positions after each of 1,000 random steps")
 def utf8_units() -> None:
     session(2, True, 1000)
 
@@ -128,7 +128,7 @@ def at_end(text: str, *changes: tuple[str | None, str], encodings: list[Any] | s
     return start
 
 
-@test("changes: ranges at line ends and in surrogate pairs, swapped ranges and ranges after the text work as defined")
+@test("changes: ranges at line ends, in surrogate pairs, swapped or after the text replace the expected part")
 def lines() -> None:
     same(at_end("(* 😀 *) x := 1;"), place(0, 16), "units of UTF-16")
     same(at_end("(* 😀 *) x := 1;", ("0:9-0:10", "yz")), place(0, 17), "a name replaced after a pair")
@@ -204,7 +204,7 @@ def one_notification() -> None:
     same(all_at_once("$", ("0:0-0:0", "\r\n"), ("1:0-1:0", "\r"))[1], published(bad("2:0-2:1"), version=2), "two changes")
 
 
-@test("changes: each range refers to the text after the previous change, and a full text follows a malformed range")
+@test("changes: each range refers to the text after the previous change, and a full text is valid after a bad range")
 def one_after_another() -> None:
     module = "MODULE M; END M."
     given = [

@@ -277,7 +277,7 @@ def folders() -> None:
         holds(it in listed, f"the page has no {it}")
 
 
-@test("exercises: mark.py tells Clock.mod from Clock.Mod, and ignores the module's name and a missing last WriteLn")
+@test("exercises: mark.py distinguishes Clock.mod and Clock.Mod, and ignores a module's name and a missing last WriteLn")
 def told_apart() -> None:
     wrong_one = answer("Clock").replace("DIV", "MOD", 1)
     status, lines = handed_in({"anna/Clock.mod": answer("Clock"), "anna/Clock.Mod": wrong_one}, "anna")

@@ -254,7 +254,7 @@ def traced() -> None:
     in_folder({**MODULES, "m.mod": FAULTS, "gcd.mod": text_of("examples", "Gcd.mod")}, trial)
 
 
-@test("scripts: ob0-trace ends with a status of its own if its second run differs from `ob0 run`")
+@test("scripts: ob0-trace ends with status 6 if its second run differs from `ob0 run`")
 def traced_otherwise() -> None:
     said = "m.mod: the second run ends with Done or prints something else, unlike `ob0 run`: please report this\n"
     for line in ("printf ' 1 2'", "printf ' 1\\n'; echo 'fault: Index' >&2; exit 1"):

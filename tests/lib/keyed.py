@@ -28,7 +28,7 @@ class Keyed:
 
     page = ""  # the folder of the editor's page below editors/
     asks: Dict[str, Tuple[str, str, bool]] = {}  # for each edit: the keys, the method, and whether the editor accepts no other key until the answer arrives
-    line_above = line_removed = ""  # the keys that insert the line `(* new *)` above the text, and the keys that remove it
+    line_above = line_removed = ""  # the keys that insert the line `(* new *)` above the text, and that remove it
     letters = "é☺𝒳😀"  # the letters that are typed in addition to ASCII
 
     def __init__(self, folder: str, text: str) -> None:
