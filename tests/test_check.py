@@ -167,7 +167,7 @@ def hundred() -> None:
     same([it["range"]["start"]["character"] for it in found], [16 + 3 * at for at in range(100)], "where")
 
 
-@test("check: a module may assign to parameters, call procedures recursively, rename types and repeat field names")
+@test("check: a module may assign to parameters, call procedures recursively, and repeat field names")
 def well_typed() -> None:
     texts = [
         "MODULE M; VAR r: RECORD a: INTEGER END; s: RECORD a: BOOLEAN END; BEGIN r.a := 1; s.a := TRUE END M.",

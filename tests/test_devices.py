@@ -65,7 +65,7 @@ def failing_reader() -> None:
     ended(failing.undisturbed(SERVE, INPUT, reads=len(INPUT) + 1), OUTPUT, 0, b"", "the call after the exit")
 
 
-@test("devices: if a write fails or moves no byte at any byte of a conversation, `serve` ends with `fault: Write`")
+@test("devices: if a write fails or writes nothing at any byte of a conversation, `serve` ends with `fault: Write`")
 def failing_writer() -> None:
     for ending in ("", ".."):
         for found in failing.walk(SERVE, INPUT, None, "writes", range(len(OUTPUT)), ending):
@@ -142,7 +142,7 @@ def writer() -> None:
     same((ran.stderr, ran.returncode), (b"fault: Write\n", 4))
 
 
-@test("devices: at the limit on file sizes SIGXFSZ ends `serve`, or `serve` ends with `fault: Write` if it is ignored")
+@test("devices: SIGXFSZ ends `serve` at the limit on file sizes, and `fault: Write` does if SIGXFSZ is ignored")
 def limit_of_files() -> None:
     for handler, wanted in ((signal.SIG_DFL, (b"", -signal.SIGXFSZ)), (signal.SIG_IGN, (b"fault: Write\n", 4))):
 

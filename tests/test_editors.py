@@ -252,22 +252,22 @@ def as_emacs_shows() -> list[Any]:
     return found
 
 
-@test("Neovim: all errors of an invalid module are shown, and none is left after the module is fixed")
+@test("Neovim: all errors of an invalid module are shown, and they disappear once the module is fixed")
 def neovim_types() -> None:
     same(in_neovim("mending", FAULTY, mended=MENDED), [("opened", as_neovim_shows()), ("mended", []), ("ended", ENDED)])
 
 
-@test("Emacs: all errors of an invalid module are shown, and none is left after the module is fixed")
+@test("Emacs: all errors of an invalid module are shown, and they disappear once the module is fixed")
 def emacs_types() -> None:
     same(in_emacs("mending", FAULTY, mended=MENDED), [("opened", as_emacs_shows()), ("mended", []), ("ended", 0)])
 
 
-@test("lsp-mode: all errors of an invalid module are shown, and none is left after the module is fixed")
+@test("lsp-mode: all errors of an invalid module are shown, and they disappear once the module is fixed")
 def lsp_mode_types() -> None:
     same(in_lsp_mode("mending", FAULTY, mended=MENDED), [("opened", as_neovim_shows()), ("mended", [])])
 
 
-@test("Vim: all errors of an invalid module are shown, and none is left after the module is fixed")
+@test("Vim: all errors of an invalid module are shown, and they disappear once the module is fixed")
 def vim_types() -> None:
     same(in_vim("mending", FAULTY, mended=MENDED), [("opened", as_neovim_shows()), ("mended", [])])
 
@@ -541,7 +541,7 @@ def vim_refused() -> None:
     same(found, [("opened", []), *steps, *told])
 
 
-@test("Vim: ALE formats a module with ob0-format, and the line endings and the module's output stay the same")
+@test("Vim: ALE formats a module with ob0-format, and the line endings and the module's output are unchanged")
 def vim_formatted() -> None:
     for line_end in ("\n", "\r\n"):
         text, written = "MODULE M;\nBEGIN Write(1) END M.\n", "MODULE M;\nBEGIN\n  Write(1)\nEND M.\n"
@@ -646,8 +646,8 @@ def in_each(what: str, clients: list[tuple[str, Client, Steps]], function: Calla
         test(f"{name}: {what}")(functools.partial(function, editor, end, *more))
 
 
-in_each("a rename is applied, and the module's output stays the same", CLIENTS, renames, RENAMED)
-in_each("a rename of a record's field is applied, and the module's output stays the same", CLIENTS, renames, FIELDS_RENAMED)
+in_each("a rename is applied, and the module's output is unchanged", CLIENTS, renames, RENAMED)
+in_each("a rename of a record's field is applied, and the module's output is unchanged", CLIENTS, renames, FIELDS_RENAMED)
 
 LEAST_HERE = LEAST.replace("+ c", "+ (-2147483647 - 1)")
 LEAST_EVERYWHERE = LEAST_HERE.replace("c = -2147483647 - 1;", "")
@@ -674,7 +674,7 @@ def inlines(editor: Client, end: Steps) -> None:
         keeps_the_run(text, dict(found)["text"], out)
 
 
-in_each("both ways to inline a constant are offered and applied, and the module's output stays the same", CLIENTS, inlines)
+in_each("both ways to inline a constant are offered and applied, and the module's output is unchanged", CLIENTS, inlines)
 
 # each row: the width of a level, whether it is spaces, a text, the formatted text, an input, and what both print for it
 FORMATTED = [
@@ -718,10 +718,10 @@ def formats(editor: Client, end: Steps) -> None:
         keeps_the_run(text, dict(found)["text"], out, given)
 
 
-in_each("a module is formatted, a second formatting changes nothing, and its output stays the same", CLIENTS[:2], formats)
+in_each("a module is formatted, a second formatting changes nothing, and the module's output is unchanged", CLIENTS[:2], formats)
 
 
-@test("lsp-mode: a module is formatted as expected, and its output stays the same")
+@test("lsp-mode: a module is formatted as expected, and the module's output is unchanged")
 def lsp_mode_format() -> None:
     for size, spaces, text, wanted, given, out in FORMATTED:
         if (size, spaces) == (2, True):  # (what ob0-mode requests)
@@ -1091,7 +1091,7 @@ def replaced_in_other_cases(which: Which, *names: str) -> None:
 
 
 for name in ("Emacs by eglot", "Emacs by lsp-mode"):
-    test(f"{name}: a replacement leaves names in the other case, and the server's text equals the editor's")(functools.partial(replaced_in_other_cases, *KEYED[name]))
+    test(f"{name}: a replacement of `n` leaves `N` unchanged, and the server's text equals the editor's")(functools.partial(replaced_in_other_cases, *KEYED[name]))
 
 
 @test("Neovim: a chosen code action does nothing if the text has changed since the action was offered")

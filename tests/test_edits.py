@@ -150,7 +150,7 @@ def field_renamed_by_command() -> None:
     through_command(FIELD_RENAMES)
 
 
-@test("rename: a field can be renamed at each place where it occurs, and the module's output stays the same")
+@test("rename: a field can be renamed at each of its occurrences, and the module's output is unchanged")
 def field_places() -> None:
     for text, names in FIELDS_MARKED:
         plain, places = unmarked(text)
@@ -413,7 +413,7 @@ INLINED: List[Tuple[str, Optional[str], List[str]]] = [
 ]
 
 
-@test("inline: both actions make the expected edits, and the module's output stays the same")
+@test("inline: both actions make the expected edits, and the module's output is unchanged")
 def inline_runs() -> None:
     for text, written, refused in INLINED:
         plain, uses = unmarked(text)

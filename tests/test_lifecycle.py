@@ -200,7 +200,7 @@ def refused_lines() -> None:
         same((found.out, found.err.decode(), found.status), (b"", wanted, 2), f"ob0 {line}")
 
 
-# how each command's help begins: with its purpose and its usage
+# the help of each command begins with these: its purpose and its usage
 HELP_HEADS = {
     "": ("A language server for Oberon-0", "<COMMAND>"),
     "serve": ("Serve one conversation with an editor over standard input and output", "serve [OPTIONS]"),

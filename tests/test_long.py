@@ -6,7 +6,7 @@ import several_documents
 from harness import test
 
 
-@test("long: the diagnostics equal those of a new `check` over 1,500 changes and questions, and memory doesn't grow")
+@test("long: the diagnostics equal a new `check`'s over 1,500 changes and questions, and memory doesn't grow")
 def talk() -> None:
     long_conversation.converse(1500, seed=1)
 

@@ -127,7 +127,7 @@ def not_refused() -> None:
     same(judged(uncovered), mutants.NOT_JUDGED, "a body that the checker doesn't cover")
 
 
-@test("mutants: a refusal by another clause or function, a callee's `requires` or missing names counts as elsewhere")
+@test("mutants: another clause or function, a callee's `requires` or missing names don't count as the clause's refusal")
 def elsewhere() -> None:
     for goal in ("returns-clause-ok", "loop-c-preserved", "count-requires-clause-few", "count-requires-returns"):
         same(judged(REFUSED.replace("returns-in-Utf16", goal)), mutants.ELSEWHERE, goal)
@@ -335,7 +335,7 @@ def kept_over_renaming() -> None:
 BRANCH = EDIT.replace("new:     n", "new:     if n == 7 { n } else { n + 1 }")
 
 
-@test("mutants: a mutant's right form must keep the new branch, return, function or closure, and differ from the old")
+@test("mutants: a right form must keep the new branch, return, function or closure, and differ from the old text")
 def right_forms() -> None:
     def why(right: str, edit: str = BRANCH) -> Optional[str]:
         with small_crate(edit=f"{edit}# right: {right}\n"):

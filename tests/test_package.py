@@ -454,7 +454,7 @@ def in_emacs() -> None:
         same(text_of(report), f"({' '.join(['ob0-mode'] * (1 + len(examples())))})")
 
 
-@test("package: package-lint and checkdoc accept the Emacs files, except that ob0-mode.el names no home page")
+@test("package: package-lint and checkdoc accept the Emacs files, except that ob0-mode.el has no home page")
 def linted() -> None:
     want("Emacs", "package-lint")
     with temporary() as room:
@@ -474,7 +474,7 @@ def linted() -> None:
 def in_kakoune() -> None:
     want("Kakoune")
     with installed_home() as (room, usr, environment, work):
-        # (Kakoune reads only its runtime folder, so this one gets Kakoune's own files and those of the package)
+        # (Kakoune reads only its runtime folder, so this one gets Kakoune's own files and the package's)
         runtime = os.path.join(room, "runtime")
         shutil.copytree("/usr/share/kak", runtime, symlinks=True, ignore=shutil.ignore_patterns("doc"))
         shutil.copytree(os.path.join(usr, "share", "kak"), runtime, dirs_exist_ok=True)

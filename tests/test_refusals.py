@@ -53,7 +53,7 @@ def goal_at(name: str) -> str:
     return BY_GOAL.format(line=turned.first if name == turned.name else turned.first - 5)
 
 
-@test("refusals: an edit counts as refused if a goal of the clause in its first line is unproved or its answer fails")
+@test("refusals: an edit counts as refused if a goal of the clause in its first line is unproved or wrongly answered")
 def by_its_clause() -> None:
     same(why(FRAME, BY_ANSWER), None, "an answer")
     same(why(TEXT, goal_at("character_width")), None, "a goal")
@@ -75,7 +75,7 @@ def by_something_else() -> None:
     holds(why(TEXT, goal_at("character_width").replace("returns-in-Utf16", "count-requires-few")), "what a callee requires")
 
 
-@test("refusals: an edit fails if it is still proved, can't be tried, or has no line in the output of `rt ci`")
+@test("refusals: an edit counts as failed if it is still proved, can't be tried, or isn't in the output of `rt ci`")
 def not_at_all() -> None:
     for said in ("NOT REFUSED: the crate is still proved with this edit", "BAD EDIT: an 'old:' text is in src/framer.rt 2 times, and not once"):
         same(why(FRAME, said), said, "what the kit says")

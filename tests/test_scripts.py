@@ -220,7 +220,7 @@ TRACED: dict[str, list[str]] = {
 }
 
 
-@test("scripts: ob0-trace reports where a run ends, with the statement, the open calls and their variables")
+@test("scripts: ob0-trace reports the line and statement at which a run ends, the open calls and their variables")
 def traced() -> None:
     def trial(work: str, own: dict[str, str]) -> None:
         for given, wanted in TRACED.items():

@@ -195,7 +195,7 @@ DOUBLED = {
 }
 
 
-@test("sources: no two types of the code, and no two types or facts of the definitions, share an unlisted name")
+@test("sources: no two types in the code share a name, and no two types or facts in definitions, unless it is listed")
 def names_apart() -> None:
     in_code = r"^\s*(?:pub(?:\(\w+\))? )?(?:struct|enum|trait) (\w+)"
     in_definitions = r"^ *(?:(?:abbrev|pub|record|data) )+([A-Z]\w*)(?: |$)"

@@ -166,7 +166,7 @@ PARTS = {"docs/STATEMENT.md": PAGE, **{f"Part {part}": "" for part in range(4, 1
 SUMS = {"Without the language": 3, "With the language": 4}
 
 
-@test("statement: the pages have at most 260 definitions and 1,190 lines, or 505 and 2,800 with the language's")
+@test("statement: the pages have at most 260 definitions and 1,190 lines, and 505 and 2,800 with the language")
 def short_enough() -> None:
     table = rows()
     for name, most in (("Without the language", (260, 1190)), ("With the language", (505, 2800))):
@@ -195,7 +195,7 @@ def counts_hold() -> None:
         same(found, table[part][0], f"the definitions of {part}")
 
 
-@test("statement: STATEMENT.md contains the contract of `serve`, and DEFINITIONS.md contains both sides of `play_in`'s")
+@test("statement: STATEMENT.md contains the contract of `serve`, and DEFINITIONS.md both sides of `play_in`'s contract")
 def tie_is_there() -> None:
     first = "\n".join(text for _, text in [*fenced("agda", text_of(PAGE)), *fenced("rust", text_of(PAGE))])
     for it in ("pub fn serve<", "record ServeGuaranteesHoldForExchange ", "record GuaranteesHoldForExchange ", "record AppliesAnswer ", "IsAllowedMove :", "ExchangeTakesTurn :"):
@@ -254,7 +254,7 @@ def sources() -> str:
     return "\n".join(text_of(os.path.relpath(path, TOP)) for path in paths)
 
 
-@test("statement: the laws and tests that support the explanations exist, and so do the laws that the pages mention")
+@test("statement: the laws and tests that support the explanations exist, as do all laws that the pages mention")
 def spoken_for() -> None:
     written = sources()
     said = re.findall(r"For that speak (.*?)\n\n", second(), re.S)

@@ -199,7 +199,7 @@ def kept() -> None:
         reported(talk)
 
 
-@test("talks: tests/inputs/talks.py contains 28 conversations with a fault and 22 without a fault")
+@test("talks: tests/inputs/talks.py contains 28 conversations with a fault and 22 that keep all rules")
 def counted() -> None:
     names = [it.name for it in (*talks.FAULTS, *talks.KEPT)]
     same((len(talks.FAULTS), len(talks.KEPT), len({*names})), (28, 22, 50), "the conversations, and their names")

@@ -108,7 +108,7 @@ def agrees() -> None:
     same([text for text, due, came in zip(texts, wanted, got) if due is not None and due != came], [], "the texts that are read differently")
 
 
-@test("tree-sitter: Neovim's and Helix's queries find the expected colours and folds, and Helix's indents are read")
+@test("tree-sitter: Neovim's and Helix's queries find the expected colours and folds, and Helix's indent query matches")
 def queries() -> None:
     found = read_by_neovim((SAMPLE,))
     same(found["faulty"], [False], "the sample")

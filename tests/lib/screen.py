@@ -53,7 +53,7 @@ class Screen:
     def ends(self, what: str, seconds: float) -> int:
         """Waits until the program ends, and returns its exit status. Fails if it doesn't end in time."""
         end = time.monotonic() + seconds
-        # (the terminal can be closed before the program ends, and stays open while a child of the program runs)
+        # (the terminal can be closed before the program ends, and remains open while a child of the program runs)
         while not self.has_ended():
             if time.monotonic() > end:
                 raise Failed(f"{what} had not ended after {seconds} seconds: {self.drawn[-500:]!r}")

@@ -18,8 +18,8 @@ import harness
 from harness import TOP, Failed, same
 
 SCRIPT = os.path.join(TOP, "share", "ob0-watch")
-LAST = ("The server ended ", "It stopped watching, ", "ob0-watch was killed.")  # how the last line of a report begins
-SECONDS = 300  # the longest wait for a report after its editor has ended
+LAST = ("The server ended ", "It stopped watching, ", "ob0-watch was killed.")  # the last line of a report begins with one of these
+SECONDS = 300  # a test waits at most this long for a report, once its editor has ended
 
 
 def load() -> Any:
