@@ -45,8 +45,8 @@ FORK = multiprocessing.get_context("fork")
 LONGEST = 1200  # seconds that a test may take
 IN_ALL = 60 * int(os.environ.get("OB0_MINUTES", "45"))  # seconds that a run of tests may take
 MORE = 3  # how many more times a test that drives an editor is run after a failure
-FAILURES = 2  # and how many failures of all those times count as one
-STEP = 50  # of so many tests that end the whole test prints a line
+FAILURES = 2  # failures, among all runs of a test that drives an editor, that make it fail
+STEP = 50  # `make test` prints a line each time that this many tests have ended
 RESULTS = os.path.join(harness.TOP, "bin", "results")
 
 
@@ -58,8 +58,8 @@ def load() -> None:
 
 
 class Outcome(NamedTuple):
-    """The outcome of a test: whether it passed (None if it was skipped), its message and its seconds; whether it drives
-    an editor; whether it needs a program that doesn't exist; and which tools are missing."""
+    """Stores the outcome of a test: whether it passed (None if it was skipped), its message, its seconds, whether it
+    drives an editor, whether it needs a program that doesn't exist, and the missing tools."""
 
     passed: Optional[bool]
     said: str
@@ -98,18 +98,18 @@ def tried(function: harness.Test) -> Outcome:
 
 
 class Running:
-    """A test that is running in a separate process, which reports its outcome. It has its own folder for temporary
-    files, and the locale C.UTF-8."""
+    """Runs a test in a separate process, which reports the outcome. The test has its own folder for temporary files,
+    and the locale C.UTF-8."""
 
     def __init__(self, at: int, end: float) -> None:
         self.at, self.start = at, time.monotonic()
         self.end = min(end, self.start + LONGEST)
         self.room = tempfile.mkdtemp(prefix="ob0-")
-        os.chmod(self.room, 0o711)  # (a program that a test runs as another user has to get through)
+        os.chmod(self.room, 0o711)  # (another user has to get through the folder if a test runs a program as that user)
         self.told, telling = FORK.Pipe(duplex=False)
 
         def tell() -> None:
-            # (under `nohup`, or in the background of a shell, children of the test would also ignore signals)
+            # (otherwise children of the test would ignore signals under `nohup` or in the background of a shell)
             signal.signal(signal.SIGHUP, signal.SIG_DFL)
             signal.signal(signal.SIGTERM, signal.SIG_DFL)
             signal.signal(signal.SIGINT, signal.default_int_handler)
@@ -174,8 +174,8 @@ def all_tried(places: list[int], processors: int, end: float) -> Iterator[tuple[
 
 
 def played(places: list[int], end: float) -> Iterator[tuple[int, Outcome, str]]:
-    """Yields outcomes as `all_tried` does, each with a text that says how often a repeated test failed. A failed test
-    that drives an editor runs again after all others, with no other test at the same time."""
+    """Yields the index and the outcome of each test, and for a repeated test how often it failed. A failed test that
+    drives an editor runs again after all others, with no other test at the same time."""
     again: List[Tuple[int, Outcome]] = []
     for at, found in all_tried(places, len(os.sched_getaffinity(0)), end):
         if found.passed is False and found.drives:
@@ -193,7 +193,7 @@ def played(places: list[int], end: float) -> Iterator[tuple[int, Outcome, str]]:
 
 
 class Counts:
-    """The numbers of tests that passed, that failed and that were skipped."""
+    """Counts the tests that passed, that failed and that were skipped."""
 
     def __init__(self) -> None:
         self.passed = self.failed = self.skipped = 0
@@ -310,7 +310,7 @@ def main(words: list[str]) -> int:
             print("0 passed, 1 failed")
             return 1
     if len(chosen) > 50:
-        # (searched for once, and not by each test that needs it)
+        # (searches for each tool once, instead of in each test that needs it)
         for tool in editors.TOOLS:
             editors.is_here(tool)
     counts = counted(chosen, is_first)

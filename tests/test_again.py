@@ -1,5 +1,5 @@
-"""Tests how tests/run.py repeats failed tests, ends slow ones, skips tests and counts results, on made-up tables of
-tests."""
+"""Tests that tests/run.py repeats failed tests, ends slow ones, skips tests and counts results. The tables of tests are
+made up."""
 from __future__ import annotations
 
 import contextlib
@@ -30,7 +30,7 @@ def note(path: str, line: str) -> List[str]:
 
 
 def drives(path: str, name: str, *failing: int) -> None:
-    """A made-up test that needs an editor. It fails in the runs with these numbers, counted from 1."""
+    """Fails in the runs with these numbers, counted from 1. Stands in for a test that needs an editor."""
     harness.want("Kate")
     time_ = note(path, name).count(name) + 1
     if time_ in failing:
@@ -38,20 +38,21 @@ def drives(path: str, name: str, *failing: int) -> None:
 
 
 def alone(path: str, name: str, *tools: str) -> None:
-    """A made-up test that needs these tools but no editor. It fails in its first run."""
+    """Fails in its first run. Stands in for a test that needs these tools but no editor."""
     harness.want(*tools)
     holds(note(path, name).count(name), f"{name} fails")
 
 
 def waits(path: str, name: str, first: List[str]) -> None:
-    """A made-up test that ends only when the tests in `first` have written their names to the file."""
+    """Waits until the tests in `first` have written their names to the file, and writes its own. Stands in for a slow
+    test."""
     while not set(first) <= set(note(path, "waiting")):
         time.sleep(0.01)
     note(path, name)
 
 
 def gone(path: str, name: str) -> None:
-    """A made-up test that exits its process without a result."""
+    """Exits the process without a result. Stands in for a test that crashes."""
     note(path, name)
     os._exit(3)
 
@@ -80,7 +81,7 @@ def counted(tests: Dict[str, harness.Test], lacks: Tuple[str, ...] = (), is_whol
             return str(counts), said.getvalue(), file.read().strip()
 
 
-@test("again: a failed editor test is run three more times at the end; it has failed if two of its four runs fail")
+@test("again: a test that drives an editor runs three more times if it fails, and counts as failed after two failures")
 def three_more_times() -> None:
     with tempfile.TemporaryDirectory() as room:
         path = os.path.join(room, "order")
@@ -107,7 +108,7 @@ def three_more_times() -> None:
     same(rows, wanted, "the lines of bin/results")
 
 
-@test("again: a failed test that drives no editor isn't repeated; a test whose process exits has failed")
+@test("again: a failed test that drives no editor isn't repeated, and a test whose process exits counts as failed")
 def not_once_more() -> None:
     with tempfile.TemporaryDirectory() as room:
         path = os.path.join(room, "order")
@@ -121,7 +122,7 @@ def not_once_more() -> None:
     same(sorted(said.splitlines()), sorted(lines), "the output")
 
 
-@test("again: `make test` skips tests only for missing editors or desktop tools, and lists and counts them")
+@test("again: `make test` skips tests only if an editor or desktop tool is missing, and names and counts these tests")
 def left_out() -> None:
     def no_program() -> None:
         raise FileNotFoundError(2, "No such file", harness.BINARY)
@@ -151,7 +152,7 @@ def left_out() -> None:
             same([it for it in lacks if editors.may_lack(it)], lacking, f"what may lack with {listed!r}")
 
 
-@test("again: `--first` puts off the tests that need the program, and `--rest` runs the tests without a result")
+@test("again: `--first` omits the tests that need the program, and `--rest` runs the tests without a result")
 def first_and_rest() -> None:
     def runs() -> None:
         with mock.patch.object(harness, "BINARY", "/no/such/program"):
@@ -166,7 +167,7 @@ def first_and_rest() -> None:
             same(run.chosen_by(["--rest"]), [1, 3], "those that are left")
 
 
-@test("again: tests/run.py fails if no test's name contains one of the words")
+@test("again: tests/run.py fails if no test's name contains one of the given words")
 def none_at_all() -> None:
     words = [sys.executable, os.path.join(harness.TOP, "tests", "run.py"), "no test has these words"]
     found = subprocess.run(words, stdout=subprocess.PIPE, stderr=subprocess.DEVNULL, check=False)
@@ -192,11 +193,11 @@ def leaves_a_child(path: str) -> None:
     time.sleep(600)
 
 
-@test("again: a test over its time limit is killed with its child processes; over the limit for all no test starts")
+@test("again: a test over its time limit is killed with its child processes, and no test starts after the total time")
 def ended_in_time() -> None:
     with tempfile.TemporaryDirectory() as room:
         path = os.path.join(room, "child")
-        # (where much else runs its child may begin late)
+        # (on a busy machine the child may start late)
         is_late: Callable[[run.Running], bool] = lambda it: time.monotonic() > it.end and os.path.exists(path) and os.path.getsize(path) > 0
         with mock.patch.object(run, "LONGEST", 1), mock.patch.object(run.Running, "has_ended", is_late):
             counts, said, _ = counted({"long": lambda: leaves_a_child(path)})
@@ -211,7 +212,7 @@ def ended_in_time() -> None:
     same((counts, "it wasn't run: 0 minutes for all tests were over" in said), ("0 passed, 1 failed", True), said)
 
 
-@test("again: when a test ends, its child processes are ended, even if it passed")
+@test("again: a test's child processes are ended when the test ends, even if it passed")
 def ends_with_it() -> None:
     with tempfile.TemporaryDirectory() as room:
         path = os.path.join(room, "child")
@@ -226,7 +227,7 @@ def ends_with_it() -> None:
         holds(int(harness.text_of(path)) not in processes.parents(), "its process still runs")
 
 
-@test("again: a failed comparison shows the first difference between two texts or lists")
+@test("again: the message of a failed comparison shows the first difference between the two texts or lists")
 def differing() -> None:
     long = "x" * 1000
     for got, wanted, said in (
@@ -244,7 +245,7 @@ def differing() -> None:
             raise Failed(f"{got!r:.60} and {wanted!r:.60} are the same")
 
 
-@test("again: if a run is interrupted or ended by a signal, its tests and their child processes are ended")
+@test("again: a signal that ends tests/run.py also ends the running tests and their child processes")
 def interrupted() -> None:
     parent = os.getpid()
 

@@ -1,5 +1,5 @@
-"""Tests builds that a signal ends and builds in which a proof fails, with a stand-in for `rt`: no process survives, and
-finished proofs are kept."""
+"""Tests builds that a signal ends and builds in which a proof fails. No process survives, and finished proofs are kept.
+A script stands in for `rt`."""
 from __future__ import annotations
 
 import os
@@ -13,7 +13,7 @@ import processes
 from harness import TOP, holds, is_running, same, test, text_of, wait_until
 from homes import copy, temporary, write
 
-# stands in for `rt`: a process with a child, as `rt` has its provers, which runs until it is ended
+# stands in for `rt`: a process with a child, like `rt` with its provers, that runs until a signal ends it
 PROVER = """#!/bin/sh
 [ "$1" = version ] && { echo a kit; exit; }
 echo kept > out/kept
@@ -61,13 +61,13 @@ def is_ended_by(number: int, *, ignored: bool = False) -> None:
         same(text_of(room, "crates", "low", "out", "kept"), "kept\n", "what was proved")
 
 
-@test("build: SIGINT, SIGTERM and SIGHUP end the build and its provers, and finished proofs are kept")
+@test("build: SIGINT, SIGTERM and SIGHUP end a build and its provers, and finished proofs are kept")
 def ended() -> None:
     for number in (signal.SIGINT, signal.SIGTERM, signal.SIGHUP):
         is_ended_by(number)
 
 
-@test("build: if SIGHUP is ignored, as under `nohup`, a build continues after its terminal is closed")
+@test("build: a build in which SIGHUP is ignored, as under `nohup`, continues after a SIGHUP")
 def ignored() -> None:
     is_ended_by(signal.SIGHUP, ignored=True)
 
@@ -82,7 +82,7 @@ echo "crate $name: modules loaded=0 checked=1"
 """
 
 
-@test("build: if a proof fails, `make check` reports it and checks all independent crates; a build stops")
+@test("build: if a proof fails, `make check` proves all crates that don't depend on it, and a build stops")
 def others_are_proved() -> None:
     with temporary() as room:
         own = furnish(room, "bad:\nlow:\nmiddle: low\nover: bad\nob0: over middle\n", JUDGE)

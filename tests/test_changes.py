@@ -1,4 +1,4 @@
-"""Tests changes of a range, in UTF-16 and UTF-8 units: the server's text remains equal to the editor's."""
+"""Tests that the server's text equals the editor's after changes of ranges, in UTF-16 and UTF-8 units."""
 from __future__ import annotations
 
 import random
@@ -15,7 +15,7 @@ def units(text: str, utf8: bool) -> int:
 
 
 class Edited:
-    """A text in an editor. Offsets are counted in characters."""
+    """Models a text in an editor, with its changes. Offsets are counted in characters."""
 
     def __init__(self, text: str, utf8: bool = False) -> None:
         self.text, self.utf8 = text, utf8
@@ -44,8 +44,8 @@ class Edited:
 
 
 def faults(edited: Edited) -> list[Message]:
-    """Returns the diagnostics that the server should report about bad characters, at most 100. Besides the bad
-    characters `$`, `é` and `😀` the text may contain white space, letters and closed comments."""
+    """Returns the expected diagnostics of bad characters, at most 100. The text may contain white space, letters,
+    closed comments, and the bad characters `$`, `é` and `😀`."""
     found, depth, at, text = [], 0, 0, edited.text
     while at < len(text):
         pair = text[at : at + 2]
@@ -86,7 +86,7 @@ def session(seed: int, utf8: bool, steps: int) -> None:
                 places = [it for it in range(len(edited.text) + 1) if not is_between(edited.text, it)]
                 start = chance.randrange(len(places))
                 end = min(len(places) - 1, start + chance.choice([0, 0, 1, 2, 5]))
-                # (a text of more than 60 characters shrinks again)
+                # (if the text has more than 60 characters, it only shrinks)
                 new = "" if len(edited.text) > 60 else chance.choice(pieces)
                 changes.append(edited.change(places[start], places[end], new))
             if edited.text.count("(*") != edited.text.count("*)"):
@@ -99,12 +99,12 @@ def session(seed: int, utf8: bool, steps: int) -> None:
         same(server.end(), 0, "the status")
 
 
-@test("changes: after each of 1,000 random steps in UTF-16 units the server has the editor's text")
+@test("changes: in UTF-16 units the server reports bad characters at their positions after each of 1,000 random steps")
 def utf16() -> None:
     session(1, False, 1000)
 
 
-@test("changes: after each of 1,000 random steps in UTF-8 units the server has the editor's text")
+@test("changes: in UTF-8 units the server reports bad characters at their positions after each of 1,000 random steps")
 def utf8_units() -> None:
     session(2, True, 1000)
 
@@ -121,14 +121,14 @@ def changed(text: str, *changes: tuple[str | None, str], encodings: list[Any] | 
 
 def at_end(text: str, *changes: tuple[str | None, str], encodings: list[Any] | str | None = None) -> Message:
     """Returns the position of the end of the changed text in the server. A bad character is inserted there, and its
-    diagnostic has the position."""
+    diagnostic shows the position."""
     end = ("18446744073709551615:0-18446744073709551615:0", "$")
     found = changed(text, *changes, end, encodings=encodings)
     start: Message = found[-1]["range"]["start"]
     return start
 
 
-@test("changes: ranges over line ends and surrogate pairs are applied at the right positions")
+@test("changes: ranges at line ends, in surrogate pairs, swapped or after the text replace the expected part")
 def lines() -> None:
     same(at_end("(* 😀 *) x := 1;"), place(0, 16), "units of UTF-16")
     same(at_end("(* 😀 *) x := 1;", ("0:9-0:10", "yz")), place(0, 17), "a name replaced after a pair")
@@ -141,7 +141,7 @@ def lines() -> None:
     same(at_end("ab", ("0:0-0:1", ""), (None, "xyz"), ("0:1-0:2", "")), place(0, 2), "a whole text between ranges")
 
 
-@test("changes: a bad character is reported at the position of its insertion, and not at all in a comment")
+@test("changes: an inserted bad character is reported at its position, and isn't reported if it is in a comment")
 def places() -> None:
     bad: Callable[[str], list[Message]] = lambda where: [diagnostic("BadChar", "bad character", where)]
     same(changed("(* 😀 *) x", ("0:9-0:9", "$")), bad("0:9-0:10"), "after a pair")
@@ -153,17 +153,18 @@ def places() -> None:
 WITH_PAIR = "(* 😀 *) x := 1;"
 
 
-@test("changes: a position inside a character counts as the position before it, in both units")
+@test("changes: a position inside a character counts as the position before that character, in UTF-8 and UTF-16 units")
 def inside() -> None:
     wanted = [diagnostic("BadChar", "bad character", "0:5-0:6")]
     for encodings, places in ((["utf-16"], [3, 4]), (["utf-8"], [3, 4, 5, 6])):
         for at in places:
-            # (moved on after the character, the bad one would be at 0:7 in UTF-16 and at 0:9 in UTF-8)
+            # (if the position moved to the end of the character, the bad one would be at 0:7 in UTF-16 and at 0:9 in
+            # UTF-8)
             found = changed(WITH_PAIR, (f"0:{at}-0:{at}", "*)$(*"), encodings=encodings)
             same(found, wanted, f"0:{at} in {encodings[0]}")
 
 
-@test("changes: a position after a line's end means the line's end, and one after the last line the text's end")
+@test("changes: a position after a line's end counts as that end, and one after the last line as the text's end")
 def past_the_end() -> None:
     bad: Callable[[str], list[Message]] = lambda where: [diagnostic("BadChar", "bad character", where)]
     same(changed(WITH_PAIR, ("0:99-0:99", "$")), bad("0:16-0:17"), "0:99, of one line")
@@ -175,7 +176,7 @@ def past_the_end() -> None:
         same(changed(text, ("7:0-7:0", "$")), bad("2:1-2:2"), f"7:0 after {ending!r}")
 
 
-@test("changes: in UTF-8 units, positions after the only line's end and on later lines mean the text's end")
+@test("changes: in UTF-8 units, a position after the end of a text of one line counts as the text's end")
 def behind_utf8() -> None:
     bad = [diagnostic("BadChar", "bad character", "0:18-0:19")]
     for where in ("0:99-0:99", "7:0-7:0"):
@@ -189,7 +190,7 @@ def all_at_once(text: str, *changes: tuple[str, str]) -> list[str]:
     return serve([initialize(), did_open(text), did_change(given, version=2)]).contents()[1:]
 
 
-@test("changes: several changes in one notification lead to one publication, with the notification's version")
+@test("changes: several changes in one notification cause one publication, with the notification's version")
 def one_notification() -> None:
     def bad(*places: str) -> list[Message]:
         return [diagnostic("BadChar", "bad character", it) for it in places]
@@ -203,7 +204,7 @@ def one_notification() -> None:
     same(all_at_once("$", ("0:0-0:0", "\r\n"), ("1:0-1:0", "\r"))[1], published(bad("2:0-2:1"), version=2), "two changes")
 
 
-@test("changes: each range refers to the result of the previous change; after a malformed one the full text is needed")
+@test("changes: each range refers to the text after the previous change, and after a bad range a full text is needed")
 def one_after_another() -> None:
     module = "MODULE M; END M."
     given = [
@@ -216,7 +217,7 @@ def one_after_another() -> None:
     same(serve([initialize(), *given]).contents()[1:], [published([]), bad, published([], version=4)])
 
 
-@test("changes: columns are in UTF-8 bytes if the client offers utf-8, and in UTF-16 units otherwise")
+@test("changes: columns count UTF-8 bytes if the client offers utf-8, and UTF-16 units otherwise")
 def utf8_lines() -> None:
     both = ["utf-8", "utf-16"]
     text = "(* 😀 *) x := 1;"
@@ -226,7 +227,7 @@ def utf8_lines() -> None:
     same(at_end(text, ("0:5-0:5", "!"), encodings=both), place(0, 19), "inside a character: before it")
 
 
-@test("changes: the server announces utf-8 only if the client's list contains it")
+@test("changes: the server announces utf-8 only if the client's list of encodings contains utf-8")
 def announced() -> None:
     for encodings, wanted in ((["utf-8"], True), ([7, "utf-8"], True), (["utf-16"], False), ([], False), ("utf-8", False)):
         with Server(capabilities={"general": {"positionEncodings": encodings}}) as server:
@@ -234,7 +235,7 @@ def announced() -> None:
         same(found.get("positionEncoding"), "utf-8" if wanted else None, repr(encodings))
 
 
-@test("changes: after malformed params a document ignores changes of a range until its full text is sent")
+@test("changes: a document ignores changes of a range after a malformed change, until its full text is sent")
 def broken() -> None:
     module = "MODULE M; END M."
     with Server() as server:
@@ -251,12 +252,12 @@ def broken() -> None:
             ]
         ):
             server.send(did_change([change], version=10 * at))
-            # (a ranged change is skipped now, and sends nothing)
+            # (the server ignores this ranged change, and sends nothing)
             server.send(did_change([{"range": extent("0:0-0:0"), "text": "$"}], version=10 * at + 1))
             same(server.notify(did_change(module, version=10 * at + 2)), [], f"after {change}")
 
 
-@test("changes: in a text of 20,000 lines edits near the end are applied at the right line")
+@test("changes: changes near the end of a text of 20,000 lines are applied at the right lines")
 def long_text() -> None:
     lines = [f"(* line {at} *)" for at in range(20000)]
     with Server() as server:

@@ -30,12 +30,12 @@ LONG_TOLD = """1:10: ConstFault: constant has a fault
 """
 
 
-@test("check: the ten errors of a module are printed as expected, byte by byte")
+@test("check: `ob0 check` prints the expected ten lines for a module with ten errors")
 def ten_faults() -> None:
     ends(on_file("check", LONG), LONG_TOLD, 1)
 
 
-@test("check: two separately written array types are different types, even with equal lengths and elements")
+@test("check: two array types that are written separately are different types, even if they are otherwise equal")
 def arrays() -> None:
     ends(
         on_file("check", "MODULE M; VAR a: ARRAY 3 OF INTEGER; b: ARRAY 3 OF INTEGER; BEGIN a := b END M."),
@@ -53,7 +53,7 @@ def chain(count: int) -> str:
     return f"MODULE M; TYPE{types}\nEND M."
 
 
-@test("check: types up to the limits of size, length and nesting are accepted, and larger ones reported")
+@test("check: types at the limits of size, length and nesting are accepted, and types over a limit are reported")
 def sizes() -> None:
     of: Callable[[str], Ended] = lambda text: on_file("check", f"MODULE M; VAR a: {text}; END M.")
     ends(of("ARRAY 256 OF ARRAY 256 OF INTEGER"), "", 0)
@@ -67,7 +67,7 @@ def sizes() -> None:
     ends(on_file("check", chain(101)), "101:7: TypeTooLarge: type too large\n", 1)
 
 
-# A text with its faulty places marked, and the code of each.
+# Texts in which each error is marked, with the errors' codes.
 EXAMPLES = [
     # names
     ("MODULE M; VAR x: INTEGER; ⟦x⟧: BOOLEAN; END M.", "Duplicate"),
@@ -135,7 +135,7 @@ EXAMPLES = [
     ("MODULE M; VAR x: INTEGER; BEGIN x⟦[⟧0] := 1; x⟦.⟧f := 1 END M.", "NotArray", "NotRecord"),
     ("MODULE M; VAR x: INTEGER; BEGIN x⟦[⟧⟦TRUE⟧] := 1 END M.", "NotArray", "TypeMismatch"),
     ("MODULE M; VAR a: ARRAY 2 OF RECORD b: ARRAY 3 OF INTEGER END; BEGIN a[1].b[2] := a[0].b[1]; a⟦.⟧b := 1 END M.", "NotRecord"),
-    # one fault raises no second one
+    # an error causes no second one
     ("MODULE M; VAR b: BOOLEAN; BEGIN b := ⟦u⟧ + 1; b := ⟦v⟧ END M.", "Undeclared", "Undeclared"),
     ("MODULE M; VAR a: ARRAY 2 OF INTEGER; BEGIN a[⟦TRUE⟧] := TRUE END M.", "TypeMismatch"),
     ("MODULE M; VAR x: ⟦t⟧; BEGIN x := 1; x := TRUE; x.f := 1; x[0] := 2 END M.", "Undeclared"),
@@ -143,7 +143,7 @@ EXAMPLES = [
 ]
 
 
-@test("check: `serve` reports the expected code and range for each example of a scope or type error")
+@test("check: `serve` publishes the expected code and range for each example of a scope or type error")
 def examples() -> None:
     with Server() as server:
         for text, *codes in EXAMPLES:
@@ -151,7 +151,7 @@ def examples() -> None:
             same(server.notify(did_open(plain)), wanted, text)
 
 
-@test("check: `check` prints the expected line for each example of a scope or type error")
+@test("check: `ob0 check` prints the expected line for each example of a scope or type error")
 def examples_checked() -> None:
     for text, *codes in EXAMPLES:
         plain, wanted = marked(text, *codes)
@@ -159,7 +159,7 @@ def examples_checked() -> None:
         ends(on_file("check", plain), "".join(lines), 1 if lines else 0)
 
 
-@test("check: of 1,000 errors the first 100 are reported")
+@test("check: only the first 100 errors of a module with 1,000 errors are reported")
 def hundred() -> None:
     with Server() as server:
         text = "MODULE M; BEGIN" + " x;" * 1000 + " END M."
@@ -167,7 +167,7 @@ def hundred() -> None:
     same([it["range"]["start"]["character"] for it in found], [16 + 3 * at for at in range(100)], "where")
 
 
-@test("check: assigned parameters, recursive calls, type aliases and equal field names are no errors")
+@test("check: a module may assign to parameters, call procedures recursively, and repeat field names")
 def well_typed() -> None:
     texts = [
         "MODULE M; VAR r: RECORD a: INTEGER END; s: RECORD a: BOOLEAN END; BEGIN r.a := 1; s.a := TRUE END M.",
@@ -179,7 +179,7 @@ def well_typed() -> None:
         ends(on_file("check", text), "", 0)
 
 
-@test("check: open comments, too large numbers and bad characters are reported at their positions")
+@test("check: `check` reports open comments, too large numbers and bad characters at their positions")
 def scanning() -> None:
     ends(on_file("check", "12ab $"), "0:0: NumberJoinsLetter: letter after number\n0:5: BadChar: bad character\n", 1)
     ends(on_file("check", "MODULE M;\n(* 😀 *) $"), "1:9: BadChar: bad character\n", 1)
@@ -192,7 +192,7 @@ def scanning() -> None:
     )
 
 
-@test("check: if a text has lexical or syntax errors, no other errors are reported")
+@test("check: errors of scopes and types aren't reported if the text has a lexical or syntax error")
 def earlier() -> None:
     ends(on_file("check", "MODULE M; BEGIN x := 1a END M."), "0:21: NumberJoinsLetter: letter after number\n", 1)
     ends(on_file("check", "MODULE M; BEGIN x = 1 END M."), "0:18: Syntax: expected END\n", 1)
@@ -201,7 +201,7 @@ def earlier() -> None:
     ends(on_file("check", deep), "0:137: TooDeep: nested too deep\n", 1)
 
 
-@test("check: missing files, files that aren't UTF-8 and too long files are reported, with the right status")
+@test("check: a missing or non-UTF-8 file ends `ob0 check` with status 4, and a text that is too long is an error")
 def files() -> None:
     good = "MODULE M; VAR x: INTEGER; END M."
     too_long = "0:0: TooLong: text too long\n"
@@ -216,14 +216,14 @@ def files() -> None:
     ends(on_file("check", good, name="a b é.mod"), "", 0)
 
 
-@test("check: a command line without a file, with two files or with an unknown option is refused with status 2")
+@test("check: `ob0 check` without a file, with two files or with an unknown option ends with status 2")
 def lines() -> None:
     for words in (["check"], ["check", "a", "b"], ["check", "--x", "a"]):
         found = run(words)
         same((found.out, bool(found.err), found.status), (b"", True, 2), " ".join(words))
 
 
-@test("check: writing to a full device ends with `fault: Write` and status 4")
+@test("check: `ob0 check` ends with `fault: Write` and status 4 if its output is a full device")
 def full() -> None:
     with tempfile.TemporaryDirectory() as room:
         file = os.path.join(room, "m.mod")

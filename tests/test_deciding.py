@@ -1,5 +1,5 @@
-"""Tests when scripts of tools/ fail, and what they count. `make test` doesn't run editors_of.py, faults.py, roots.py
-and try_cases.py; editors.py is also tested, with stand-ins for the package manager."""
+"""Tests in which cases the scripts of tools/ fail, and what they count. `make test` itself doesn't run editors_of.py,
+faults.py, roots.py and try_cases.py. editors.py is tested with stand-ins for the package manager."""
 from __future__ import annotations
 
 import contextlib
@@ -16,8 +16,7 @@ from homes import temporary, write
 
 
 def tool(name: str) -> Any:
-    """Imports a script of tools/. A test does this when it runs, because the script may import tests, which must be
-    loaded before."""
+    """Imports a script of tools/ while a test runs. The script may import tests, which must all be loaded before."""
     return importlib.import_module(name)
 
 
@@ -38,7 +37,7 @@ def raises(why: Exception) -> Callable[[], str]:
     return fails
 
 
-@test("deciding: `make faults` counts passed, failed and skipped cases, and fails if a word matches no case")
+@test("deciding: `make faults` counts passed, failed and skipped cases, and fails if a given word matches no case")
 def faults_count() -> None:
     faults = tool("faults")
     rows: List[Tuple[str, Callable[[], str]]] = [
@@ -59,7 +58,7 @@ def faults_count() -> None:
             same((found, said[-1]), (status, last), f"with {words}")
 
 
-@test("deciding: `make try` fails if a test fails or no test is run, and lists the skipped tests")
+@test("deciding: `make try` fails if a test fails or no test runs, and lists the skipped tests")
 def tries_judged() -> None:
     try_cases = tool("try_cases")
     good: Tuple[str, harness.Test] = ("good", lambda: None)
@@ -78,7 +77,7 @@ def tries_judged() -> None:
         same("left out long: it needs a long file" in said, long in chosen, "the name of the test that is left out")
 
 
-@test("deciding: `make try` assigns the output of `rt try` to its cases; a case that was stopped has no status")
+@test("deciding: `make try` assigns each part of `rt try`'s output to its case, and gives a stopped case no status")
 def tries_taken() -> None:
     try_cases = tool("try_cases")
     cases = try_cases.Cases()
@@ -93,8 +92,8 @@ def tries_taken() -> None:
 
 @contextlib.contextmanager
 def commands(scripts: Dict[str, str]) -> Iterator[str]:
-    """Puts these shell scripts into a temporary folder, first on PATH, and yields the folder. In a script, ROOM stands
-    for the folder."""
+    """Puts these shell scripts into a temporary folder, puts the folder first on PATH, and yields the folder. In a
+    script, ROOM stands for the folder."""
     with temporary() as room:
         for name, text in scripts.items():
             write(os.path.join(room, name), "#!/bin/sh\n" + text.replace("ROOM", room))
@@ -114,7 +113,7 @@ esac
 """
 
 
-@test("deciding: `make editors RELEASE=..` fails if a test fails or the root can't be made, and prints the versions")
+@test("deciding: `make editors RELEASE=..` fails if a test fails or no root can be made, and prints editors' versions")
 def editors_of_release() -> None:
     editors_of = tool("editors_of")
     for made, python, tests, status in ((0, 0, 0, 0), (0, 0, 1, 1), (0, 1, 0, 1), (1, 0, 0, 1)):
@@ -133,7 +132,7 @@ def editors_of_release() -> None:
         same(printed(lambda: editors_of.main("sid"))[0], 2, "the status for a user who isn't root")
 
 
-@test("deciding: the trial of packages stops if a path, mode, link or byte of the root changed; logs may change")
+@test("deciding: the trial of packages fails if a path, mode, link or byte of the root has changed, except in logs")
 def roots_compared() -> None:
     roots = tool("roots")
     changes: Dict[str, Tuple[Callable[[str], object], bool]] = {
@@ -159,7 +158,7 @@ def roots_compared() -> None:
     same(roots.ran(["sh", "-c", "echo well"]), "well\n", "what a command prints")
 
 
-@test("deciding: `make editors` installs packages one at a time if installing all fails, and stops after 15 minutes")
+@test("deciding: `make editors` tries each package by itself if installing all fails, and stops after 15 minutes")
 def installing() -> None:
     apt = """echo "$5 $6 $7 $8 $9" >> 'ROOM/called'
 case "$*" in *bad*) exit 1 ;; esac

@@ -1,4 +1,4 @@
-"""Tests what the program does if memory runs out, or if a read or a write fails at any byte."""
+"""Tests how the program ends if memory runs out, or if a read or a write fails at any byte."""
 from __future__ import annotations
 
 import os
@@ -27,7 +27,7 @@ def limited(kilobytes: int) -> tuple[int, bytes, bytes]:
     return ran.returncode, ran.stderr, ran.stdout
 
 
-@test("devices: if memory runs out, `serve` ends with status 5, and each message that it sent is whole")
+@test("devices: `serve` ends with status 5 if memory runs out, and each message that it has sent is whole")
 def memory() -> None:
     whole = serve(TALK)
     contents = whole.contents()
@@ -36,7 +36,7 @@ def memory() -> None:
     for kilobytes in LIMITS:
         status, err, out = limited(kilobytes)
         if status == 127:
-            continue  # (the loader itself had too few addresses)
+            continue  # (the address space was too small even for the loader)
         where = f"under {kilobytes} KB"
         if status == 0:
             same((out, err), (whole.out, b""), where)
@@ -55,9 +55,9 @@ def ended(found: Ended, out: bytes, status: int, err: bytes, where: str) -> None
 SERVE = [harness.BINARY, "serve"]
 
 
-@test("devices: if a read fails at any byte of a conversation, the messages before are answered, with status 4")
+@test("devices: if a read fails at any byte of a conversation, `serve` answers earlier messages and ends with status 4")
 def failing_reader() -> None:
-    # (the exit ends with its last byte: the call after it is never made)
+    # (`exit` ends the server at its last byte, so the next read never happens)
     for found in failing.walk(SERVE, INPUT, None, "reads", range(1, len(INPUT) + 1)):
         fewest, most = (len([it for it in BORDERS[1:] if it < at]) for at in (found.numbers[0], found.numbers[-1]))
         same(fewest, most, "how much is answered in runs that end alike")
@@ -65,7 +65,7 @@ def failing_reader() -> None:
     ended(failing.undisturbed(SERVE, INPUT, reads=len(INPUT) + 1), OUTPUT, 0, b"", "the call after the exit")
 
 
-@test("devices: if a write fails or writes nothing after any byte of a conversation, `serve` ends with status 4")
+@test("devices: if a write fails or writes nothing at any byte of a conversation, `serve` ends with `fault: Write`")
 def failing_writer() -> None:
     for ending in ("", ".."):
         for found in failing.walk(SERVE, INPUT, None, "writes", range(len(OUTPUT)), ending):
@@ -74,7 +74,7 @@ def failing_writer() -> None:
         ended(failing.undisturbed(SERVE, INPUT, writes=f"{len(OUTPUT)}{ending}"), OUTPUT, 0, b"", "room for all")
 
 
-@test("devices: if a write fails after any byte of a command's output, the command ends with status 4")
+@test("devices: if a write fails after any byte of a command's output, the command ends with `fault: Write`")
 def failing_printer() -> None:
     for name, status in (("check a text with two faults", 1), ("run a module", 0), ("rename a variable", 0)):
         words, given, text, _ = conversations.SHORT[name]
@@ -87,13 +87,13 @@ def failing_printer() -> None:
                 ended(found, plain.out[:number], 4, b"fault: Write\n", f"{name}: {number} bytes taken")
 
 
-@test("devices: each read and each write fails, of a file, of the input or of an output")
+@test("devices: each failing read or write ends the program with a fault, after a prefix of its usual output")
 def failing_calls() -> None:
     counts = [failing.broken(name, *it[:3]) for name, it in {**conversations.SHORT, **conversations.LONG}.items()]
     holds(all(counts), f"nothing was read or written: {counts}")
 
 
-@test("devices: each read and each write moves one byte")
+@test("devices: a read or write that moves only one byte changes nothing about the output and the status")
 def short_calls() -> None:
     counts = [failing.shortened(name, *it[:3]) for name, it in {**conversations.SHORT, **conversations.LONG}.items()]
     holds(any(counts), "nothing of several bytes was read or written")
@@ -102,11 +102,11 @@ def short_calls() -> None:
 @test("devices: `serve` reads its input in pieces of 8,192 bytes")
 def pieces() -> None:
     given = frame(b"[" + b" " * 99998 + b"]")
-    # (a piece a call, the call that finds the end, and the two that write the answer: its head and its content)
+    # (one read for each piece, the read that finds the end, and two writes: the answer's head and its content)
     same(failing.undisturbed(SERVE, given).calls["calls"], -(-len(given) // 8192) + 3, "the reads and writes of a message of 100,000 bytes")
 
 
-@test("devices: if a read of its input fails at any byte, `run` ends with `fault: Input`")
+@test("devices: `run` ends with `fault: Input` if a read of its input fails at any byte")
 def failing_input() -> None:
     words, _, text, _ = conversations.SHORT["run a module"]
     with failing.folder_with_module(text) as room:
@@ -114,7 +114,7 @@ def failing_input() -> None:
             ended(found, b"", 4, b"fault: Input\n", f"call {found.numbers[0]} fails")
 
 
-@test("devices: if a read of the module's file fails at any byte, a command ends with `fault: File`")
+@test("devices: `check`, `run` and `rename` end with `fault: File` if a read of the module's file fails at any byte")
 def failing_file() -> None:
     text = "MODULE M; END M."
     for words in (["check", "m.mod"], ["run", "m.mod"], ["rename", "m.mod", "0", "7", "x"]):
@@ -123,7 +123,7 @@ def failing_file() -> None:
                 ended(found, b"", 4, b"fault: File\n", f"{words[0]}: call {found.numbers[0]} fails")
 
 
-@test("devices: with a folder as standard input, `serve` ends with `fault: Read`")
+@test("devices: `serve` ends with `fault: Read` if its standard input is a folder")
 def reader() -> None:
     folder = os.open("/", os.O_RDONLY)
     try:
@@ -134,7 +134,7 @@ def reader() -> None:
     same((ran.stdout, ran.stderr, ran.returncode), (b"", b"fault: Read\n", 4))
 
 
-@test("devices: with a full device as output, `serve` ends with `fault: Write`")
+@test("devices: `serve` ends with `fault: Write` if its standard output is a full device")
 def writer() -> None:
     with open("/dev/full", "wb") as device:
         how: dict[str, Any] = {"stdout": device, "stderr": subprocess.PIPE, "timeout": harness.SECONDS, "check": False}
@@ -142,7 +142,7 @@ def writer() -> None:
     same((ran.stderr, ran.returncode), (b"fault: Write\n", 4))
 
 
-@test("devices: at the limit on file sizes SIGXFSZ ends `serve`; if it is ignored, `serve` ends with `fault: Write`")
+@test("devices: SIGXFSZ ends `serve` at the limit on file sizes, and `fault: Write` does if SIGXFSZ is ignored")
 def limit_of_files() -> None:
     for handler, wanted in ((signal.SIG_DFL, (b"", -signal.SIGXFSZ)), (signal.SIG_IGN, (b"fault: Write\n", 4))):
 

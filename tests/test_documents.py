@@ -1,5 +1,4 @@
-"""Tests what the server publishes when documents are opened, changed and closed, with their versions and lexical
-errors."""
+"""Tests what the server publishes when documents are opened, changed and closed: versions, and lexical errors."""
 from __future__ import annotations
 
 import json
@@ -28,7 +27,7 @@ def talk(*contents: Content) -> list[str]:
     return found.contents()[1:]
 
 
-@test("documents: the diagnostics of `12ab $` are published as expected, byte by byte")
+@test("documents: the diagnostics of the text `12ab $` are published with exactly the expected bytes")
 def two_faults() -> None:
     found = serve([initialize(), did_open("12ab $")])
     wanted = (
@@ -41,7 +40,7 @@ def two_faults() -> None:
     same(found.out, frames([FIRST]) + wanted, "the output")
 
 
-# text: its diagnostics
+# each text with its expected diagnostics
 FAULTS = {
     "(* (* *)": [diagnostic("OpenComment", "comment not closed", "0:0-0:2")],
     "x (* (* *) (*": [diagnostic("OpenComment", "comment not closed", "0:2-0:4")],
@@ -67,14 +66,14 @@ FAULTS = {
 }
 
 
-@test("documents: each lexical error is published with its range in UTF-16 units")
+@test("documents: each lexical error is published with its code, and with its range in UTF-16 units")
 def faults() -> None:
     with Server() as server:
         for version, (text, wanted) in enumerate(FAULTS.items()):
             same(server.notify(did_open(text, version=version)), wanted, repr(text))
 
 
-@test("documents: valid modules with nested comments, tabs and large numbers have no diagnostics")
+@test("documents: valid modules with nested comments, tabs and large numbers get no diagnostics")
 def good() -> None:
     texts = [
         MODULE,
@@ -88,14 +87,14 @@ def good() -> None:
             same(server.notify(did_open(text)), [], text)
 
 
-@test("documents: of 1,001 errors the first 100 are published")
+@test("documents: only the first 100 errors of a text with 1,001 errors are published")
 def many_faults() -> None:
     same(len(of("$" * 100)), 100, "of 100 faults")
     found = of("$" * 1000 + "(*")
     same(found, [diagnostic("BadChar", "bad character", f"0:{at}-0:{at + 1}") for at in range(100)], "of 1,001 faults")
 
 
-@test("documents: a text of 1,048,576 bytes is accepted, one byte more is too long")
+@test("documents: a text of 1,048,576 bytes is accepted, and a longer text is reported as too long")
 def lengths() -> None:
     too_long = [diagnostic("TooLong", "text too long", "0:0-0:0")]
     with Server() as server:
@@ -105,24 +104,24 @@ def lengths() -> None:
         same(server.notify(did_open("é" * (LIMIT // 2 + 1))), too_long, "over the limit in bytes, but not in characters")
 
 
-@test("documents: after a change of the whole text its diagnostics are published, with the change's version")
+@test("documents: a change of the whole text publishes the new text's diagnostics, with the change's version")
 def whole() -> None:
     found = talk(did_open("$"), did_change(MODULE, version=7), did_change("$", version=-8))
     bad = diagnostic("BadChar", "bad character", "0:0-0:1")
     same(found, [published([bad]), published([], version=7), published([bad], version=-8)])
 
 
-@test("documents: if a notification has two changes of the whole text, the last one counts")
+@test("documents: if a notification contains two changes of the whole text, the document has the second text")
 def two_changes() -> None:
     same(talk(did_open("$"), did_change([{"text": "$$"}, {"text": MODULE}]))[1:], [published([], version=2)])
 
 
-@test("documents: an empty list of changes sets the version and keeps the text")
+@test("documents: a didChange with an empty list of changes sets the version and keeps the text")
 def no_change() -> None:
     same(talk(did_open("$"), did_change([], version=5))[1:], [published([diagnostic("BadChar", "bad character", "0:0-0:1")], version=5)])
 
 
-@test("documents: after malformed params a document has no publications until its full text is sent")
+@test("documents: after a malformed didChange nothing is published about the document until its full text is sent")
 def out_of_step() -> None:
     broken = notice("textDocument/didChange", {"textDocument": {"uri": "file:///m", "version": 2}})
     skipped = did_change([{"range": extent("0:0-0:1"), "text": ""}], version=3)
@@ -130,7 +129,7 @@ def out_of_step() -> None:
     same(found[1:], [published([], version=5)])
 
 
-@test("documents: a change with half a surrogate pair is answered with `not JSON`, and changes nothing")
+@test("documents: a message with half a surrogate pair is answered with `not JSON`, and its change isn't made")
 def half_a_pair() -> None:
     halves = [json.dumps(did_change(text, version=2)) for text in ("\ud83d", "\ude00", "\ude00\ud83d", "$\ud83dx")]
     whole = json.dumps(did_change("$\ud83d\ude00", version=4))
@@ -139,13 +138,13 @@ def half_a_pair() -> None:
     same(found[1:], [error(None, -32700, "not JSON")] * len(halves) + [published(bad[:2], version=3), published([bad[0], bad[2]], version=4)])
 
 
-@test("documents: a malformed didOpen of an open document puts it out of step until it is opened again")
+@test("documents: after a malformed didOpen nothing is published about an open document until it is opened again")
 def broken_open() -> None:
     broken = notice("textDocument/didOpen", {"textDocument": {"uri": "file:///m", "version": 2}})
     same(talk(did_open("$"), broken, did_change([], version=3), did_open(MODULE, version=4))[1:], [published([], version=4)])
 
 
-@test("documents: versions are signed 64-bit integers; an open with any other version publishes nothing")
+@test("documents: a version may be any signed 64-bit integer, and a didOpen with any other version publishes nothing")
 def versions() -> None:
     with Server() as server:
         for version in (-9223372036854775808, 9223372036854775807, 0):
@@ -154,7 +153,7 @@ def versions() -> None:
         same(talk(did_open(MODULE, version=other)), [], f"version {other!r}")
 
 
-@test("documents: malformed or unknown notifications, and changes of unopened documents, have no effect")
+@test("documents: malformed or unknown notifications, and changes of documents that aren't open, publish nothing")
 def nothing() -> None:
     notes = [
         did_change(MODULE),
@@ -172,7 +171,7 @@ def nothing() -> None:
 AT_START = {"position": place(0, 0), "textDocument": {"uri": "file:///m"}}
 
 
-@test("documents: for a document out of step no diagnostics are sent and hover is refused, until its full text is sent")
+@test("documents: hover is refused as `out of step` after a malformed change, and the next full text is published")
 def hover_out_of_step() -> None:
     broken = notice("textDocument/didChange", {"textDocument": {"uri": "file:///m", "version": 2}})
     hover = request(3, "textDocument/hover", AT_START)
@@ -182,32 +181,32 @@ def hover_out_of_step() -> None:
     same(found[1], '{"error":{"code":-32803,"message":"out of step"},"id":3,"jsonrpc":"2.0"}')
 
 
-@test("documents: hover in a document that was never opened is refused with `unopened`")
+@test("documents: hover in a document that was never opened is refused as `unopened`")
 def hover_unopened() -> None:
     hover = request("h", "textDocument/hover", AT_START)
     same(talk(hover), [error("h", -32803, "unopened")])
     same(talk(did_open(MODULE, uri="file:///n"), hover)[1:], [error("h", -32803, "unopened")], "next to another one")
 
 
-@test("documents: closing a document that is out of step clears its diagnostics")
+@test("documents: closing a document after a malformed change clears its diagnostics once")
 def closed_out_of_step() -> None:
     broken = notice("textDocument/didChange", {"textDocument": {"uri": "file:///m", "version": 2}})
     found = talk(did_open("$"), broken, did_close(), did_close(), did_change(MODULE, version=3))
     same(found[1:], [published([], version=None)])
 
 
-@test("documents: closing a document clears its diagnostics once, without a version")
+@test("documents: closing a document clears its diagnostics once, in a publication without a version")
 def closed() -> None:
     found = talk(did_open("$"), did_close(), did_close(), did_change("$"), did_open(MODULE, version=3))
     same(found[1:], [published([], version=None), published([], version=3)])
 
 
-@test("documents: opening an open document again replaces its text and diagnostics")
+@test("documents: a didOpen of an open document replaces the document's text and diagnostics")
 def opened_anew() -> None:
     same(talk(did_open("$"), did_open(MODULE, version=1)), [published([diagnostic("BadChar", "bad character", "0:0-0:1")]), published([])])
 
 
-@test("documents: several documents can be open at once; uris are compared as plain strings")
+@test("documents: several documents can be open at once, and their uris are compared as plain strings")
 def several() -> None:
     found = talk(
         did_open("$", uri="a"),
@@ -229,12 +228,12 @@ def several() -> None:
     )
 
 
-@test("documents: a change with `range: null` replaces the whole text")
+@test("documents: a change whose range is null replaces the whole text")
 def null_range() -> None:
     same(talk(did_open("$"), did_change([{"range": None, "text": MODULE}]))[1:], [published([], version=2)])
 
 
-@test("documents: over 200 notifications about seven documents the texts stay separate")
+@test("documents: seven documents keep separate texts over 200 notifications")
 def long_talk() -> None:
     with Server() as server:
         for number in range(200):
@@ -245,7 +244,7 @@ def long_talk() -> None:
         same(server.end(), 0, "the status")
 
 
-@test("documents: definition is refused in a document that isn't open or is out of step")
+@test("documents: definition is refused in a document that isn't open, and after a malformed change")
 def refused_questions() -> None:
     where = {"position": {"character": 0, "line": 0}, "textDocument": {"uri": "file:///m"}}
     broken = notice("textDocument/didChange", {"textDocument": {"uri": "file:///m", "version": 2}})

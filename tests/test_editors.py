@@ -32,7 +32,7 @@ from modules import CALLS, FAULTY, LEAST, NESTED, RECORDS, WRITES_A_GLOBAL
 from snippets import snippets
 
 T = TypeVar("T")
-Steps = List[Tuple[str, Any]]  # pairs of a step and its finding
+Steps = List[Tuple[str, Any]]  # pairs of a step's name and its result
 Client = Callable[..., Steps]  # drives an editor through some steps
 Seen = Tuple[List[int], str, List[List[int]], List[int]]
 Which = Type[keyed.Keyed]
@@ -114,7 +114,7 @@ def in_vim(steps: str, text: str, **given: Any) -> Steps:
     return play("vim", words, steps, text, given, set_up, in_terminal=True)
 
 
-# the words that pages of editors share, and those that only their common page has
+# words that the pages of several editors share, and words that only their common page has
 ONLY_SHOWN = "**not applicable**: the server makes no edits in this editor"
 ON_ALL = [
     "**unknown**: save before each edit, and compare afterwards",
@@ -142,7 +142,7 @@ def in_bold(cells: list[str]) -> set[str]:
 
 
 def items_of(folder: str, rows: list[tuple[str, str]]) -> list[str]:
-    """Returns the rows about an editor as the list items that its page must have."""
+    """Returns the list items that an editor's page must contain, made from the rows about that editor."""
     found = []
     for which, verdict in rows:
         for name, after in re.findall(r"\]\((\w+)/README\.md\)([^\[]*)", which):
@@ -173,7 +173,7 @@ def held_here() -> None:
         same([it for it in wanted if it not in page], [], f"what editors/{folder}/README.md doesn't say")
 
 
-@test("editors: the editors' page, the promises and the statement say in the same words what an editor has to do")
+@test("editors: the editors' page, PROMISES.md and STATEMENT.md state an editor's duties in the same words")
 def asked_of_editors() -> None:
     for page in ("editors/README.md", "docs/PROMISES.md", "docs/STATEMENT.md"):
         holds(ASKED in " ".join(text_of(page).split()), f"{page} doesn't say {ASKED!r}")
@@ -183,7 +183,7 @@ GOOD = "MODULE M; BEGIN WriteLn END M.\n"
 TYPED = "MODULE M; VAR x: INTEGER; BEGIN WriteLn END M.\n"
 
 
-@test("Neovim: the diagnostic of a bad character appears and disappears, and the server ends cleanly")
+@test("Neovim: a bad character's diagnostic appears when it is typed or restored, and disappears when it is removed")
 def neovim_scanning() -> None:
     bad = [[0, 16, 0, 17, "BadChar", "bad character"]]
     wanted_steps = [("opened", []), ("typed", bad), ("mended", []), ("undone", bad), ("redone", []), ("ended", ENDED)]
@@ -207,7 +207,7 @@ def while_typing() -> Steps:
     return [*wanted_steps, ("ended", ENDED)]
 
 
-@test("Neovim: the right syntax error is shown after each letter of a statement that is typed")
+@test("Neovim: the expected diagnostic is shown after each letter of a typed statement")
 def neovim_typing() -> None:
     same(in_neovim("typing", TYPED), while_typing())
 
@@ -252,33 +252,33 @@ def as_emacs_shows() -> list[Any]:
     return found
 
 
-@test("Neovim: an invalid module's errors are shown, and none after it is fixed")
+@test("Neovim: all errors of an invalid module are shown, and they disappear once the module is fixed")
 def neovim_types() -> None:
     same(in_neovim("mending", FAULTY, mended=MENDED), [("opened", as_neovim_shows()), ("mended", []), ("ended", ENDED)])
 
 
-@test("Emacs: an invalid module's errors are shown, and none after it is fixed")
+@test("Emacs: all errors of an invalid module are shown, and they disappear once the module is fixed")
 def emacs_types() -> None:
     same(in_emacs("mending", FAULTY, mended=MENDED), [("opened", as_emacs_shows()), ("mended", []), ("ended", 0)])
 
 
-@test("lsp-mode: an invalid module's errors are shown, and none after it is fixed")
+@test("lsp-mode: all errors of an invalid module are shown, and they disappear once the module is fixed")
 def lsp_mode_types() -> None:
     same(in_lsp_mode("mending", FAULTY, mended=MENDED), [("opened", as_neovim_shows()), ("mended", [])])
 
 
-@test("Vim: an invalid module's errors are shown, and none after it is fixed")
+@test("Vim: all errors of an invalid module are shown, and they disappear once the module is fixed")
 def vim_types() -> None:
     same(in_vim("mending", FAULTY, mended=MENDED), [("opened", as_neovim_shows()), ("mended", [])])
 
 
-@test("Emacs: the diagnostic of a bad character appears and disappears, and the server ends cleanly")
+@test("Emacs: a bad character's diagnostic appears when the character is typed, and disappears when it is removed")
 def emacs_scanning() -> None:
     bad = [[16, 17, " [BadChar]: bad character"]]
     same(in_emacs("scanning", GOOD), [("opened", []), ("typed", bad), ("mended", []), ("ended", 0)])
 
 
-@test("Emacs: a late diagnostic is shown even if its position is now inside a character")
+@test("Emacs: eglot shows a late diagnostic even if its position is now inside a character")
 def emacs_outdated() -> None:
     text = "MODULE M; (* \U0001f600 *)\nBEGIN\n  WriteLn\nEND M.\n"
     same(in_emacs("outdated", text), [("opened", []), ("outdated", 1), ("ended", 0)])
@@ -291,12 +291,12 @@ REFERENCES = [{"range": extent(it), "uri": "file:///m.mod"} for it in PLACES]
 ANSWERED = [("opened", []), ("hover", HOVER), ("definition", DEFINITION), ("references", REFERENCES)]
 
 
-@test("Neovim: the server gives the expected answers to hover, definition and references")
+@test("Neovim: the server gives the expected answers to Neovim's hover, definition and references requests")
 def neovim_questions() -> None:
     same(in_neovim("questions", CALLS), [*ANSWERED, ("ended", ENDED)])
 
 
-@test("Emacs: the server gives the expected answers to hover, definition and references")
+@test("Emacs: the server gives the expected answers to eglot's hover, definition and references requests")
 def emacs_questions() -> None:
     same(in_emacs("questions", CALLS), [*ANSWERED, ("ended", 0)])
 
@@ -321,17 +321,17 @@ def looked(seen: list[Seen]) -> Steps:
 
 
 def without_declarations(seen: list[Seen]) -> list[Seen]:
-    """Returns `seen` for a client that requests references without the declaration."""
+    """Returns `seen` without the declarations, for a client that requests references without them."""
     return [(place, shown, [it for it in listed if it != declared], declared) for place, shown, listed, declared in seen]
 
 
-@test("Neovim: its own hover, list of references and go to definition show the server's answers")
+@test("Neovim: the editor's own hover, reference list and go-to-definition show the server's answers")
 def neovim_looking() -> None:
     for text, seen in ((CALLS, CALLS_SEEN), (RECORDS, RECORDS_SEEN)):
         same(in_neovim("looking", text, places=[it[0] for it in seen]), [*looked(seen), ("ended", ENDED)])
 
 
-@test("Neovim: one line reports a missing program")
+@test("Neovim: if the program ob0 is missing, one line says so")
 def neovim_without() -> None:
     want("Neovim")
     with temporary() as room:
@@ -342,7 +342,7 @@ def neovim_without() -> None:
     same((status, said.strip()), (0, "There is no program no-such-program: set vim.g.ob0_program to its path"))
 
 
-@test("Neovim: after text is typed into an empty buffer, the server's text ends with a line end too")
+@test("Neovim: if text is typed into an empty buffer, the text that the server gets ends with a line end")
 def neovim_emptied() -> None:
     same(in_neovim("emptied", CALLS), [("opened", []), *[("left to do", [])] * 3, ("ended", ENDED)])
 
@@ -369,7 +369,7 @@ REFUSED_RENAMES = [
 ]
 
 
-@test("Neovim: refused renames, and requests that fail because the module has an error, are explained in words")
+@test("Neovim: the refusal of a rename, or of a request in an invalid module, is explained in a sentence")
 def neovim_refused() -> None:
     steps = [(name, f"ob0: {words}") for _, name, words in REFUSED_RENAMES]
     told = [(it, f"ob0: {ILL_TYPED}") for it in ("rename", "hover", "definition", "format")]
@@ -377,12 +377,12 @@ def neovim_refused() -> None:
     same(found, [("opened", []), *steps, *told, ("ended", ENDED)])
 
 
-# how an editor treats a text that the server can't read, and how it does if that isn't read again
+# what an editor says about a text that the server can't read: at first, and if the text can't be read after that either
 HOWS = ("it is opened again", "it stays closed until it is changed")
 UNREAD = [f"ob0: the server can't read m.mod: {how}" for how in HOWS]
 
 
-@test("Neovim: a text that the server can't read is reopened once, and then again at the next change")
+@test("Neovim: a document that the server can't read is reopened once, and then again at the next change")
 def neovim_unread() -> None:
     text = "MODULE M;\n\nBEGIN Write(1) END M.\n"
     again, closed = (f"{it} (not JSON)" for it in UNREAD)
@@ -395,7 +395,7 @@ def neovim_unread() -> None:
     same(in_neovim("unread", text, breaks="readable"), [("opened", []), *steps, ("ended", ENDED)])
 
 
-# a module with two errors, of which the parser reports the first, and the hints for it and for what it becomes
+# a module with two errors, and the hint for each: the second error is reported once the first is fixed
 HINTED = "MODULE M;\nVAR x: INTEGER;\nBEGIN\n  x = 1;\n  Inc(x)\nEND M.\n"
 EXPECTED_END = [3, 4, 3, 5, "Syntax", "expected END"]
 NOT_DECLARED = [4, 2, 4, 5, "Undeclared", "not declared"]
@@ -433,7 +433,7 @@ def emacs_hinted() -> None:
     same(in_emacs("hinted", HINTED), steps)
 
 
-@test("lsp-mode: a hint is appended to a diagnostic's message")
+@test("lsp-mode: a hint is appended to the message of a diagnostic")
 def lsp_mode_hinted() -> None:
     with_hint: Callable[[List[Any], str], List[List[Any]]] = lambda it, hint: [[*it[:5], f"{it[5]}\n{hint}"]]
     steps = [
@@ -446,7 +446,7 @@ def lsp_mode_hinted() -> None:
     same(in_lsp_mode("hinted", HINTED), steps)
 
 
-# texts, whether formatting changes each, and the file that is saved then
+# each row: a text, whether formatting changes it, and the file that is saved afterwards
 LINES_ENDED = [
     ("MODULE M;\nBEGIN Write(1) END M.", True, "MODULE M;\nBEGIN\n  Write(1)\nEND M.\n"),
     ("MODULE M;\nBEGIN\n  Write(1)\nEND M.", False, "MODULE M;\nBEGIN\n  Write(1)\nEND M.\n"),
@@ -460,7 +460,7 @@ LINES_ENDED = [
 ]
 
 
-@test("Neovim: formatting keeps CR LF, even without a last line end, and a second formatting changes nothing")
+@test("Neovim: formatting keeps CR LF line endings, even without a last one, and a second formatting changes nothing")
 def neovim_line_ends() -> None:
     for text, changes, written in LINES_ENDED:
         steps = [("opened", []), ("changes", changes), ("changes", False), ("file", written), ("ended", ENDED)]
@@ -473,22 +473,22 @@ def line_ends_in_emacs(editor: Client, end: Steps) -> None:
         same(editor("formatted", text), steps, f"the steps on {text!r}")
 
 
-@test("Emacs: formatting keeps a file's CR LF, and a second formatting changes nothing")
+@test("Emacs: formatting keeps a file's CR LF line endings, and a second formatting changes nothing")
 def emacs_line_ends() -> None:
     line_ends_in_emacs(in_emacs, [("ended", 0)])
 
 
-@test("lsp-mode: formatting keeps a file's CR LF, and a second formatting changes nothing")
+@test("lsp-mode: formatting keeps a file's CR LF line endings, and a second formatting changes nothing")
 def lsp_mode_line_ends() -> None:
     line_ends_in_emacs(in_lsp_mode, [])
 
 
-@test("Emacs: a text that can't be sent, or that the server can't read, is reopened at the next change")
+@test("Emacs: a document that eglot can't send, or that the server can't read, is reopened at the next change")
 def emacs_unread() -> None:
     found = in_emacs("unread", "MODULE M;\n\nEND M.\n", breaks="readable")
     told = {step: it for step, it in found if step not in ("opened", "ended")}
     same(list(told), ["half a pair", "still", "mended", "no message"], "the steps")
-    # (eglot itself fails to tell the first change and the first two openings)
+    # (eglot itself fails to send the first change and the first two openings)
     wanted_told = ["didChange didClose didOpen didClose", "didOpen", "didOpen", "didClose didOpen"]
     same([told[it][0] for it in told], wanted_told, "what is told")
     again, closed = (told["half a pair"][1] + " | ").split(" | ")[:2]
@@ -498,7 +498,7 @@ def emacs_unread() -> None:
     same(told["no message"][1], f"{UNREAD[0]} (not JSON)", "the last message")
 
 
-@test("lsp-mode: a text that can't be sent, or that the server can't read, is reopened at the next change")
+@test("lsp-mode: a document that lsp-mode can't send, or that the server can't read, is reopened at the next change")
 def lsp_mode_unread() -> None:
     found = in_lsp_mode("unread", "MODULE M;\n\nEND M.\n", breaks="readable")
     told = {step: it for step, it in found if step not in ("opened", "read")}
@@ -509,7 +509,7 @@ def lsp_mode_unread() -> None:
     same(dict(found)["read"], [[1, 0, 1, 1, "BadChar", "bad character"]], "the diagnostics once it is read")
 
 
-@test("Vim: with ALE a text that the server can't read is reopened once, and then again at the next change")
+@test("Vim: with ALE a document that the server can't read is reopened once, and then again at the next change")
 def vim_unread() -> None:
     said = [f"{it} (not JSON)" for it in UNREAD]
     steps = [("opened", []), ("said", said), ("read", [[0, 9, 0, 10, "BadChar", "bad character"]])]
@@ -523,17 +523,17 @@ def refused_in_emacs(editor: Client, end: Steps, *more: str) -> None:
     same(found, [("opened", []), *steps, *told, *end])
 
 
-@test("Emacs: refused renames, and requests that fail because the module has an error, are explained in words")
+@test("Emacs: the refusal of a rename, or of a request in an invalid module, is explained in a sentence")
 def emacs_refused() -> None:
     refused_in_emacs(in_emacs, [("ended", 0)])
 
 
-@test("lsp-mode: refused renames, and requests that fail because the module has an error, are explained in words")
+@test("lsp-mode: the refusal of a rename, or of a request in an invalid module, is explained in a sentence")
 def lsp_mode_refused() -> None:
     refused_in_emacs(in_lsp_mode, [], "prompt")
 
 
-@test("Vim: with ALE refused renames, and requests that fail because the module has an error, are explained in words")
+@test("Vim: with ALE the refusal of a rename, or of a request in an invalid module, is explained in a sentence")
 def vim_refused() -> None:
     steps = [(name, f"ob0: {words}") for _, name, words in REFUSED_RENAMES]
     told = [(it, f"ob0: {ILL_TYPED}") for it in ("rename", "hover", "definition")]
@@ -541,7 +541,7 @@ def vim_refused() -> None:
     same(found, [("opened", []), *steps, *told])
 
 
-@test("Vim: ALE formats with ob0-format, which keeps the line ends and what the module prints")
+@test("Vim: ALE formats a module with ob0-format, and the line endings and the module's output are unchanged")
 def vim_formatted() -> None:
     for line_end in ("\n", "\r\n"):
         text, written = "MODULE M;\nBEGIN Write(1) END M.\n", "MODULE M;\nBEGIN\n  Write(1)\nEND M.\n"
@@ -557,24 +557,24 @@ def neovim_prompted() -> None:
     same(found, [("opened", []), ("prompted", "total"), ("ended", ENDED)])
 
 
-@test("Neovim: if Neovim doesn't show diagnostics' messages, ob0's files do, unless the user prevents it")
+@test("Neovim: ob0's files show the messages of diagnostics if Neovim doesn't, unless the user prevents it")
 def neovim_messages() -> None:
     shown = [("by Neovim", 0), ("by the user's choice", 0), ("by ob0", 1)]
     same(in_neovim("messages", GOOD.replace("WriteLn", "x := 1")), [("opened", 1), *shown, ("ended", ENDED)])
 
 
-@test("Emacs: imenu lists the procedures while eglot is on")
+@test("Emacs: imenu lists the module's procedures while eglot is on")
 def emacs_index() -> None:
     same(in_emacs("index", CALLS), [("opened", []), ("index", ["*Rescan*", "F"]), ("ended", 0)])
 
 
-@test("Emacs: its own hover, list of references and go to definition show the server's answers")
+@test("Emacs: the editor's own hover, reference list and go-to-definition show the server's answers")
 def emacs_looking() -> None:
     for text, seen in ((CALLS, CALLS_SEEN), (RECORDS, RECORDS_SEEN)):
         same(in_emacs("looking", text, places=[it[0] for it in seen]), [*looked(seen), ("ended", 0)])
 
 
-@test("lsp-mode: its own hover, list of references and go to definition show the server's answers")
+@test("lsp-mode: the editor's own hover, reference list and go-to-definition show the server's answers")
 def lsp_mode_looking() -> None:
     for text, seen in ((CALLS, CALLS_SEEN), (RECORDS, RECORDS_SEEN)):
         found = in_lsp_mode("looking", text, places=[it[0] for it in seen])
@@ -582,7 +582,7 @@ def lsp_mode_looking() -> None:
         same(found, looked(seen) if found == looked(seen) else looked(without_declarations(seen)))
 
 
-@test("Vim: ALE's hover, list of references and go to definition show the server's answers")
+@test("Vim: the hover, reference list and go-to-definition of ALE show the server's answers")
 def vim_looking() -> None:
     for text, seen in ((CALLS, CALLS_SEEN), (RECORDS, RECORDS_SEEN)):
         same(in_vim("looking", text, places=[it[0] for it in seen]), looked(without_declarations(seen)))
@@ -609,7 +609,7 @@ INNER = [
 ]
 COLLATZ, COLLATZ_PRINTS = example("Collatz")
 
-# a text, a place in it, the new name there, the places that change, what the text prints before and after
+# each row: a text, a place in it, the new name, the places that change, and what the text prints before and after
 RENAMED = [
     (NESTED_EXAMPLE, [6, 14], "Add", INNER, NESTED_PRINTS),
     (CALLS, [2, 47], "G", PLACES, " 2 1"),
@@ -631,7 +631,7 @@ def renames(editor: Client, end: Steps, rows: list[tuple[str, list[int], str, li
         keeps_the_run(text, dict(found)["text"], out)
 
 
-# the editors that rename, what they are started by, and what they say at last
+# each editor that renames, with the function that drives it and its last steps
 CLIENTS: List[Tuple[str, Client, Steps]] = [
     ("Neovim", in_neovim, [("ended", ENDED)]),
     ("Emacs", in_emacs, [("ended", 0)]),
@@ -641,20 +641,21 @@ CLIENTS: List[Tuple[str, Client, Steps]] = [
 
 
 def in_each(what: str, clients: list[tuple[str, Client, Steps]], function: Callable[..., None], *more: object) -> None:
-    """Adds a test of this name for each of these editors."""
+    """Registers a test with this name for each of these clients."""
     for name, editor, end in clients:
         test(f"{name}: {what}")(functools.partial(function, editor, end, *more))
 
 
-in_each("a rename is applied, and keeps the run", CLIENTS, renames, RENAMED)
-in_each("a rename of a record's field is applied, and keeps the run", CLIENTS, renames, FIELDS_RENAMED)
+in_each("a rename is applied, and the module's output is unchanged", CLIENTS, renames, RENAMED)
+in_each("a rename of a record's field is applied, and the module's output is unchanged", CLIENTS, renames, FIELDS_RENAMED)
 
 LEAST_HERE = LEAST.replace("+ c", "+ (-2147483647 - 1)")
 LEAST_EVERYWHERE = LEAST_HERE.replace("c = -2147483647 - 1;", "")
 FIVE = "MODULE M;\nCONST c = -5;\nBEGIN Write(c DIV 3) END M.\n"
 FIVE_HERE = FIVE.replace("c DIV", "(-5) DIV")
 
-# a text, a place in it, the action that is chosen, what is offered, the text after it, what the text prints before and after
+# each row: a text, a place in it, the chosen action, the number of offered actions, the text afterwards, and what it
+# prints
 ACTED = [
     (LEAST, [3, 15], "Inline here", 2, LEAST_HERE, " -2147483648"),
     (LEAST, [3, 15], "Inline everywhere", 2, LEAST_EVERYWHERE, " -2147483648"),
@@ -673,9 +674,9 @@ def inlines(editor: Client, end: Steps) -> None:
         keeps_the_run(text, dict(found)["text"], out)
 
 
-in_each("both ways to inline a constant are offered and applied, and keep the run", CLIENTS, inlines)
+in_each("both ways to inline a constant are offered and applied, and the module's output is unchanged", CLIENTS, inlines)
 
-# the width of a level, whether it is spaces, a text, its layout, an input, what the text prints on that before and after
+# each row: the width of a level, whether it is spaces, a text, the formatted text, an input, and what both print for it
 FORMATTED = [
     # (an example, all on one line, is formatted as it is in its file)
     (2, True, " ".join(COLLATZ.split()), COLLATZ, b"15", COLLATZ_PRINTS),
@@ -717,10 +718,10 @@ def formats(editor: Client, end: Steps) -> None:
         keeps_the_run(text, dict(found)["text"], out, given)
 
 
-in_each("a text is formatted, once more changes nothing, and the run is kept", CLIENTS[:2], formats)
+in_each("a module is formatted, a second formatting changes nothing, and the module's output is unchanged", CLIENTS[:2], formats)
 
 
-@test("lsp-mode: a module is formatted as expected, and prints the same as before")
+@test("lsp-mode: a module is formatted as expected, and the module's output is unchanged")
 def lsp_mode_format() -> None:
     for size, spaces, text, wanted, given, out in FORMATTED:
         if (size, spaces) == (2, True):  # (what ob0-mode requests)
@@ -731,7 +732,8 @@ def lsp_mode_format() -> None:
 
 CONSTANT = "MODULE M;\nCONST k = 7;\nBEGIN Write(k) END M.\n"
 WITH_A_LINE = CONSTANT.replace("\n", "\n(* new *)\n", 1)
-# what VS Code's extension leaves in a document: by answers that come at once, and by those that come after a change
+# the documents that VS Code's extension leaves: after answers that come at once, and after answers that come after a
+# change
 MADE_AT_ONCE = {
     "rename": CONSTANT.replace("k", "z"),
     "layout": "MODULE M;\nCONST\n  k = 7;\nBEGIN\n  Write(k)\nEND M.\n",
@@ -749,7 +751,7 @@ def in_vscode(folder: str, *kind: str) -> tuple[str, Any, list[Message], list[Me
         own = at_home(room, "vscode")
         put_between(room)
         write(os.path.join(room, "breaks"), "" if "real" in kind else "readable")
-        # (one that is packed has its modules with it)
+        # (a packed extension contains its modules)
         nodes = vsix.modules() if folder == vsix.FOLDER else None
         own["NODE_PATH"] = os.pathsep.join(nodes.folders) if nodes else ""
         file = os.path.join(room, "work", "it's a.mod")
@@ -798,14 +800,14 @@ def in_vscode_by(*kind: str, folder: str = vsix.FOLDER) -> None:
     same({version for it in renamed if "result" in it for change in it["result"]["documentChanges"] for version in [change["textDocument"]["version"]]}, {1, 2}, "the versions")
 
 
-@test("VS Code: the extension, with stand-ins for the editor and its client, starts the server, drops late answers, checks and runs")
+@test("VS Code: the extension starts the server, drops late answers, checks and runs, with a stand-in for the editor")
 def vscode() -> None:
     want("Node")
     harness.need_program()
     in_vscode_by()
 
 
-@test("VS Code: the extension works the same with the real vscode-languageclient and a stand-in for the editor")
+@test("VS Code: the extension behaves the same with the real vscode-languageclient and a stand-in editor")
 def vscode_client() -> None:
     # (`npm install` in editors/vscode gets the client, and `make editors RELEASE=trixie` makes it in its root)
     want("Node", vsix.CLIENT)
@@ -813,7 +815,7 @@ def vscode_client() -> None:
     in_vscode_by("real")
 
 
-@test("VS Code: the packed extension works the same with the real client and a stand-in for the editor")
+@test("VS Code: the packed extension behaves the same with the real vscode-languageclient and a stand-in editor")
 def vscode_packed() -> None:
     want("Node", vsix.CLIENT)
     harness.need_program()
@@ -847,7 +849,7 @@ END M.
 YCM_TYPED = [("typed", ["bad character [BadChar]"]), ("mended", [])]
 
 
-@test("Vim by YouCompleteMe: diagnostics, hover, references, a rename and formatting work")
+@test("Vim by YouCompleteMe: diagnostics, hover, references, renaming and formatting have the expected results")
 def ycm_names() -> None:
     steps = [("shown", "PROCEDURE F(n: INTEGER)"), ("listed", [[1, 10], [2, 30], [2, 47], [3, 6]]), ("jumped", [1, 10])]
     steps += [("renamed", edited(CALLS, PLACES, "G")), ("laid out", LAID_OUT)]
@@ -855,7 +857,7 @@ def ycm_names() -> None:
     keeps_the_run(CALLS, LAID_OUT, " 2 1")
 
 
-@test("Vim by YouCompleteMe: a constant is inlined after an emoji")
+@test("Vim by YouCompleteMe: a constant can be inlined after an emoji on the same line")
 def ycm_inline() -> None:
     text = "MODULE M;\nCONST k = 7;\nBEGIN (* \U0001f600 *) Write(k) END M.\n"
     wanted = text.replace("Write(k)", "Write(7)")
@@ -864,7 +866,7 @@ def ycm_inline() -> None:
     keeps_the_run(text, wanted, " 7")
 
 
-@test("Vim by YouCompleteMe: formatting keeps a file's CR LF")
+@test("Vim by YouCompleteMe: formatting keeps a file's CR LF line endings")
 def ycm_line_ends() -> None:
     for text, _, written in LINES_ENDED[2:4]:
         found = in_vim_by_ycm("formatted", text)
@@ -888,7 +890,7 @@ def in_kate(steps: str, text: str, **given: Any) -> Steps:
     return play("kate", words, steps, text, given, set_up, more=own)
 
 
-@test("Kate: diagnostics, hover, references, a rename and formatting work by keyboard")
+@test("Kate: diagnostics, hover, references, renaming and formatting by keyboard have the expected results")
 def kate_names() -> None:
     steps = [("opened", []), ("typed", ["BadChar"]), ("undone", []), ("shown", "PROCEDURE F(n: INTEGER)")]
     steps += [("listed", [[1, 10], [2, 30], [2, 47], [3, 6]]), ("jumped", [1, 10])]
@@ -906,7 +908,7 @@ def kate_inline() -> None:
     keeps_the_run(text, wanted, " 7")
 
 
-@test("Kate: formatting keeps a file's CR LF, and a second formatting changes nothing")
+@test("Kate: formatting keeps a file's CR LF line endings, and a second formatting changes nothing")
 def kate_line_ends() -> None:
     text, _, written = LINES_ENDED[2]
     formatted = written.replace("\r\n", "\n")
@@ -914,7 +916,7 @@ def kate_line_ends() -> None:
     same(in_kate("formatted", text, place=[0, 0]), steps)
 
 
-@test("Kate: a late answer's edits are made at positions that moved with the text, as Kate's page warns")
+@test("Kate: the edits of a late answer are made at positions that moved with the text, as Kate's page warns")
 def kate_late() -> None:
     renamed = NEW_LINE + re.sub(r"\bn\b", "tot", LATE)
     laid_out = f"{2 * NEW_LINE}MODULE M;\nCONST\n  k = 7;\nVAR\n  tot: INTEGER;\nBEGIN\n  tot := 1;\n  Write(tot);\n  Write(k);\n"
@@ -922,7 +924,7 @@ def kate_late() -> None:
     same(in_kate("late", LATE, place=LATE_AT[keyed.RENAME]), [("opened", []), ("renamed", renamed), ("laid out", laid_out)])
 
 
-# (each line of an `n` is followed by one of a `k` of the same form, so that an edit a line off is hard to see)
+# (each line with `n` precedes a line of the same form with `k`, so that an edit one line off is hard to see)
 LATE = """MODULE M;
 CONST k = 7;
 VAR n: INTEGER;
@@ -935,8 +937,8 @@ END M.
 """
 NEW_LINE = "(* new *)\n"
 LATE_AT = {keyed.RENAME: (2, 4), keyed.ACTION: (6, 8), keyed.LAYOUT: (0, 0)}
-# how many seconds an answer is held at least before an editor that waits for it, and how many times as long as the editor took to
-# write its text before: so a slow one, which doesn't wait, is seen to take keys
+# How many seconds an answer is held at least, and how many times as long as the editor needed to write its text. An
+# editor that is only slow, and doesn't wait for the answer, is then seen to accept keys.
 HELD, HELD_TIMES = 0.4, 3
 WHEN = ["in the first version", "in a later version", "closed and opened again"]
 
@@ -983,7 +985,7 @@ def by_keys(does: Callable[[Any], T], which: Which, text: str, *names: str) -> T
 
 
 class Deaf(keyed.Keyed):
-    """An editor whose server never gets its text."""
+    """Stands in for an editor whose server never gets the text."""
 
     opened = 0
 
@@ -998,7 +1000,7 @@ class Deaf(keyed.Keyed):
         return bool(holds())
 
 
-@test("editors: a test fails if the server never gets the editor's text, and doesn't try again by itself")
+@test("editors: a test of an editor fails at the first try if the server never gets the editor's text")
 def not_again() -> None:
     played = mock.Mock(side_effect=Failed("no key was taken"))
     Deaf.opened = 0
@@ -1031,10 +1033,10 @@ KEYED: Dict[str, Any] = {
     "Emacs by lsp-mode": (keyed.LspMode, "Emacs", "lsp-mode"),
 }
 for name, which in KEYED.items():
-    test(f"{name}: no late answer changes another text than its own")(functools.partial(late_answers, *which))
+    test(f"{name}: a late answer changes no other text than the one that it was requested for")(functools.partial(late_answers, *which))
 
 
-CHANGED = LATE.replace("VAR", "VAR (* N and n *)").rstrip("\n").replace("\n", "\r\n")  # (with CR LF, and none after the last line)
+CHANGED = LATE.replace("VAR", "VAR (* N and n *)").rstrip("\n").replace("\n", "\r\n")  # (with CR LF, except after the last line)
 
 
 def lines_of(text: str | None) -> str:
@@ -1044,8 +1046,8 @@ def lines_of(text: str | None) -> str:
 
 
 def every_change(which: Which, count: int, seed: int, text: str, *names: str) -> str:
-    """Makes random changes by keys. After every ten of them the server must have the editor's text. Returns a
-    phrase such as "40 changes"."""
+    """Makes random changes by keys, and requires the server to have the editor's text after every ten of them. Returns
+    a phrase such as "40 changes"."""
 
     def compared(editor: keyed.Keyed) -> str:
         chance, made = random.Random(seed), []
@@ -1062,7 +1064,7 @@ def every_change(which: Which, count: int, seed: int, text: str, *names: str) ->
 
 
 for name, which in KEYED.items():
-    test(f"{name}: the server has the text after 40 changes")(functools.partial(every_change, which[0], 40, 3, CHANGED, *which[1:]))
+    test(f"{name}: the server's text equals the editor's after 40 random changes")(functools.partial(every_change, which[0], 40, 3, CHANGED, *which[1:]))
 
 
 def changes_by_keys() -> Iterator[tuple[Any, str, str]]:
@@ -1074,7 +1076,7 @@ def changes_by_keys() -> Iterator[tuple[Any, str, str]]:
 
 
 def replaced_in_other_cases(which: Which, *names: str) -> None:
-    """Replaces a name in a text that also contains it in the other case. The server must have the editor's text
+    """Replaces a name in a text that also contains it in the other case. Requires the server to have the editor's text
     afterwards."""
 
     def replaced(editor: keyed.Keyed) -> None:
@@ -1089,10 +1091,10 @@ def replaced_in_other_cases(which: Which, *names: str) -> None:
 
 
 for name in ("Emacs by eglot", "Emacs by lsp-mode"):
-    test(f"{name}: a replacement leaves names of another case, and the server has the text")(functools.partial(replaced_in_other_cases, *KEYED[name]))
+    test(f"{name}: a replacement of `n` leaves `N` unchanged, and the server's text equals the editor's")(functools.partial(replaced_in_other_cases, *KEYED[name]))
 
 
-@test("Neovim: an action that is chosen after the text has changed does nothing")
+@test("Neovim: a chosen code action does nothing if the text has changed since the action was offered")
 def neovim_chosen_late() -> None:
     def chosen(editor: keyed.Neovim) -> None:
         editor.keys(":let g:chooses_later = 1\r")
@@ -1106,7 +1108,7 @@ def neovim_chosen_late() -> None:
     by_keys(chosen, keyed.Neovim, LATE, "Neovim")
 
 
-@test("Neovim: if ob0's files are installed twice, only one server starts")
+@test("Neovim: only one server starts if ob0's files are installed twice")
 def neovim_copied_twice() -> None:
     class Twice(keyed.Neovim):
         def settings(self) -> dict[str, str]:

@@ -11,7 +11,7 @@ from modules import CALLS, FIVE, LEAST, NESTED, RECORDS, SHADOWED, WRITES_A_GLOB
 URI = "file:///m"
 ACCENTED = "MODULE M; VAR x: INTEGER; (* é *) BEGIN x := x END M."
 
-# text, line, character, new name: the places that change, or the refusal
+# each row: a text, a line, a character, the new name, and the places that change or the refusal
 Row = Tuple[str, int, int, str, Union[List[str], str]]
 RENAMES: List[Row] = [
     (NESTED, 1, 4, "z", ["1:4-1:5", "4:14-4:15", "5:15-5:16"]),
@@ -130,27 +130,27 @@ def through_command(rows: Sequence[Row]) -> None:
             ends(found, edited(text, wanted, new), 0)
 
 
-@test("rename: `serve` answers with the expected edits or refusals")
+@test("rename: `serve` answers each sample request with the expected edits or refusal")
 def renames() -> None:
     through_serve(RENAMES)
 
 
-@test("rename: `ob0 rename` prints the renamed text or the expected refusal")
+@test("rename: `ob0 rename` prints the renamed text or the expected refusal for each sample")
 def renamed() -> None:
     through_command(RENAMES)
 
 
-@test("rename: `serve` answers with the expected edits or refusals for a record's field")
+@test("rename: `serve` answers each sample request about a record's field with the expected edits or refusal")
 def field_renamed() -> None:
     through_serve(FIELD_RENAMES)
 
 
-@test("rename: `ob0 rename` prints the text with a renamed field, or the expected refusal")
+@test("rename: `ob0 rename` prints the text with the renamed field, or the expected refusal, for each sample")
 def field_renamed_by_command() -> None:
     through_command(FIELD_RENAMES)
 
 
-@test("rename: a field can be renamed at each of its uses, and the module still prints the same")
+@test("rename: a field can be renamed at each of its occurrences, and the module's output is unchanged")
 def field_places() -> None:
     for text, names in FIELDS_MARKED:
         plain, places = unmarked(text)
@@ -166,7 +166,7 @@ def field_places() -> None:
             ends(on_file("run", edited(plain, places, new)), out, 0)
 
 
-@test("rename: a field's edits and refusal are sent as expected, byte by byte")
+@test("rename: the edits and the refusal for a field are sent with exactly the expected bytes")
 def field_bytes() -> None:
     queries = [request(3, "textDocument/rename", where(3, 8, newName="b")), request(4, "textDocument/rename", where(1, 19, newName="c"))]
     found = serve(frames([initialize(), did_open(RECORDS, URI), *queries])).contents()[2:]
@@ -178,7 +178,7 @@ def field_bytes() -> None:
     )
 
 
-@test("rename: a field's edits have the document's version, and positions in the agreed units")
+@test("rename: the edits of a field have the document's version, and positions in the agreed unit")
 def field_units() -> None:
     text = "MODULE M; VAR r: RECORD a: INTEGER END; BEGIN (* 😀é *) r.a := 1; Write(r.a) END M."
     support = {"workspace": {"workspaceEdit": {"documentChanges": True}}}
@@ -192,14 +192,14 @@ def field_units() -> None:
                 same(found, {"documentChanges": [{"edits": edits, "textDocument": {"uri": URI, "version": 7}}]})
 
 
-@test("rename: renaming a field may make the longest text, and is refused with TooLong above that")
+@test("rename: renaming a field may make a text of the greatest length, and is refused as TooLong above that")
 def field_longest() -> None:
     text = "MODULE M; VAR r: RECORD x: INTEGER END; END M.".ljust(1048576)
     ends(on_file("rename", text, "0", "24", "y"), text.replace("x", "y"), 0)
     ends(on_file("rename", text, "0", "24", "xy"), "", 1, "refused: TooLong\n")
 
 
-@test("rename: a refusal and an answer without edits are sent as expected, byte by byte")
+@test("rename: a refusal, and an answer without edits, are sent with exactly the expected bytes")
 def rename_bytes() -> None:
     queries = [request(3, "textDocument/rename", where(1, 4, newName="y")), request(4, "textDocument/rename", where(1, 4, newName="x"))]
     found = serve(frames([initialize(), did_open(NESTED, URI), *queries])).contents()[2:]
@@ -207,7 +207,7 @@ def rename_bytes() -> None:
     same(found[1], '{"id":4,"jsonrpc":"2.0","result":{"changes":{"file:///m":[]}}}')
 
 
-@test("rename: if the client supports documentChanges, the answer has them, with the version")
+@test("rename: an answer contains documentChanges with the version if the client supports documentChanges")
 def document_changes() -> None:
     with Server(capabilities={"workspace": {"workspaceEdit": {"documentChanges": True}}}) as server:
         server.notify(did_open(NESTED, URI, 7))
@@ -217,14 +217,14 @@ def document_changes() -> None:
             same(found, {"documentChanges": [{"edits": wanted, "textDocument": {"uri": URI, "version": 7}}]})
 
 
-@test("rename: prepareProvider is announced if the client supports it")
+@test("rename: the server announces prepareProvider only if the client supports prepareRename")
 def announced() -> None:
     for support, wanted in ((True, {"prepareProvider": True}), (False, True), (None, True), (1, True)):
         with Server(capabilities={"textDocument": {"rename": {"prepareSupport": support}}}) as server:
             same(server.first["result"]["capabilities"]["renameProvider"], wanted)
 
 
-@test("rename: in a module with an error `serve` refuses, and `ob0 rename` prints the error")
+@test("rename: in a module with an error `serve` refuses a rename, and `ob0 rename` prints the error")
 def ill_typed() -> None:
     with Server() as server:
         server.notify(did_open("MODULE M", URI))
@@ -235,20 +235,20 @@ def ill_typed() -> None:
     ends(on_file("rename", b"MODULE \xff", "0", "7", "x"), "", 4, "fault: Utf8\n")
 
 
-@test("rename: `ob0 rename` makes texts up to the longest, and refuses longer ones with TooLong")
+@test("rename: `ob0 rename` makes texts up to the greatest length, and refuses to make longer ones with TooLong")
 def longest() -> None:
     text = "MODULE M; VAR x: INTEGER; END M.".ljust(1048576)
     ends(on_file("rename", text, "0", "14", "y"), text.replace("x", "y"), 0)
     ends(on_file("rename", text, "0", "14", "xy"), "", 1, "refused: TooLong\n")
 
 
-@test("rename: `serve` renames up to the longest text, and refuses above that with TooLong")
+@test("rename: `serve` makes texts up to the greatest length, and refuses to make longer ones with TooLong")
 def longest_served() -> None:
     text, places = "MODULE M; VAR x: INTEGER; END M.".ljust(1048576), ["0:14-0:15"]
     through_serve([(text, 0, 14, "y", places), (text, 0, 14, "xy", "TooLong"), (text[:-1], 0, 14, "xy", places)])
 
 
-@test("rename: a renamed module prints the same and ends with the same status")
+@test("rename: a renamed module has the same output and the same status as before")
 def same_run() -> None:
     for text, _, _, new, wanted in [*RENAMES, *FIELD_RENAMES]:
         if not isinstance(wanted, str):
@@ -256,13 +256,13 @@ def same_run() -> None:
             ends(on_file("run", edited(text, wanted, new)), before.out, before.status, before.err)
 
 
-@test("rename: a module whose field was renamed prints the same")
+@test("rename: a module prints the same after one of its fields was renamed")
 def field_runs() -> None:
     for new in ("c", "r"):
         ends(on_file("run", on_file("rename", RECORDS, "3", "8", new).out), " 3", 0)
 
 
-@test("rename: bad command lines are refused with status 2, and a position outside the text with NoName")
+@test("rename: `ob0 rename` refuses bad arguments with status 2, and a position outside the text with NoName")
 def lines() -> None:
     for words in (["0"], ["0", "0"], ["-1", "0", "x"], ["0", "18446744073709551616", "x"], ["18446744073709551616", "0", "x"], ["0", "x", "y"], ["0", "0", "x", "y"]):
         same(on_file("rename", NESTED, *words).status, 2, " ".join(words))
@@ -299,7 +299,7 @@ def actions(
         return {it["title"]: [(e["range"], e["newText"]) for e in it["edit"]["changes"][URI]] for it in found["result"]}
 
 
-@test("inline: at a constant's declaration one action is offered, with the expected bytes")
+@test("inline: one action is offered at a constant's declaration, with exactly the expected bytes")
 def inline_bytes() -> None:
     query = request(4, "textDocument/codeAction", acting(1, 6))
     found = serve(frames([initialize(**LITERALS), did_open(LEAST, URI), query])).contents()[2]
@@ -312,7 +312,7 @@ def inline_bytes() -> None:
     )
 
 
-@test("inline: at a use of a constant both actions are offered, with the expected bytes")
+@test("inline: two actions are offered at a constant's use, with exactly the expected bytes")
 def actions_bytes() -> None:
     query = request(5, "textDocument/codeAction", acting(3, 15))
     found = serve(frames([initialize(**LITERALS), did_open(LEAST, URI), query])).contents()[2]
@@ -326,7 +326,7 @@ def actions_bytes() -> None:
     same(found, f'{{"id":5,"jsonrpc":"2.0","result":{both}}}')
 
 
-@test("inline: `only` filters the actions; a variable, or a client without literals, gets no actions")
+@test("inline: `only` filters the offered actions, and a variable or a client without action literals gets none")
 def inlined() -> None:
     use, gone = (extent("3:15-3:16"), "(-2147483647 - 1)"), (extent("1:6-1:26"), "")
     both = {"Inline here": [use], "Inline everywhere": [gone, use]}
@@ -342,7 +342,7 @@ def inlined() -> None:
     same(actions(LEAST, 2, 4), {}, "at a variable")
 
 
-@test("inline: negative and Boolean values are written out; shadowed or too deep uses get no action")
+@test("inline: a negative or Boolean value is written as an expression, and a shadowed or too deep use gets no action")
 def inline_values() -> None:
     text = "MODULE M; CONST c = -5; t = 1 = 1; VAR a: INTEGER; BEGIN a := a - c; Write(c DIV 3); IF t THEN END END M."
     uses = [at for at in range(len(text)) if text.startswith("c;", at) or text.startswith("c DIV", at)]
@@ -358,7 +358,7 @@ def inline_values() -> None:
         same([*actions(deep, 0, deep.index("c)"))], offered, f"{value} below {levels} levels")
 
 
-@test("inline: if the client supports documentChanges, both actions have them, with the expected bytes")
+@test("inline: both actions contain documentChanges, with exactly the expected bytes, if the client supports them")
 def inline_changes() -> None:
     support: Message = {**LITERALS, "workspace": {"workspaceEdit": {"documentChanges": True}}}
     query = request(4, "textDocument/codeAction", acting(3, 15))
@@ -375,7 +375,7 @@ def inline_changes() -> None:
     same(found, f'{{"id":4,"jsonrpc":"2.0","result":[{action(use, "Inline here")},{action(gone + "," + use, "Inline everywhere")}]}}')
 
 
-@test("inline: edits have positions in the agreed units, at both ends of a name")
+@test("inline: edits have positions in the agreed unit, and are offered at both ends of a name")
 def inline_units() -> None:
     text = "MODULE M; CONST (* é *) c = 5; BEGIN (* 😀 *) Write(c) END M."
     for encodings, gone, use in ((["utf-16"], "0:24-0:30", "0:52-0:53"), (["utf-8"], "0:25-0:31", "0:55-0:56")):
@@ -386,7 +386,7 @@ def inline_units() -> None:
         same(actions(text, 0, extent(gone)["start"]["character"], capabilities=support), {"Inline everywhere": both["Inline everywhere"]})
 
 
-@test("inline: a range counts as its first position, even if its start and end are swapped")
+@test("inline: a request for a range is answered for the range's first position, even if start and end are swapped")
 def inline_ranges() -> None:
     both = actions(LEAST, 3, 15)
     same([*both], ["Inline here", "Inline everywhere"])
@@ -395,7 +395,8 @@ def inline_ranges() -> None:
     same(actions(LEAST, 3, 12, end=place(3, 16)), {}, "a range that begins before the name")
 
 
-# a text with the uses of one constant marked: the text written there, and the actions that aren't offered
+# each row: a text in which the uses of a constant are marked, the value written there, and the actions that aren't
+# offered
 INLINED: List[Tuple[str, Optional[str], List[str]]] = [
     ("MODULE M; CONST c = -5; VAR a: INTEGER; BEGIN a := a - ⟦c⟧; Write(⟦c⟧ DIV 3); Write(a) END M.", "(-5)", []),
     ("MODULE M; CONST k = 2; c = k * 3; d = ⟦c⟧ - k; VAR a: ARRAY ⟦c⟧ OF INTEGER; BEGIN a[⟦c⟧ - 1] := d; Write(a[5]) END M.", "6", []),
@@ -412,7 +413,7 @@ INLINED: List[Tuple[str, Optional[str], List[str]]] = [
 ]
 
 
-@test("inline: both actions make the expected edits, and the module prints the same")
+@test("inline: both actions make the expected edits, and the module's output is unchanged")
 def inline_runs() -> None:
     for text, written, refused in INLINED:
         plain, uses = unmarked(text)
@@ -437,7 +438,7 @@ def inlinings(text: str, line: int, character: int) -> dict[str, str]:
     return {title: patched(text, [{"newText": new, "range": it} for it, new in edits]) for title, edits in found.items()}
 
 
-@test("inline: a module with a negative constant prints the same after either action")
+@test("inline: a module with a negative constant prints the same after either action as before")
 def inline_negative() -> None:
     rows = [
         (LEAST, 3, 15, "0 + c", "0 + (-2147483647 - 1)", "c = -2147483647 - 1;", " -2147483648"),
@@ -451,13 +452,13 @@ def inline_negative() -> None:
             ends(on_file("run", it), out, 0)
 
 
-@test("inline: a constant that is never used is removed")
+@test("inline: `Inline everywhere` removes the declaration of a constant that is never used")
 def inline_unused() -> None:
     text = "MODULE M; CONST c = 5; d = 6; BEGIN Write(d) END M."
     same(actions(text, 0, 16), {"Inline everywhere": [(extent("0:16-0:22"), "")]})
 
 
-@test("inline: nothing is offered at other names, numbers, keywords, in an invalid module or after the text")
+@test("inline: no action is offered at other names, numbers and keywords, in an invalid module, or after the text")
 def inline_nowhere() -> None:
     text = "MODULE M; TYPE R = RECORD c: INTEGER END; VAR x: R; PROCEDURE P; BEGIN IF TRUE THEN x.c := 1 END END P; BEGIN P; Write(x.c) END M."
     for what in ("M", "R", "c", "INTEGER", "x", "P", "TRUE", "1", "Write", "IF", "; VAR"):
@@ -466,7 +467,7 @@ def inline_nowhere() -> None:
     same(actions(LEAST, 99, 0), {}, "after the text")
 
 
-@test("inline: an action that would make the text too long isn't offered")
+@test("inline: an action isn't offered if it would make the text too long")
 def inline_longest() -> None:
     text = "MODULE M; CONST c = 10; d = c + c; END M."
     whole: Callable[[int], dict[str, Any]] = lambda size: actions(text.ljust(size), 0, text.index("c +"))
@@ -474,7 +475,7 @@ def inline_longest() -> None:
     same([*whole(1048576)], ["Inline everywhere"], "the text would be too long by one use")
 
 
-@test("inline: requests with malformed params, or in an unopened document or one out of step, are refused")
+@test("inline: a request with malformed params, for a document that isn't open, or after a malformed change is refused")
 def inline_refused() -> None:
     bad = {"code": -32602, "message": "bad params"}
     for support in (LITERALS, {}):
@@ -492,7 +493,7 @@ def inline_refused() -> None:
             same(ask(acting(0, 0)), {"code": -32803, "message": "out of step"})
 
 
-# tabSize, insertSpaces, the text, the formatted one
+# each row: tabSize, insertSpaces, a text, and the formatted text
 LAYOUTS = [
     (
         2,
@@ -534,7 +535,7 @@ def formatted(text: str, size: int, spaces: bool) -> tuple[list[Message], str]:
     return found, patched(text, found)
 
 
-@test("format: each text is formatted as expected, and formatting it again changes nothing")
+@test("format: each sample is formatted as expected, and formatting the result changes nothing")
 def formats() -> None:
     for size, spaces, text, wanted in LAYOUTS:
         _, found = formatted(text, size, spaces)
@@ -542,7 +543,7 @@ def formats() -> None:
         same(formatted(wanted, size, spaces)[0], [], "formatted again")
 
 
-@test("format: the edits change only the gaps between tokens, and are sent as expected, byte by byte")
+@test("format: the edits of a module on one line have exactly the expected bytes, and cover only gaps between tokens")
 def gaps() -> None:
     options = {"insertSpaces": True, "tabSize": 2}
     query = request(2, "textDocument/formatting", {"options": options, "textDocument": {"uri": URI}})
@@ -556,7 +557,7 @@ def gaps() -> None:
     )
 
 
-@test("format: malformed options are refused with `bad params`, and a module with an error with `ill-typed`")
+@test("format: malformed options are refused as `bad params`, and a module with an error is refused as `ill-typed`")
 def options() -> None:
     with Server() as server:
         server.notify(did_open("MODULE M; END M.", URI))
@@ -582,7 +583,7 @@ def length_after(text: str, edits: list[Message]) -> int:
     return len(text) + sum(len(new) - (end - start) for new, start, end in ranges)
 
 
-@test("format: a result of the greatest length is sent, and a longer one is refused with TooLong")
+@test("format: a result of the greatest length is sent, and a longer result is refused as TooLong")
 def longest_layout() -> None:
     params = {"options": {"insertSpaces": True, "tabSize": 16}, "textDocument": {"uri": URI}}
     with Server() as server:

@@ -12,7 +12,7 @@ def bytes_of(*path: str) -> bytes:
         return file.read()
 
 
-@test("examples: there are at least twelve, each with its input and its output")
+@test("examples: at least twelve examples exist, each with a file of inputs and a file of outputs")
 def dozen() -> None:
     holds(len(examples()) >= 12, f"there are {len(examples())}")
     faults = [f"{it[:-4]}.err" for it in examples() if os.path.basename(it).startswith("Fault")]
@@ -20,7 +20,7 @@ def dozen() -> None:
     same(sorted(os.path.join("examples", it) for it in names_in("examples") if it not in ("README.md", "exercises")), wanted)
 
 
-@test("examples: each has no errors, and prints its expected output")
+@test("examples: each example is valid, and prints its expected output and fault")
 def run_each() -> None:
     for path in examples():
         ends(run(["check", os.path.join(TOP, path)]), "", 0)
@@ -28,7 +28,7 @@ def run_each() -> None:
         ends(run(["run", os.path.join(TOP, path)], bytes_of(f"{path[:-4]}.in")), bytes_of(f"{path[:-4]}.out"), 1 if fault else 0, fault)
 
 
-@test("examples: formatting changes no example")
+@test("examples: formatting leaves each example unchanged")
 def laid_out() -> None:
     with Server() as server:
         for path in examples():

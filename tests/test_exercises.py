@@ -27,8 +27,8 @@ NAMES = re.findall(r"^## \d+\. (\w+)$", PAGE, re.M)
 
 
 def cases(exercise: str) -> list[tuple[list[int], list[list[int]]]]:
-    """Returns the cases of an exercise: the numbers of the input, and for each line to be printed its numbers. There
-    are no lines if nothing is to be printed."""
+    """Returns the cases of an exercise: each has the numbers of its input, and the numbers of each line to be printed.
+    The list of lines is empty if nothing is to be printed."""
     found = []
     for part in text_of(FOLDER, f"{exercise}.txt").rstrip("\n").split("\n\n"):
         first, *rest = part.split("\n")
@@ -92,7 +92,7 @@ WANTED = {
 }
 
 
-# (by the time that the script gives a run, a slow machine would decide)
+# (with the script's own time limit, the results would depend on the machine's speed)
 LONGEST = ["--seconds", "300"]
 
 
@@ -114,7 +114,7 @@ def marked(exercise: str, text: str, *words: str, encoding: str = "utf-8") -> tu
         return status, said.partition("\n")[2].strip()
 
 
-@test("exercises: there are twelve, each with an example on the page, a file of inputs and an answer")
+@test("exercises: twelve exercises exist, each with an example on the page, a file of inputs and an answer")
 def twelve() -> None:
     same(len(NAMES), 12, "how many")
     wanted = sorted(["README.md", "mark.py", *(f"{it}.txt" for it in NAMES)])
@@ -125,7 +125,7 @@ def twelve() -> None:
         same(example.strip(), text_of(FOLDER, f"{name}.txt").partition("\n\n")[0], f"the example of {name}")
 
 
-@test("exercises: the expected outputs equal the results of a separate computation in Python")
+@test("exercises: each expected output equals the result of a separate computation in Python")
 def computed() -> None:
     same(sorted(WANTED), sorted(NAMES), "the exercises")
     for name in NAMES:
@@ -134,7 +134,7 @@ def computed() -> None:
             same(WANTED[name](given), wanted, f"what {name} prints for {given}")
 
 
-@test("exercises: every answer in tests/answers is marked right, has no errors and is formatted")
+@test("exercises: each answer in tests/answers is marked right, has no errors and is formatted")
 def right() -> None:
     status, said = mark(os.path.join(TOP, "tests", "answers"))
     same((status, said.count(" right\n"), said.splitlines()[-1]), (0, 13, "  12 of 12 right"), said)
@@ -146,7 +146,7 @@ def right() -> None:
             same(server.query("textDocument/formatting", options).get("result"), [], f"the layout of {name}")
 
 
-# the exercise, what is changed in its answer (the first of these), and what is then said
+# each row: an exercise, a part of its answer, what replaces the part, and how mark.py's line then ends
 WRONG = [
     ("Clock", "DIV 60 MOD 60", "DIV 60", "for the input 3661: line 1 should be 1 1 1, and is 1 61 1"),
     ("Leap", "& (year MOD 100 # 0)", "", "for the input 1900: line 1 should be 0, and is 1"),
@@ -172,7 +172,7 @@ WRONG = [
 ]
 
 
-@test("exercises: each wrong answer is marked wrong, with a line that says why")
+@test("exercises: mark.py marks each wrong answer as wrong, and says why in one line")
 def wrong() -> None:
     same({it[0] for it in WRONG}, {*NAMES}, "the exercises")
     for exercise, old, new, wanted in WRONG:
@@ -185,12 +185,12 @@ LOOPS = "MODULE Clock; VAR i: INTEGER; BEGIN WHILE TRUE DO i := 0; WHILE i < 500
 LONG = "MODULE Clock; VAR i: INTEGER; BEGIN WHILE i < 100000 DO Write(2147483647); i := i + 1 END END Clock."
 
 
-@test("exercises: mark.py says if a module doesn't end, prints without end, doesn't exist or is no exercise")
+@test("exercises: mark.py reports a module that doesn't end, prints without end, doesn't exist or is no exercise")
 def bounded() -> None:
     same(marked("Clock", LOOPS.format(""), "--seconds", "5"), (1, "Clock.mod   wrong: for the input 3661: it had not ended after 5 seconds: does each loop end?"))
     same(marked("Clock", LONG), (1, "Clock.mod   wrong: for the input 3661: it prints too much: does each loop end?"))
     status, said = marked("Clock", LOOPS.format("Write(i); "), "--seconds", "5")
-    # (depending on the machine it is stopped by the time limit, or its output has used all memory)
+    # (depending on the machine, the time limit stops the run, or its output has filled the memory)
     holds(status == 1 and "does each loop" in said, said)
     status, said = marked("Gcd", text_of("examples", "Gcd.mod"))
     holds(status == 2 and "is not the module of an exercise: Clock, " in said, said)
@@ -240,7 +240,7 @@ def unmarked() -> None:
     same(sorted(lines[2:-1]), sorted(f"  {it} {why}" for it, why in UNMARKED.items()), "the lines of what isn't marked")
 
 
-@test("exercises: a link inside a folder isn't marked, but a path on the command line may be a link")
+@test("exercises: mark.py marks no links inside a folder, but marks a link that is given on the command line")
 def linked() -> None:
     script = os.path.join(TOP, FOLDER, "mark.py")
     need_program()
@@ -258,7 +258,7 @@ def linked() -> None:
     holds("carla:\n  Clock.mod   right\n" in said and "bob/Clock.mod:\n  Clock.mod   right\n" in said, said)
 
 
-@test("exercises: a last line counts right modules per folder; the status is 0 if each has some and all are right")
+@test("exercises: mark.py counts right modules per folder, and ends with 0 if each folder has only right modules")
 def folders() -> None:
     right_one, wrong_one = answer("Clock"), answer("Clock").replace("DIV", "MOD", 1)
     files = {"anna/Clock.mod": right_one, "anna/Leap.ob0": answer("Leap"), "ben/Clock.mod": wrong_one, "carl/x.txt": "", "-xaver/Clock.Mod": right_one}
@@ -277,7 +277,7 @@ def folders() -> None:
         holds(it in listed, f"the page has no {it}")
 
 
-@test("exercises: Clock.mod and Clock.Mod are told apart; the name after MODULE and a last WriteLn don't matter")
+@test("exercises: mark.py distinguishes Clock.mod and Clock.Mod, and ignores a module's name and a missing last WriteLn")
 def told_apart() -> None:
     wrong_one = answer("Clock").replace("DIV", "MOD", 1)
     status, lines = handed_in({"anna/Clock.mod": answer("Clock"), "anna/Clock.Mod": wrong_one}, "anna")
@@ -290,7 +290,7 @@ def told_apart() -> None:
         holds(it in listed, f"the page has no {it}")
 
 
-@test("exercises: for a byte order mark, UTF-16 or exhausted memory mark.py says what to do")
+@test("exercises: mark.py says what to do about a byte order mark, UTF-16 and exhausted memory")
 def explained() -> None:
     said = "Clock.mod   wrong: line 1, column 1: save it without a byte order mark"
     same(marked("Clock", "\ufeff" + answer("Clock")), (1, said))
@@ -317,7 +317,7 @@ def marking(room: str, words: list[str], given: Any = None, **more: str) -> tupl
 LOCALES: list[dict[str, str]] = [{"PYTHONIOENCODING": "utf-8:strict"}, {"LC_ALL": "C", "PYTHONCOERCECLOCALE": "0", "PYTHONUTF8": "0"}]
 
 
-@test("exercises: folders and files with names of any bytes are printed on one line each, in any locale")
+@test("exercises: mark.py prints each name of a folder or file on one line in any locale, whatever its bytes are")
 def any_names() -> None:
     with temporary() as room:
         for name in ("a", "n\udce4me", "two\nlines", "z"):
@@ -337,7 +337,7 @@ def any_names() -> None:
             same(lines[-2], b"a 1, n\xe4me 1, two\\nlines 1, z 1", "the last line")
 
 
-@test("exercises: a folder or a file that can't be read is reported, and the others are marked")
+@test("exercises: mark.py reports a folder or file that can't be read, and marks the others")
 def unreadable() -> None:
     with temporary() as room:
         # (another user than root may not enter the checkout, so the script and the program are copied)
@@ -358,7 +358,7 @@ def unreadable() -> None:
     same((status, said.splitlines()), (1, wanted))
 
 
-@test("exercises: if the output is closed or full, mark.py says so in one line and ends with status 4")
+@test("exercises: mark.py says in one line that its output is closed or full, and ends with status 4")
 def unprinted() -> None:
     with temporary() as room:
         write(os.path.join(room, "Clock.mod"), answer("Clock"))
@@ -383,7 +383,7 @@ runpy.run_path(sys.argv[0], run_name="__main__")
 """
 
 
-@test("exercises: a signal ends mark.py and the module that it runs")
+@test("exercises: a signal ends mark.py together with the module that it runs")
 def signalled() -> None:
     with temporary() as room:
         write(os.path.join(room, "Clock.mod"), answer("Clock"))
@@ -432,7 +432,7 @@ def working_in(folder: str) -> list[str]:
     return found
 
 
-@test("exercises: a signal that comes while mark.py starts a module also ends the module")
+@test("exercises: a signal also ends the module if it arrives while mark.py starts the module")
 def signalled_at_start() -> None:
     script = os.path.join(TOP, FOLDER, "mark.py")
     with temporary() as room:
@@ -448,7 +448,7 @@ def signalled_at_start() -> None:
             same((ended.returncode, ended.stderr, left), (-number, b"", []), f"after signal {number}, with survivors")
 
 
-@test("exercises: `--seconds` is refused with status 2 unless it is a positive number that isn't huge")
+@test("exercises: mark.py refuses `--seconds` with status 2 unless the value is positive and not huge")
 def seconds() -> None:
     with temporary() as room:
         write(os.path.join(room, "Clock.mod"), answer("Clock"))
@@ -480,14 +480,14 @@ def table() -> None:
         "the rest",
     )
     holds(out.startswith(b'"name","right","Clock",'), "each cell is in quotes")
-    # (a spreadsheet may take `;` for the end of a cell)
+    # (some spreadsheets end a cell at `;`)
     cells = [it for row in csv.reader(io.StringIO(out.decode(), newline=""), delimiter=";") for it in row]
     same(
         [it for it in cells if it.startswith(("=", "+", "-", "@"))], [], "cells that are formulas if `;` separates them"
     )
 
 
-@test("exercises: with `--inputs` the files of another folder are the exercises")
+@test("exercises: mark.py reads its exercises from another folder if `--inputs` is given")
 def own_inputs() -> None:
     by_table = "MODULE Leap; VAR y: INTEGER; BEGIN Read(y); IF (y = 2024) OR (y = 4) THEN Write(1) ELSE Write(0) END END Leap."
     with temporary() as room:
@@ -509,7 +509,7 @@ def own_inputs() -> None:
         same(marking(room, ["--inputs", "nosuch", "anna"]), (2, b"", b"nosuch: No such file or directory\n"), "no folder")
 
 
-@test("exercises: the limits and the ways a run can end that mark.py names match the program's")
+@test("exercises: mark.py mentions the program's limits and all ways in which a run can end")
 def spoken_of() -> None:
     script = text_of(FOLDER, "mark.py")
     named = {*re.findall(r'^    "(\w+)": "', script, re.M)}

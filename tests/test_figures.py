@@ -1,5 +1,5 @@
-"""Tests that the figures of docs/ROBUSTNESS.md agree with tools/figures.txt, which `make faults` and `make bench`
-write, or with the tables of tests."""
+"""Tests that each figure of docs/ROBUSTNESS.md agrees with tools/figures.txt, which `make faults` and `make bench`
+write, or with a table of a test."""
 from __future__ import annotations
 
 import functools
@@ -21,8 +21,8 @@ PAGE = "docs/ROBUSTNESS.md"
 
 
 def of_tables() -> Dict[str, str]:
-    """Returns the rows of the page whose figures come from tables of tests: the words of each row, and its figure. The
-    tests are imported here, because all tests must be loaded before."""
+    """Returns the rows of the page whose figures come from tables of tests: the figure for each row's words. Imports
+    the tests here, because all tests must be loaded before."""
     devices, nesting, stream = (importlib.import_module(it) for it in ("test_devices", "test_nesting", "test_stream"))
     given, written, kinds = len(first_conversation.INPUT), len(first_conversation.OUTPUT), len(nested_modules.REPEATED)
     heads = [*stream.REFUSED, *stream.TAKEN, *stream.LAST_HEADS, "one without an end"]
@@ -40,7 +40,7 @@ def of_tables() -> Dict[str, str]:
     }
 
 
-@test("figures: each figure of docs/ROBUSTNESS.md is in tools/figures.txt or a test's table, or marked (by hand)")
+@test("figures: each figure of docs/ROBUSTNESS.md is in tools/figures.txt or a test's table, or is marked (by hand)")
 def on_page() -> None:
     page, others = text_of(PAGE), of_tables()
     same(figures.not_on_page(page), [], "what the list has and no row of the page has: correct the page")
@@ -58,7 +58,7 @@ def once_in_both(page: str, listed: str) -> List[str]:
     return [it for it in found if [len(re.findall(rf"(?<!\d){it}(?!\d)", text)) for text in (page, listed)] == [1, 1]]
 
 
-@test("figures: a changed figure, on the page or in figures.txt, and a row that no tool counts are reported")
+@test("figures: a changed figure on the page or in figures.txt, and a row that no tool counts, are reported")
 def found_out() -> None:
     page, listed = text_of(PAGE), text_of(os.path.relpath(figures.LIST, TOP))
     others = of_tables()
@@ -77,7 +77,7 @@ def found_out() -> None:
     same(len(figures.not_in_list(changed, others)), 1, "a figure of a test's table")
 
 
-@test("figures: `make faults` updates a line only if all its cases ran, with the proved program")
+@test("figures: `make faults` updates a line of figures.txt only if all its cases ran with the proved program")
 def kept() -> None:
     faults: Any = importlib.import_module("faults")
     lines = {"memory: one": "1,200 runs; 5 ended", "memory: two": "300 runs; 1 ended", "texts: 20": "20 texts (of 4 kinds)", "keys": "200 changes"}

@@ -13,8 +13,8 @@ from hinted import Found, first_error
 
 
 class Slip(NamedTuple):
-    """A wrong module. Its fix replaces `old` by `new`, and its hint has to match the pattern `says` (`-` if there is no
-    hint)."""
+    """Stores a wrong module and its fix, which replaces `old` by `new`. The hint has to match the pattern `says` (`-`
+    if there is no hint)."""
 
     name: str
     old: str
@@ -23,7 +23,7 @@ class Slip(NamedTuple):
     text: str
 
 
-# The judged modules that get a wrong hint or none. Remove a name when a rule gets better; add none.
+# The judged modules that get a wrong hint or no hint. Remove a name when a rule gets better, and never add one.
 WRONG: list[str] = []
 NONE = ["a slip in the closing name"]
 
@@ -47,7 +47,7 @@ def cured(server: Server, it: Slip) -> Found:
     return found
 
 
-@test("hints: each mistake in slips.txt gets a hint that leads to its fix, and the fix leaves no error there or before")
+@test("hints: each mistake in slips.txt gets a hint that leads to its fix, and the fix removes the first error")
 def lead_to_cures() -> None:
     need_program()
     count = 0
@@ -59,7 +59,7 @@ def lead_to_cures() -> None:
     holds(count >= 25, f"{count} of them begin with `expected END`")
 
 
-@test("hints: of the modules in judged_slips.txt, all but the listed ones get a hint that leads to the fix")
+@test("hints: each module in judged_slips.txt, except the listed ones, gets a hint that leads to its fix")
 def judged() -> None:
     need_program()
     right: list[str] = []
@@ -72,7 +72,7 @@ def judged() -> None:
     same((len(right), wrong, none), (60 - len(WRONG) - len(NONE), WRONG, NONE), "right hints, wrong ones and none")
 
 
-@test("hints: hints have no unfilled placeholders at any offset of any text, and the end of a text has its own hint")
+@test("hints: a hint contains no unfilled placeholder at any offset of a text, and the text's end has its own hint")
 def any_text() -> None:
     for text in ("", "(*", "*)", "(* (* *)", "MODULE", "\u00e4", "\r\r\n(*)", "x *) y"):
         hints = ob0_hints.Hints(text.encode(), ob0_scripts.line_starts(text.encode()))

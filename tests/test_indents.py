@@ -1,5 +1,5 @@
-"""Compares the indentation of editors/, which starts at the heading above a line, with one computed from the whole
-text. Also bounds how much code the editors evaluate for it, by counts instead of times."""
+"""Compares the indentation by the files of editors/ with one computed from the whole text. The files start at the
+heading above a line. Also bounds how much code the editors run for it, by counts instead of times."""
 from __future__ import annotations
 
 import json
@@ -47,8 +47,7 @@ def files_in(room: str, made: list[str]) -> str:
 
 
 def compared(room: str, made: list[str], are_comments_left: bool) -> None:
-    """Requires each file, which an editor has indented, to equal its text as the reference implementation indents
-    it."""
+    """Compares each file that an editor has indented with its text as the reference implementation indents it."""
     for at, text in enumerate(made):
         with open(os.path.join(room, f"{at}.ob0"), encoding="utf-8", newline="") as file:
             found = file.read()
@@ -72,19 +71,19 @@ def by_vim(editor: str, words: list[str]) -> None:
         compared(room, made, False)
 
 
-@test("indentation: Vim indents lines as a walk over the whole text would, all at once and line by line")
+@test("indentation: Vim indents texts as the reference implementation does, all lines at once and line by line")
 def in_vim() -> None:
     want("Vim")
     by_vim("vim", ["vim.nox", "-n", "-i", "NONE", "-u", "RC"])
 
 
-@test("indentation: Neovim indents lines as a walk over the whole text would, all at once and line by line")
+@test("indentation: Neovim indents texts as the reference implementation does, all lines at once and line by line")
 def in_neovim() -> None:
     want("Neovim")
     by_vim("neovim", ["nvim", "-n", "-i", "NONE", "-u", "RC"])
 
 
-@test("indentation: Emacs indents lines as a walk over the whole text would, all at once and line by line")
+@test("indentation: Emacs indents texts as the reference implementation does, all lines at once and line by line")
 def in_emacs() -> None:
     want("Emacs")
     made = texts()
@@ -137,24 +136,24 @@ def costs_by_vim(editor: str, words: list[str]) -> None:
         script = os.path.join(TOP, "tests", "editors", "indent_costs.vim")
         status, said = run_in_terminal([*words, "-n", "-i", "NONE", "-u", rc, "-S", script], own, room)
         same(status, 0, said[-500:])
-        # (after the functions' lines come tables of all functions)
+        # (tables of all functions follow the functions' lines)
         counted = [[text_of(f"{it}.{what}").partition("FUNCTIONS SORTED")[0] for what in ("line", "all")] for it in files]
         bounded([[sum(map(int, re.findall(r"^ *(\d+) ", it, re.M))) for it in pair] for pair in counted])
 
 
-@test("indentation: in Vim one line costs as much in a long text as in a short one; all lines cost in proportion")
+@test("indentation: in Vim one line costs no more to indent in a longer text, and all lines cost in proportion")
 def costs_in_vim() -> None:
     want("Vim")
     costs_by_vim("vim", ["vim.nox"])
 
 
-@test("indentation: in Neovim one line costs as much in a long text as in a short one; all lines cost in proportion")
+@test("indentation: in Neovim one line costs no more to indent in a longer text, and all lines cost in proportion")
 def costs_in_neovim() -> None:
     want("Neovim")
     costs_by_vim("neovim", ["nvim"])
 
 
-@test("indentation: in Emacs one line costs as much in a long text as in a short one; all lines cost in proportion")
+@test("indentation: in Emacs one line costs no more to indent in a longer text, and all lines cost in proportion")
 def costs_in_emacs() -> None:
     want("Emacs")
     with temporary() as room:

@@ -1,4 +1,4 @@
-"""Tests which crates `make check` proves again and which it skips, with tools/build.py on a made-up repository."""
+"""Tests which crates `make check` proves again and which it skips. tools/build.py works on a made-up repository."""
 from __future__ import annotations
 
 import contextlib
@@ -14,7 +14,7 @@ import common
 from harness import holds, same, test
 
 CRATES: Dict[str, List[str]] = {"low": [], "high": ["low"], "other": []}
-# The same with a crate between two others, and one above all.
+# The same with a chain of three crates: `top` depends on `high`, and `high` depends on `low`.
 CHAIN: Dict[str, List[str]] = {"low": [], "high": ["low"], "top": ["high", "low"], "other": []}
 
 
@@ -61,7 +61,7 @@ def current() -> List[str]:
 
 
 def plan() -> build.Plan:
-    """Returns the plan with which `make check` begins."""
+    """Returns the plan that `make check` makes at its start."""
     found = build.Plan(True)
     found.ready([])
     return found
@@ -83,7 +83,7 @@ def repository() -> Iterator[str]:
             yield top
 
 
-@test("kept: a proved crate is skipped until its sources, a crate that it depends on or its library changes")
+@test("kept: `make check` skips a proved crate until the crate's sources, dependencies or library change")
 def left_as_it_is() -> None:
     with repository() as top:
         same(current(), [], "before anything was proved")
@@ -103,7 +103,7 @@ def left_as_it_is() -> None:
         same(current(), [], "after a change of what programs may use")
 
 
-@test("kept: if a source changes while its crate is proved, the crate doesn't count as proved")
+@test("kept: a crate doesn't count as proved if one of its sources changed during its proof")
 def written_meanwhile() -> None:
     with repository():
         before = kept()
@@ -113,7 +113,7 @@ def written_meanwhile() -> None:
         same(current(), ["other"], "what rests on no source that was written")
 
 
-@test("kept: if only bodies changed, dependent crates aren't proved again; their libraries are rebuilt when needed")
+@test("kept: if only bodies changed, dependent crates aren't proved again, and their libraries are rebuilt when needed")
 def bodies_alone() -> None:
     with mock.patch.dict(CRATES, CHAIN), repository():
         keep_all(kept())
@@ -137,7 +137,7 @@ def bodies_alone() -> None:
         same(second.is_done, True, "and nothing else is")
 
 
-@test("kept: a crate is proved again if a contract that its proofs read changed, or if that is unknown")
+@test("kept: a crate is proved again if a contract that its proofs read has changed, or if what they read is unknown")
 def contracts_too() -> None:
     with repository():
         keep_all(kept())
@@ -157,7 +157,7 @@ def contracts_too() -> None:
             holds(not plan().kept["high"].has_read(build.Sums(CRATES).of_read("high")), what)
 
 
-@test("kept: a crate is skipped if the only changed definitions are ones that its proofs don't read")
+@test("kept: a crate is skipped if only definitions that its proofs don't read have changed")
 def definitions_of_others() -> None:
     with repository():
         keep_all(kept())

@@ -1,4 +1,4 @@
-"""Tests `serve` on the largest accepted inputs, and `check` on those that are texts: the results are correct, and
+"""Tests `serve` on the largest accepted inputs, and `check` on the texts among them: the results are correct, and
 nothing is refused."""
 from __future__ import annotations
 
@@ -9,7 +9,7 @@ from harness import holds, lines_of, on_file, same, serve, test
 
 
 def make(name: str, size: int, messages: Callable[[int], largest_inputs.Talk]) -> None:
-    @test(f"large: {name}, {size:,}")
+    @test(f"large: `serve` sends the expected messages for {name}, {size:,} in all")
     def answered() -> None:
         given, wanted = largest_inputs.conversation(messages, size)
         found = serve(given)
@@ -21,7 +21,7 @@ for key, (full, of_size) in largest_inputs.CASES.items():
     make(key, full, of_size)
 
 
-@test("large: `check` reports the expected errors for each of the largest texts")
+@test("large: `check` prints the expected errors of each of the largest texts")
 def checked() -> None:
     for name, (size, text_of, wanted) in largest_inputs.TEXTS.items():
         text, diagnostics = text_of(size), wanted(size)

@@ -1,5 +1,5 @@
-"""Tests which error the server answers to a message. It checks JSON, shape, lifecycle, method and params in this order.
-Also tests the program's command line and help."""
+"""Tests which error answers an invalid message: the server checks JSON, shape, lifecycle, method and params in this
+order. Also tests the program's command line and help."""
 from __future__ import annotations
 
 import os
@@ -19,70 +19,70 @@ NOT_JSON = error(None, -32700, "not JSON")
 NO_MESSAGE = error(None, -32600, "not a message")
 MODULE = "MODULE M; END M."
 
-# for each name the messages to the server, its messages, and the status
+# for each name: the messages to the server, the server's messages, and the exit status
 TALKS: Dict[str, Tuple[List[Content], List[str], int]] = {
-    "a request before initialize": ([HOVER], [error(5, -32002, "not initialized")], 1),
-    "an unknown request before initialize": ([request(5, "x")], [error(5, -32002, "not initialized")], 1),
-    "shutdown before initialize": ([SHUTDOWN], [error(2, -32002, "not initialized")], 1),
-    "a notification before initialize is dropped": (
+    "a request before initialize is refused with `not initialized`": ([HOVER], [error(5, -32002, "not initialized")], 1),
+    "an unknown request before initialize is refused with `not initialized`": ([request(5, "x")], [error(5, -32002, "not initialized")], 1),
+    "shutdown before initialize is refused with `not initialized`": ([SHUTDOWN], [error(2, -32002, "not initialized")], 1),
+    "a notification before initialize is ignored": (
         [did_open(MODULE), initialize(), did_close()],
         [FIRST],
         1,
     ),
-    "initialize twice": ([initialize(), initialize(2)], [FIRST, error(2, -32600, "already initialized")], 1),
-    "a request after shutdown": (
+    "a second initialize is refused with `already initialized`": ([initialize(), initialize(2)], [FIRST, error(2, -32600, "already initialized")], 1),
+    "a request after shutdown is refused with `shut down`": (
         [initialize(), SHUTDOWN, HOVER, EXIT],
         [FIRST, SHUT, error(5, -32600, "shut down")],
         0,
     ),
-    "initialize after shutdown": (
+    "initialize after shutdown is refused with `shut down`": (
         [initialize(), SHUTDOWN, initialize(3), EXIT],
         [FIRST, SHUT, error(3, -32600, "shut down")],
         0,
     ),
-    "shutdown twice": ([initialize(), SHUTDOWN, SHUTDOWN], [FIRST, SHUT, error(2, -32600, "shut down")], 1),
-    "a notification after shutdown is dropped": ([initialize(), SHUTDOWN, did_open("$"), EXIT], [FIRST, SHUT], 0),
-    "exit without shutdown": ([initialize(), EXIT], [FIRST], 1),
-    "exit before initialize": ([EXIT, initialize()], [], 1),
-    "nothing is answered after exit": ([initialize(), SHUTDOWN, EXIT, HOVER, "["], [FIRST, SHUT], 0),
-    "exit as a request": ([initialize(), request("a", "exit")], [FIRST, error("a", -32601, "unknown method")], 1),
-    "shutdown as a notification is ignored": (
+    "a second shutdown is refused with `shut down`": ([initialize(), SHUTDOWN, SHUTDOWN], [FIRST, SHUT, error(2, -32600, "shut down")], 1),
+    "a notification after shutdown is ignored": ([initialize(), SHUTDOWN, did_open("$"), EXIT], [FIRST, SHUT], 0),
+    "exit without shutdown ends the server with status 1": ([initialize(), EXIT], [FIRST], 1),
+    "exit before initialize ends the server with status 1": ([EXIT, initialize()], [], 1),
+    "no message after exit is answered": ([initialize(), SHUTDOWN, EXIT, HOVER, "["], [FIRST, SHUT], 0),
+    "exit sent as a request is refused with `unknown method`": ([initialize(), request("a", "exit")], [FIRST, error("a", -32601, "unknown method")], 1),
+    "shutdown sent as a notification is ignored": (
         [initialize(), notice("shutdown"), SHUTDOWN, EXIT],
         [FIRST, SHUT],
         0,
     ),
-    "initialize as a notification is ignored": ([notice("initialize", {}), initialize()], [FIRST], 1),
-    "didOpen as a request": (
+    "initialize sent as a notification is ignored": ([notice("initialize", {}), initialize()], [FIRST], 1),
+    "didOpen sent as a request is refused with `unknown method`": (
         [initialize(), {**did_open(MODULE), "id": 7}],
         [FIRST, error(7, -32601, "unknown method")],
         1,
     ),
-    "unknown requests: UnknownMethod": (
+    "a request with an unknown method is refused with `unknown method`": (
         [initialize(), request(-3, "$/x"), request("é", "textDocument/completion", {})],
         [FIRST, error(-3, -32601, "unknown method"), error("é", -32601, "unknown method")],
         1,
     ),
-    "unknown notifications are ignored": (
+    "a notification with an unknown method is ignored": (
         [initialize(), notice("$/cancelRequest", {"id": 1}), notice("initialized", {}), notice("x")],
         [FIRST],
         1,
     ),
-    "responses are ignored": (
+    "a response from the client is ignored": (
         ['{"id":7,"result":null}', '{"error":{},"id":1.5}', initialize()],
         [FIRST],
         1,
     ),
-    "params of initialize that are no object have no effect: BadParams": (
+    "initialize is refused with `bad params` if its params are no object, and may be sent again": (
         [request(1, "initialize", []), request(1, "initialize"), initialize()],
         [error(1, -32602, "bad params"), error(1, -32602, "bad params"), FIRST],
         1,
     ),
-    "members of initialize of another shape count as absent": (
+    "members of initialize's params that have an unexpected type count as absent": (
         [request(1, "initialize", {"capabilities": 7, "general": {"positionEncodings": 1}})],
         [FIRST],
         1,
     ),
-    "ids": (
+    "an answer repeats the request's id, which may be a string or an integer up to the limits": (
         [
             initialize(),
             request(-9223372036854775808, "x"),
@@ -97,7 +97,7 @@ TALKS: Dict[str, Tuple[List[Content], List[str], int]] = {
         ],
         1,
     ),
-    "no messages: NotAMessage": (
+    "JSON that isn't a message is answered with `not a message`": (
         [
             "[]",
             "7",
@@ -119,24 +119,24 @@ TALKS: Dict[str, Tuple[List[Content], List[str], int]] = {
         [NO_MESSAGE] * 16,
         1,
     ),
-    "no JSON": (["", " ", "{", "[1,]", "nul", "{'a':1}", b"\xff", b'"\xc3"', "[]x"], [NOT_JSON] * 9, 1),
-    "a text that isn't JSON is reported even after shutdown": (
+    "a content that isn't JSON is answered with `not JSON`": (["", " ", "{", "[1,]", "nul", "{'a':1}", b"\xff", b'"\xc3"', "[]x"], [NOT_JSON] * 9, 1),
+    "a content that isn't JSON is answered with `not JSON` even after shutdown": (
         [initialize(), SHUTDOWN, "", "[]"],
         [FIRST, SHUT, NOT_JSON, NO_MESSAGE],
         1,
     ),
-    "127 arrays in one another are JSON, 128 are not": (
+    "127 nested arrays count as JSON, and 128 nested arrays don't": (
         ["[" * 127 + "]" * 127, "[" * 128 + "]" * 128],
         [NO_MESSAGE, NOT_JSON],
         1,
     ),
-    "the member jsonrpc is ignored": (
+    "the member jsonrpc of a message is ignored": (
         ['{"id":1,"method":"initialize","params":{}}', '{"id":2,"jsonrpc":"1","method":"shutdown"}'],
         [FIRST, SHUT],
         1,
     ),
-    "white space round JSON": ([" {\n\t\"id\" : 1, \"method\" : \"initialize\", \"params\" : { } }\r\n"], [FIRST], 1),
-    "a text with escapes": (
+    "white space around the tokens of JSON is accepted": ([" {\n\t\"id\" : 1, \"method\" : \"initialize\", \"params\" : { } }\r\n"], [FIRST], 1),
+    "a uri with escaped characters is published with the same characters": (
         [initialize(), did_open("MODULE M; END M.", uri="file:///\"\\\u0001\u007f😀")],
         [FIRST, published([], uri="file:///\"\\\u0001\u007f😀")],
         1,
@@ -156,7 +156,7 @@ for key, given in TALKS.items():
     make(key, *given)
 
 
-# command lines that are refused, each with what clap says of it
+# command lines that are refused, each with the message of the argument parser clap
 REFUSED: Dict[str, str] = {
     "": """error: 'ob0' requires a subcommand but one was not provided
   [subcommands: serve, check, run, rename, help]
@@ -192,7 +192,7 @@ Usage: ob0 check <FILE>
 }
 
 
-@test("program: a bad command line is refused with status 2 and the reason on standard error")
+@test("program: a bad command line is refused with status 2, and standard error gives the reason")
 def refused_lines() -> None:
     for line, said in REFUSED.items():
         found = run(line.split())
@@ -200,7 +200,7 @@ def refused_lines() -> None:
         same((found.out, found.err.decode(), found.status), (b"", wanted, 2), f"ob0 {line}")
 
 
-# how the help of a command begins: what it does, and how it is used
+# the help of each command begins with these: its purpose and its usage
 HELP_HEADS = {
     "": ("A language server for Oberon-0", "<COMMAND>"),
     "serve": ("Serve one conversation with an editor over standard input and output", "serve [OPTIONS]"),
@@ -210,7 +210,7 @@ HELP_HEADS = {
 }
 
 
-@test("program: help goes to standard output with status 0, and begins with the command's purpose and usage")
+@test("program: help is printed to standard output with status 0, and begins with the command's purpose and usage")
 def helped() -> None:
     for command, (about, usage) in HELP_HEADS.items():
         words = command.split()
@@ -221,13 +221,13 @@ def helped() -> None:
             same(run([*words, flag]).out, found.out, f"ob0 {command} {flag}")
 
 
-# where help says that the pages are: below each prefix that README names
+# where help says that the pages are installed: below each prefix that README mentions
 PAGES = [
     "docs/MESSAGES.md",
     "in share/doc/ob0 below the folder that ob0 was installed in:",
     "/usr with the Debian package, otherwise /usr/local, ~/.local or another PREFIX.",
 ]
-# for each command the statuses in its help, and texts in it
+# for each command: the statuses in its help, and texts that its help contains
 HELP = {
     "": ("012345", ["serve ", "check ", "run ", "rename ", "help COMMAND"]),
     "serve": ("012345", ["--stdio", "--clientProcessId <N>", "UTF-16 units"]),
@@ -237,7 +237,7 @@ HELP = {
 }
 
 
-@test("program: each command's help explains its arguments, output and statuses, with options in 80 columns")
+@test("program: each command's help explains its arguments, output and statuses, and its options fit into 80 columns")
 def explained() -> None:
     for command, (statuses, parts) in HELP.items():
         said = run([*command.split(), "--help"]).out.decode()
@@ -248,7 +248,7 @@ def explained() -> None:
         same(wide, [], f"lines of {command} that are too wide")
 
 
-@test("program: `serve` accepts and ignores the options that clients add, any number of times")
+@test("program: `serve` ignores the options that clients add, however often they are given")
 def options_of_serve() -> None:
     given = frame(initialize()) + frame(SHUTDOWN) + frame(EXIT)
     wanted = run(["serve"], given).out
@@ -261,7 +261,7 @@ def options_of_serve() -> None:
     same(run(["run", "--stdio", "x"]).status, 2, "the status of another command with it")
 
 
-@test("program: at a terminal `run` says on standard error how to end the input, if the module is valid")
+@test("program: `run` at a terminal says on standard error how to end the input, unless the module has an error")
 def prompted() -> None:
     def at_terminal(text: str, command: str = "run", *more: str) -> tuple[bytes, bytes, int]:
         with tempfile.TemporaryDirectory() as room:
@@ -284,7 +284,7 @@ def prompted() -> None:
         holds(said.decode().strip() in page, "a page that doesn't have this line")
 
 
-@test("program: at a terminal `serve` says on standard error that an editor starts it")
+@test("program: `serve` at a terminal says on standard error that an editor starts it")
 def served_at_terminal() -> None:
     same(run(["serve"]).err, b"", "standard error if standard input is no terminal")
     keys, terminal = os.openpty()
@@ -299,9 +299,9 @@ def served_at_terminal() -> None:
         holds(said in page, "a page that doesn't have this line")
 
 
-@test("program: `--version` prints the version that CHANGELOG.md and the manual page have")
+@test("program: `--version` prints the same version as CHANGELOG.md and the manual page")
 def version() -> None:
-    # (if no version was released yet, it is the first one)
+    # (before the first release the version is 0.1.0)
     released = re.search(r"^## (\d+\.\d+\.\d+)", text_of("CHANGELOG.md"), re.M)
     number = released.group(1) if released else "0.1.0"
     for flag in ("--version", "-V"):
@@ -311,7 +311,7 @@ def version() -> None:
     same(heading and heading.group(1), number, "the version of the manual page")
 
 
-@test("program: a command line with a word that is not UTF-8, even the program's name, is refused")
+@test("program: a command line is refused if one of its words, even the program's name, isn't UTF-8")
 def no_text() -> None:
     for words in ([b"ob0", b"check", b"\xff"], [b"ob0", b"\xc3"], [b"ob0", b"help", b"a\xed\xa0\x80"], [b"\xff", b"--help"], [b"o\xfe", b"serve"]):
         how: dict[str, Any] = {"executable": harness.BINARY, "stdin": subprocess.DEVNULL, "capture_output": True, "timeout": harness.SECONDS}
@@ -319,7 +319,7 @@ def no_text() -> None:
         same((ran.stdout, ran.stderr, ran.returncode), (b"", b"error: a word of the command line isn't UTF-8\n", 2), repr(words))
 
 
-@test("program: if help or the version can't be written, the program ends with `fault: Write` and status 4")
+@test("program: `ob0` ends with `fault: Write` and status 4 if help or the version can't be written")
 def not_written() -> None:
     for words in (["--help"], ["help"], ["help", "run"], ["rename", "-h"], ["--version"]):
         with open("/dev/full", "wb") as device:

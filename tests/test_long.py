@@ -6,11 +6,11 @@ import several_documents
 from harness import test
 
 
-@test("long: over 1,500 changes and questions the diagnostics equal a new `check`'s, and memory doesn't grow")
+@test("long: the diagnostics equal a new `check`'s over 1,500 changes and questions, and memory doesn't grow")
 def talk() -> None:
     long_conversation.converse(1500, seed=1)
 
 
-@test("long: in 800 messages about several documents each answer is the same as a new server's")
+@test("long: each answer in 800 messages about several documents equals a new server's answer")
 def several() -> None:
     several_documents.converse(800, seed=1)

@@ -79,7 +79,7 @@ def module_of(title: str) -> str:
 
 STATEMENTS, DECLARATIONS = module_of("Statements"), module_of("Declarations")
 MODULES = {"Statements": STATEMENTS, "Declarations": DECLARATIONS, "Whole texts": None}
-# texts that are too long for a row
+# texts that are too long to be shown in a row
 FAR = {"TooLong": "x".ljust(LONGEST + 1), "TooDeep": STATEMENTS.replace("...", DEEP)}
 
 
@@ -125,7 +125,7 @@ def first(snippet: str, module: str | None) -> tuple[str, str, str]:
 
 
 def mistakes(title: str, module: str | None) -> None:
-    """Compares each row of a section with the first error that `check` reports, or with the fault that ends a run."""
+    """Compares each row of a section with the first error that `check` reports, or with the fault that ends the run."""
     codes = codes_of_messages()
     for snippets, message, places in slips(title):
         same(len(places), 2 if message == "check" else len(snippets), f"places of {snippets}")
@@ -142,7 +142,7 @@ def mistakes(title: str, module: str | None) -> None:
             same((code, said, shown), (codes[message], message, at), f"the report about {snippet}")
 
 
-@test("messages: beginners' mistakes in statements, declarations and whole texts are reported as docs/MESSAGES.md says")
+@test("messages: beginners' mistakes in statements, declarations and texts are reported as docs/MESSAGES.md states")
 def beginners() -> None:
     for title, module in MODULES.items():
         mistakes(title, module)
@@ -152,7 +152,7 @@ def beginners() -> None:
     same(first("x := y\u00a0+ 1", STATEMENTS), ("BadChar", "bad character", "\u00a0+ 1"), "a no-break space")
 
 
-@test("messages: the table of errors has each code and message, and the page shows a mistake for each message")
+@test("messages: the table of errors lists each code and message, and the page shows a mistake for each message")
 def errors_listed() -> None:
     codes = codes_of_messages()
     same({code: it for it, code in codes.items() if code != "Syntax"}, harness.MESSAGES, "the codes")
@@ -171,7 +171,7 @@ def far_over() -> None:
         same((found, codes.get(message)), (code, code), code)
 
 
-@test("messages: docs/MESSAGES.md lists each way in which a run can end, and its example of each does end so")
+@test("messages: docs/MESSAGES.md lists each way in which a run can end, with an example that ends in that way")
 def run_ends() -> None:
     names, (*listed, endless) = [], rows("Ends of a run")
     for end, _, _, body, numbers in listed:
@@ -188,14 +188,14 @@ def run_ends() -> None:
     same(len(most), 2, "the bounds of a run")
     for path in ("README.md", "docs/MESSAGES.md", "docs/TUTORIAL.md"):
         same([it for it in most if not re.search(rf"(?<![-\w,]){it}(?![\w,])", text_of(path))], [], f"bounds that {path} doesn't name")
-    # (a run that doesn't end, and what the page says to do)
+    # (a run that doesn't end, and the page's advice about it)
     flags, text = match_of(r"`ob0 run (--turns \d) FILE`", endless[2])[1], filled(STATEMENTS, code_in(endless[3]))
     ends(on_file("run", text, *flags.split()), " 0 1 2" * 5, 1, "fault: TurnBound\n")
     for name, page in (("ob0 help run", said), ("the manual page", text_of("share", "ob0.1").replace("\\-", "-"))):
         holds(flags in page, f"{name} has no {flags}")
 
 
-@test("messages: for each hint the page has a row that gets it, and each row with `expected END` gets a hint")
+@test("messages: the page has a row for each hint, and each row with `expected END` gets a hint")
 def cases_and_rows() -> None:
     need_program()
     given: list[ob0_hints.Rule] = []
@@ -223,7 +223,7 @@ def offered(text: str, at: Message) -> list[str]:
 
 
 def refused_inlinings() -> None:
-    """Tests that inlinings aren't offered for reasons that a rename can't have."""
+    """Tests inlinings that aren't offered for reasons that a rename can't have."""
     deep = "MODULE M;\nCONST c = -1;\nBEGIN Write(" + "(" * 100 + "c" + ")" * 100 + ") END M.\n"
     same(offered(deep, place(2, 112)), [], "an inlining that nests too deep")
     shadowed = "MODULE M;\nCONST c = TRUE;\nPROCEDURE P;\nVAR TRUE: BOOLEAN;\nBEGIN TRUE := c\nEND P;\nEND M.\n"
@@ -232,7 +232,7 @@ def refused_inlinings() -> None:
     same(offered(inside, place(2, 12)), TITLES[:1], "an inlining of a declaration with a comment")
 
 
-@test("messages: docs/MESSAGES.md lists each refusal of a rename or an inlining, and its examples are refused so")
+@test("messages: docs/MESSAGES.md lists each refusal of a rename or an inlining, with examples that are refused for it")
 def refusals() -> None:
     title = "Refusals of a rename or an inlining"
     module, listed = module_of(title), rows(title)
@@ -271,7 +271,7 @@ def run_into(device: IO[bytes], words: list[str]) -> harness.Ended:
     return harness.Ended(b"", ran.stderr, ran.returncode)
 
 
-@test("messages: each fault of the program is on the page, with its status")
+@test("messages: docs/MESSAGES.md lists each fault of the program with its status")
 def faults() -> None:
     listed = {code_in(name): int(status) for name, status, _ in rows("Faults of the program")}
     # (a read that fails, one of 2^40 reads and a machine without memory are for the tests of devices)
@@ -306,7 +306,7 @@ def conversations() -> Iterator[tuple[str, list[Content]]]:
     yield "not a message", [initialize(), "[]"]
 
 
-@test("messages: each error of the protocol is on the page, with its code")
+@test("messages: docs/MESSAGES.md lists each error of the protocol with its code")
 def protocol() -> None:
     listed = {code_in(message): int(code) for message, code, _ in rows("Messages in an editor")}
     talks = dict(conversations())
@@ -320,7 +320,8 @@ def protocol() -> None:
 @test("messages: the manual page made from docs/MESSAGES.md has an entry for each row of its tables")
 def made_manual() -> None:
     made = package.messages_page().decode()
-    # (each table has a line of heads and one of dashes; a row of several snippets or codes is as many rows)
+    # (each table has a line of heads and a line of dashes; a row with several snippets or codes becomes several
+    # entries)
     lines = [it for it in PAGE.splitlines() if it.startswith("|")]
     more = [len(snippets) - 1 for title in MODULES for snippets, _, _ in slips(title)]
     more += [len(CODE.findall(codes)) - 1 for _, codes, _ in rows("Errors")]
@@ -335,11 +336,11 @@ def made_manual() -> None:
             holds(f"\n.TP\n{manual_page.inline(f'`{snippet}`')}\n{manual_page.inline(said)}" in made, f"no row {snippet}")
 
 
-# the files that put the answers of an editor's server into words
+# the files that explain refused answers to an editor's user
 IN_WORDS = ["neovim/lua/ob0.lua", "vscode/extension.js", "emacs/ob0-mode.el", "vim/ale_linters/ob0/ob0.vim"]
 
 
-@test("messages: the page words each refusal, and each editor file that shows refusals has the same words")
+@test("messages: each editor file that explains refusals uses the words of docs/MESSAGES.md")
 def in_words() -> None:
     told = {code_in(reason).split()[0]: words for reason, words, _, _ in rows("Refusals of a rename or an inlining")}
     told.update({code_in(it): words for it, _, words in rows("Messages in an editor") if it == "`ill-typed`"})
@@ -348,7 +349,7 @@ def in_words() -> None:
         text = text_of("editors", path)
         for answer, words in told.items():
             holds(f'"{words}"' in text, f"editors/{path} doesn't say {words!r}")
-        # (with `ob0: ` before them they fit into a terminal's line, or an editor would wait for a key)
+        # (with `ob0: ` before them the words fit into a terminal's line; otherwise an editor would wait for a key)
         holds(len(words.replace("NAME", "total").replace("LINE", "100")) <= 75, f"the words of {answer} are too long")
 
 

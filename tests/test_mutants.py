@@ -29,7 +29,7 @@ from checks import Said
 from harness import TOP, Failed, awaited, holds, is_running, same, test, text_of, want
 from homes import copy, write
 
-# If it is set, no row may be stale.
+# If this is True, no line of mutants.txt may be stale.
 ALL_ARE_TRIED = False
 MUTANT = "units_are_characters"
 GOAL = "note: src/passes.rt:120:1: it is not proved that what the function ensures holds when it returns (`returns-in-Utf16`)\n"
@@ -65,7 +65,7 @@ def refused() -> None:
     same(judged(REFUSED, first_line="# Wrong: refused by the one goal of `character_width`.\n"), mutants.REFUSED, "the one goal of several clauses")
 
 
-@test("mutants: a failed answer to a goal of the clause counts as a refusal, unless it cites a name that is missing")
+@test("mutants: an error in an answer to the clause's goal counts as a refusal, unless the answer cites a missing name")
 def refused_by_answer() -> None:
     error = "./proofs/passes/character_width/Answers.antt:9:3: error: `returns-in-Utf16`: "
     end = "fn ob0_text::passes::character_width: not proved\nonly=1 proved=0\n"
@@ -82,7 +82,7 @@ GONE = """./proofs/{at}/Answers.antt:25:23: error: `{goal}`: `goal.{goal}`: modu
 """
 
 
-@test("mutants: a missing name is recognized even if the prover's message about it spans several lines")
+@test("mutants: a missing name is recognized even if the prover's message about the name spans several lines")
 def gone_in_later_line() -> None:
     end = "fn ob0_text::passes::character_width: not proved\nonly=1 proved=0\n"
     said = GONE.format(at="passes/character_width", goal="returns-in-Utf16", crate="ob0_text") + end
@@ -93,7 +93,7 @@ def gone_in_later_line() -> None:
     same(checks.messages_of("a\n  b\nc\n\n d\n"), ["a b", "c", "", " d", ""], "messages")
 
 
-@test("mutants: the proof of methods that call each other is found in their type's folder")
+@test("mutants: an error in the proof of functions that call each other or themselves is found in the right folder")
 def proof_of_cycle() -> None:
     errors = [f"./proofs/{at}/+blocks/Answers.antt:9:3: error: `block-returns`: a type" for at in ("low/Visit", "low", "other/Visit")]
     said = Said("\n".join(errors), 1)
@@ -107,7 +107,7 @@ def proof_of_cycle() -> None:
     same(said.proof_errors("ob0_run_lowering::programs::count", "programs::count"), errors[:1], "of a function that calls itself")
 
 
-@test("mutants: a mutant that is still proved, doesn't compile or gets no verdict doesn't count as refused")
+@test("mutants: a mutant doesn't count as refused if it is still proved, doesn't compile or gets no verdict")
 def not_refused() -> None:
     proved = "fn ob0_text::passes::character_width: proved\nonly=1 proved=1\n"
     found = judged(proved, 0), judged(proved, 0, alone=False)
@@ -127,7 +127,7 @@ def not_refused() -> None:
     same(judged(uncovered), mutants.NOT_JUDGED, "a body that the checker doesn't cover")
 
 
-@test("mutants: a refusal by another clause or function, a callee's `requires` or missing names counts as elsewhere")
+@test("mutants: another clause or function, a callee's `requires` or missing names don't count as the clause's refusal")
 def elsewhere() -> None:
     for goal in ("returns-clause-ok", "loop-c-preserved", "count-requires-clause-few", "count-requires-returns"):
         same(judged(REFUSED.replace("returns-in-Utf16", goal)), mutants.ELSEWHERE, goal)
@@ -136,7 +136,7 @@ def elsewhere() -> None:
     same(judged(REFUSED.replace("passes::character_width", "passes::other")), mutants.ELSEWHERE, "another function")
 
 
-@test("mutants: a first line without a clause is no claim; a claim's function is matched by whole names of its path")
+@test("mutants: a first line without a clause makes no claim, and a claim's function is matched by whole names")
 def claims() -> None:
     width = next(it for it in reading.Source("ob0_text").functions if it.path == "passes::character_width")
     same(edits.claim_of("# Wrong: refused.\n"), None, "no clause")
@@ -149,13 +149,13 @@ def claims() -> None:
     same({it: edits.clause_of(it) for it in words}, words, "the words for goals")
 
 
-@test("mutants: a trait's method is checked under the checker's name for it, which is also its proof's folder")
+@test("mutants: a trait's method is checked under the checker's own name for it, which also names its proof's folder")
 def asked_of_trait() -> None:
     found = 0
     for crate in ("ob0_text", "ob0_rpc", "ob0_session_answers"):
         proofs, source = os.path.join(TOP, "crates", crate, "proofs"), reading.Source(crate)
         for it in source.functions:
-            # (a type without a name, as a slice, has one of the checker's own)
+            # (the checker makes up a name for a type without a name, such as a slice)
             if it.trait and it.trait != it.owner and it.owner in source.types:
                 folders = [at for at, _, _ in os.walk(os.path.join(proofs, *it.module)) if os.path.basename(at) == it.name]
                 named = [os.path.relpath(at, proofs).replace(os.sep, "::") for at in folders]
@@ -167,7 +167,7 @@ def asked_of_trait() -> None:
     same([it.checked_as for it in turned or ()], ["diagnostics::PublishDiagnosticsRequestDocumentRequest::answer"], "of a type with a lifetime")
 
 
-@test("mutants: a method is checked and named under its type's module, even if another file implements it")
+@test("mutants: a method is checked under the module of its type, even if another file implements the method")
 def asked_of_type() -> None:
     found = [it for it in reading.Source("ob0_run_lowering").functions if it.name in ("locate_var_argument", "number_or_zero")]
     same([it.file for it in found], ["src/statement_operands.rt"] * 2, "their files")
@@ -212,7 +212,7 @@ EDIT = "# The number is unchanged: refused by `more` of `next`.\nfile: src/lib.r
 
 @contextlib.contextmanager
 def small_crate(**changed: str) -> Iterator[str]:
-    """Lets a temporary folder with one made-up crate stand in for the repository. Yields the folder."""
+    """Makes a temporary folder with one made-up crate stand in for the repository, and yields the folder."""
     with tempfile.TemporaryDirectory() as top, mock.patch.object(common, "TOP", top):
         with mock.patch.object(definitions, "CRATES", os.path.join(top, "crates")):
             write_crate(top, **changed)
@@ -234,7 +234,7 @@ def write_crate(top: str, edit: str = EDIT, **changed: str) -> None:
 
 PATH = f"ob0_small/{edits.OTHERS}/unchanged.edit"
 REFUSED_BY = "returns-clause-more of next"
-# A definition that a contract names, and one that this one names.
+# A definition that a contract cites, one that the first definition cites, and one that nothing cites.
 SPECS = """pub abbrev next_of : N → N
 next_of n = step n
 
@@ -246,7 +246,7 @@ other n = n
 """
 
 
-@test("mutants: a line of mutants.txt is stale if the function, its contract, a definition of it or the mutant changes")
+@test("mutants: a line of mutants.txt is stale if its mutant, function, contract or a cited definition changes")
 def current() -> None:
     with small_crate() as top:
         rows = os.path.join(top, "mutants.txt")
@@ -313,7 +313,7 @@ def row_after(top: str, path: str, names: Dict[str, str], **changed: str) -> Tup
     return found.row(path).verdict, status, said.getvalue()
 
 
-@test("mutants: after a renaming a line of mutants.txt is kept, unless anything else changed or two names became one")
+@test("mutants: a renaming keeps a line of mutants.txt, unless anything else changes or two names become one")
 def kept_over_renaming() -> None:
     want("git")
     names = {"next": "following", "more": "larger", "next_of": "successor", "step": "advance"}
@@ -335,7 +335,7 @@ def kept_over_renaming() -> None:
 BRANCH = EDIT.replace("new:     n", "new:     if n == 7 { n } else { n + 1 }")
 
 
-@test("mutants: a right form must keep the new branch, return, function or closure, and must differ from the old text")
+@test("mutants: a right form must keep the new branch, return, function or closure, and differ from the old text")
 def right_forms() -> None:
     def why(right: str, edit: str = BRANCH) -> Optional[str]:
         with small_crate(edit=f"{edit}# right: {right}\n"):
@@ -352,7 +352,7 @@ def right_forms() -> None:
     same(edits.pairs_of("# right: 1\nfile: src/lib.rt\n")[1], "a right form isn't after its 'new:' line", "one before it")
 
 
-@test("mutants: edits of `rt ci`, and mutants that add a branch, return, function or closure, have a right form")
+@test("mutants: each edit of `rt ci`, and each mutant that adds a branch, return or function, has a right form")
 def have_right_forms() -> None:
     found = [it for crate in common.listed() for it in edits.forms_of(crate)]
     lacking = [it.path for it in found if (it.is_of_kit or it.needs_right_form) and not it.has_right_form]
@@ -380,16 +380,16 @@ def right_judged() -> None:
         same([[it.is_right for it in group.edits] for group in crate.first()], [[False], [True]], "the forms are in two checks")
 
 
-@test("mutants: mutants.txt has one line for each form of each mutant, in order; no line is stale once all are tried")
+@test("mutants: mutants.txt has one line for each form of each mutant, in order, and no stale line once all are tried")
 def rows() -> None:
     found = verdicts.Mutants()
     same([it.path for it in verdicts.rows_of(verdicts.PATH)], sorted(found.edits), "its lines (tools/mutants.py writes them)")
-    # (a row is also stale if its goal isn't of the clause, or of a function that the mutant changes)
+    # (a line is also stale if its goal belongs to another clause, or to a function that the mutant doesn't change)
     same(found.stale if ALL_ARE_TRIED else [], [], "those whose row is stale: `make wrong-bodies` tries them")
 
 
 class Unread(Dict[str, str]):
-    """Environment variables that fail the test if anything reads them."""
+    """Fails the test if anything reads one of these environment variables."""
 
     def __getitem__(self, name: str) -> str:
         raise Failed(f"{name} was read")
@@ -397,7 +397,7 @@ class Unread(Dict[str, str]):
     get = __contains__ = __iter__ = __getitem__  # type: ignore[assignment]
 
 
-@test("mutants: each run of `make test` draws different mutants, whatever the commit and the environment are")
+@test("mutants: each run of `make test` draws other mutants, whatever the commit and the environment are")
 def drawn() -> None:
     names = [f"{at:03}" for at in range(300)]
     found = mock.Mock(mutants=names, edits={it: it for it in [*names, "299:right"]})
@@ -430,7 +430,7 @@ def tried_by(function: Callable[[], object]) -> Tuple[List[str], str]:
     return sorted(tried), said.getvalue()
 
 
-@test("mutants: `make test` tries the drawn mutants, and prints the options that try the same ones again")
+@test("mutants: `make test` tries the mutants that it drew, and prints the option that tries the same mutants again")
 def drawn_again() -> None:
     found = verdicts.Mutants()
     with mock.patch.object(mutants, "Mutants", lambda: found):
@@ -450,7 +450,7 @@ def drawn_again() -> None:
             holds(f"--from takes 1 to {len(found.mutants)}" in wrong.getvalue(), wrong.getvalue())
 
 
-@test("mutants: the commit's hash is this repository's, whatever Git's environment variables are")
+@test("mutants: the commit's hash is read from this repository, whatever Git's environment variables contain")
 def of_this_repository() -> None:
     want("git")
     found = common.commit()
@@ -462,7 +462,7 @@ def of_this_repository() -> None:
         same(common.commit(), "0", "without git")
 
 
-@test("mutants: if one check tries many mutants, each counts as refused by its own clause or refused elsewhere")
+@test("mutants: if one check tries many mutants, each mutant is judged by the clause in its own first line")
 def many_judged() -> None:
     source = reading.Source("ob0_frame")
     edit = edit_of("ob0_frame", "goes_on_after_bad_head", source)
@@ -505,7 +505,7 @@ def many_waiting() -> None:
     same(taken("returns-clause-broken", mutants.ALONE, (edit,)), (mutants.ELSEWHERE, []), "another clause, by itself")
 
 
-@test("mutants: no two mutants in one check share a proof, and mutants tried apart don't depend on each other")
+@test("mutants: mutants in one check never share a proof, and mutants that are tried apart don't depend on each other")
 def groups() -> None:
     source = reading.Source("ob0_frame")
     crate = mutants.Crate("ob0_frame", edits.edits_of("ob0_frame", source), source)
@@ -519,7 +519,7 @@ def groups() -> None:
     same([len(it) > mutants.MOST for it in found], [False] * len(found), "more than go into one check")
 
 
-@test("mutants: if the checker can't find a function by its name, all functions of the crate are checked")
+@test("mutants: all functions of a crate are checked if the checker can't find the mutant's function by its name")
 def asked_for_all() -> None:
     edit = edit_of("ob0_frame", "takes_a_longer_head", reading.Source("ob0_frame"))
     asked: List[List[str]] = []
@@ -535,7 +535,7 @@ def asked_for_all() -> None:
     same((asked, said.text), ([["head::message_stage"], []], "logic=not-proved\n"), "what is asked for")
 
 
-@test("mutants: a crate's proved library is used only if `rt ci` reports the crate as proved")
+@test("mutants: a crate's proved library is used only if `rt ci` reports that the crate is proved")
 def libraries() -> None:
     taken = mutants.Libraries(os.path.join(TOP, "bin", "rooms", "libraries-of-a-test"))
     for line in ("rt: ob0_text proved\n", "rt: ob0_scan is kept: an earlier run on this machine proved the same files\n"):
@@ -598,7 +598,7 @@ def words_of(chosen: List[edits.Edit], sources: Dict[str, reading.Source], found
     return [results[it].word for it in chosen]
 
 
-@test("mutants: a run tells refused mutants from those that are proved, don't compile, aren't found or lack libraries")
+@test("mutants: a run reports refused and proved mutants, and counts mutants that can't be checked as not judged")
 def whole_run() -> None:
     folder, line, sources = tempfile.mkdtemp(), "        [b'\\n'] | [b'\\r', b'\\n']", {"ob0_frame": reading.Source("ob0_frame")}
     changes = {"refused": (line, "        [b'x'] | [b'\\r', b'\\n']"), "right": (line, f"{line} "), "bad": (line, f"{line} | lf()"), "lost": ("        [b'y']", line)}
@@ -615,7 +615,7 @@ def whole_run() -> None:
     shutil.rmtree(folder)
 
 
-# Tries the mutants of a room's crate, with checks that don't end by themselves.
+# Tries the mutants of the made-up crate in the current folder, with checks that don't end by themselves.
 ENDLESS = """import os, sys
 sys.path.insert(0, "tools")
 import build, checks, mutants
@@ -625,7 +625,7 @@ sys.exit(mutants.main(["--lanes", "2"]))
 """
 
 
-@test("mutants: a run waits for another run in its checkout, and a signal ends it and its checks")
+@test("mutants: a run waits for another run in the same checkout, and a signal ends a run and its checks")
 def ended_by_signal() -> None:
     with tempfile.TemporaryDirectory() as room:
         copy(os.path.join(TOP, "tools"), os.path.join(room, "tools"), "mutants.txt")
@@ -638,7 +638,7 @@ def ended_by_signal() -> None:
             with open(os.path.join(room, output), "wb") as file:
                 return subprocess.Popen([sys.executable, "-B", "-c", ENDLESS], cwd=room, stdout=file, stderr=file)
 
-        # (what still runs when a test ends is ended by tests/run.py)
+        # (tests/run.py ends these processes if they outlive the test)
         first = begun("first")
         awaited(os.path.join(room, "checks"))
         second = begun("second")

@@ -40,7 +40,7 @@ def texts(depth: int) -> dict[str, tuple[str, int]]:
     return found
 
 
-@test("nesting: 100 levels of each construct, and of mixes, aren't too deep under a stack of 4 MiB")
+@test("nesting: 100 levels of each construct, and of mixes, are accepted with a stack of 4 MiB")
 def hundred() -> None:
     made = texts(100)
     for (name, (text, _)), found in zip(made.items(), diagnosed([text for text, _ in made.values()])):
@@ -54,7 +54,7 @@ def hundred_and_one() -> None:
         same(found, [reported_too_deep(text, at)], f"{name}: {text}")
 
 
-@test("nesting: 20,000 levels are reported as TooDeep under a stack of 4 MiB")
+@test("nesting: 20,000 levels of each construct are reported as TooDeep with a stack of 4 MiB")
 def far() -> None:
     made = [nested_modules.of_one(it, 20000)[0] for it in nested_modules.REPEATED]
     for text, found in zip(made, diagnosed(made)):
@@ -70,7 +70,7 @@ def any_of(chance: random.Random) -> Callable[[], nested_modules.Entered]:
 
 
 def chosen() -> dict[str, Callable[[], nested_modules.Entered]]:
-    """Returns functions that choose a nesting statement: one for each statement, which always chooses it, and some that
+    """Returns functions that choose a statement to nest: for each statement one that always chooses it, and some that
     choose at random."""
     found: dict[str, Callable[[], nested_modules.Entered]] = {}
     for one in nested_modules.ENTERED:
@@ -80,7 +80,7 @@ def chosen() -> dict[str, Callable[[], nested_modules.Entered]]:
     return found
 
 
-@test("nesting: 64 open calls, each inside 100 nested constructs, run under a stack of 4 MiB")
+@test("nesting: a run with 64 open calls, each inside 100 nested constructs, fits a stack of 4 MiB")
 def calls() -> None:
     for name, choose in chosen().items():
         text, out = nested_modules.recursive(64, choose)
@@ -90,14 +90,14 @@ def calls() -> None:
         ends(on_file("run", text, stack=STACK), out.rsplit(" ", 2)[0], 1, "fault: CallBound\n")
 
 
-@test("nesting: 64 open calls of procedures declared inside one another run under a stack of 4 MiB")
+@test("nesting: a run with 64 open calls of procedures that are declared inside one another fits a stack of 4 MiB")
 def inward() -> None:
     for choose in chosen().values():
         text, out = nested_modules.inward(64, choose)
         ends(on_file("run", text, stack=STACK), out, 0)
 
 
-@test("nesting: calls inside 100 nested constructs are accepted, and inside 101 they are refused as TooDeep")
+@test("nesting: calls inside 100 nested constructs are accepted, and calls inside 101 are reported as TooDeep")
 def calls_within() -> None:
     choose: Callable[[], nested_modules.Entered] = lambda: nested_modules.ENTERED[0]
     for text, _ in (nested_modules.recursive(64, choose), nested_modules.inward(64, choose)):

@@ -83,7 +83,7 @@ def in_bin() -> dict[str, float]:
     return {it: os.stat(os.path.join(folder, it)).st_mtime for it in names}
 
 
-@test("package: a second build gives the same bytes, both packages have the same files, and lintian has no warnings")
+@test("package: a second build gives the same bytes, both packages contain the same files, and lintian has no warnings")
 def same_bytes() -> None:
     want_proved()
     before = in_bin()
@@ -111,7 +111,7 @@ def same_bytes() -> None:
         same(status, 0, said)
 
 
-@test("package: the README's commands install both packages")
+@test("package: the README's commands install the Debian package and unpack the archive")
 def as_readme_says() -> None:
     want_proved()
     page = text_of("README.md").partition("**From a package.**")[2]
@@ -154,7 +154,7 @@ def as_readme_says_without() -> None:
             same(run_plainly(["sh", "-c", sums], home, room)[0], 1, "the status with another file")
 
 
-@test("package: unpacking keeps all folders' modes; the README's line and `make uninstall` remove only unpacked files")
+@test("package: unpacking keeps folders' modes, and the README's line and `make uninstall` remove only unpacked files")
 def taken_away() -> None:
     want_proved()
     lines = [it[4:].replace("sudo ", "") for it in text_of("README.md").splitlines() if it.startswith(("    sudo tar ", "    cd /usr/local"))]
@@ -185,7 +185,7 @@ def modes_in(room: str) -> dict[str, int]:
     return {os.path.relpath(it, room): os.lstat(it).st_mode for it in found}
 
 
-@test("package: a prefix that is empty, or is the folder of the sources, is refused")
+@test("package: `make install` and `make uninstall` refuse a prefix that is empty or is the folder of the sources")
 def refused_prefixes() -> None:
     want_proved()
     with temporary() as room:
@@ -198,7 +198,7 @@ def refused_prefixes() -> None:
     holds(os.path.exists(common.BINARY), "bin/ob0 is gone")
 
 
-@test("package: a prefix that can't have folders is refused in a sentence, before anything is built")
+@test("package: `make install` refuses a prefix in which no folders can be made, in one sentence and before it builds")
 def prefixes_without_folders() -> None:
     for prefix, first in (("/proc/x", "/proc/x"), ("/dev/null/x/y", "/dev/null")):
         status, said = run_plainly(["make", "--silent", f"PREFIX={prefix}", "install"], dict(os.environ), TOP)
@@ -233,11 +233,11 @@ def in_copy(*commits: tuple[int, str, str]) -> list[str]:
     return versions
 
 
-@test("package: the version increases with the commit's time, and is the program's version at a tagged commit")
+@test("package: the package's version increases with the commit's time, and equals the program's at a tagged commit")
 def versions() -> None:
     want("git")
     day = 1795823088
-    # (at the last commit a file is changed: so it isn't the tagged one)
+    # (after the third commit a file is changed, so its package isn't the commit's)
     found = in_copy((day, "", ""), (day + 1, "v0.0.9", ""), (day + 86400, "", "# x\n"), (day + 90000, "v0.1.0", ""), (day + 90001, "v0.1.0-2", ""), (day + 90002, "", ""))
     holds(all(re.fullmatch(r"0\.1\.0~git\d{8}\.\d{6}\.[0-9a-f]{8}(\.changed)?", it) for it in found[:3]), str(found))
     same([found[0].split("git")[1][:15], found[1].split("git")[1][:15], found[2].split("git")[1][:15]], ["20261127.234448", "20261127.234449", "20261128.234448"], "their times")
@@ -252,7 +252,7 @@ def versions() -> None:
 INSTALLED = "Package: {}\nStatus: install ok installed\nVersion: {}\nArchitecture: amd64\nMaintainer: x <x@example.org>\nDescription: x\n\n"
 
 
-@test("package: dpkg installs the package in a separate root if libc6 is new enough, and removing it leaves no file")
+@test("package: dpkg installs the package in a separate root if libc6 is new enough, and removes all its files again")
 def by_dpkg() -> None:
     want_proved()
     want("dpkg", "root")
@@ -274,7 +274,7 @@ def by_dpkg() -> None:
         holds("ob0" not in text_of(admin, "status"), "dpkg knows of it still")
 
 
-@test("package: the file PROVED is complete, the packed program is the proved one, and the packed pages' links work")
+@test("package: the file PROVED is complete, the packed program is the proved one, and links in packed pages work")
 def provenance() -> None:
     with temporary() as room:
         usr = placed(room)
@@ -282,13 +282,13 @@ def provenance() -> None:
         for it in ("rattle-kit", "logic", common.file_sum(common.BINARY), "commit:", "gate:"):
             holds(it in said, f"no {it} in\n{said}")
         same(common.file_sum(os.path.join(usr, "bin", "ob0")), common.file_sum(common.BINARY), "the program")
-        # (the page of the exercises has a second name below the pages, and its links are right there)
+        # (the page of the exercises is also installed below the pages, and its links are right there)
         for at in (it for it in paths_in(usr) if it.endswith(".md") and not it.startswith(package.EXERCISES)):
             for target in re.findall(r"\]\(([^)#:]+)(?:#[^)]*)?\)", text_of(usr, at)):
                 holds(os.path.exists(os.path.join(usr, os.path.dirname(at), target)), f"{at} has a link to {target}")
 
 
-@test("package: `make install` needs no toolchain, and `make uninstall` removes everything that it installed")
+@test("package: `make install` needs no toolchain, and `make uninstall` removes everything that was installed")
 def installed() -> None:
     want_proved()
     with temporary() as room:
@@ -307,7 +307,7 @@ def installed() -> None:
             status, said = run_plainly([*words, "install"], environment, TOP)
             same(status, 0, said)
         same(paths_in(os.path.join(root, "opt", "x")), sorted([*paths_in(usr), "share/doc/ob0/installed"]), "the files")
-        # (each help that mentions a page tells the folder of the pages)
+        # (each help that mentions a page also gives the folder of the pages)
         for command in ("check", "rename"):
             status, said = run_plainly([os.path.join(root, "opt", "x", "bin", "ob0"), "help", command], environment, room)
             page, below = match_of(r"(docs/\S+\.md) .* in (\S+) below the folder that ob0 was\s+installed", said.replace("\n", " ")).groups()
@@ -316,7 +316,7 @@ def installed() -> None:
         same(status, 0, said)
         left = [at for at, _, _ in os.walk(os.path.join(root, "opt", "x"))]
         same(left, [os.path.join(root, "opt", "x"), os.path.join(root, "opt", "x", "bin")], "the remaining folders")
-        # (a home that the shell left to be named)
+        # (a `~` in PREFIX, which the shell doesn't replace)
         home = os.path.join(room, "home")
         os.mkdir(home)
         folders: dict[str, list[str]] = {"install": ["bin", "share"], "uninstall": []}
@@ -328,7 +328,7 @@ def installed() -> None:
         same(os.listdir(home), [], "what is in the home: the folders around the prefix")
 
 
-@test("package: a stamp copied next to another program doesn't make that program count as proved")
+@test("package: a program doesn't count as proved if the stamp next to it belongs to another program")
 def stamped() -> None:
     want_proved()
     with temporary() as room:
@@ -343,7 +343,7 @@ def stamped() -> None:
         same(is_current(), "False", "another program")
 
 
-@test("package: the program, its scripts and the manual pages work with an empty home directory")
+@test("package: the packed program, its scripts and the manual pages work with an empty home directory")
 def in_shells() -> None:
     with installed_home() as (_, usr, environment, work):
         version = match_of("ob0 ([0-9.]+)", text_of("share", "ob0.1"))[1]
@@ -379,7 +379,7 @@ def by_tab(shell: str) -> None:
         write(os.path.join(work, "New.mod"), MODULE)
         words, setup = SHELLS[shell]
         with Screen(words, environment, work) as screen:
-            # (it switches bracketed paste on when it reads keys)
+            # (a shell switches bracketed paste on when it reads keys)
             reads_keys = rb"(?s:.*)\[\?2004h"
             screen.shows(b".", f"{shell} starts")
             screen.keys(f"{setup.format(usr=usr)}; echo rea''dy\n".encode())
@@ -397,7 +397,7 @@ def by_tab(shell: str) -> None:
 
 
 for each in SHELLS:
-    test(f"package: Tab in {each}, in an empty home")(functools.partial(by_tab, each))
+    test(f"package: Tab completes a command, an option and a file's name in {each} with an empty home directory")(functools.partial(by_tab, each))
 
 
 def seen_by_vim(words: list[str], environment: dict[str, str], work: str, name: str) -> None:
@@ -419,7 +419,7 @@ def seen_by_vim(words: list[str], environment: dict[str, str], work: str, name: 
     same(types, ["ob0"] * (1 + len(opened)) + last, f"what {name} takes the files as, whether it has :Ob0Run, the width of a level, and help")
 
 
-@test("package: Neovim recognizes a new file and each example, and its server works, with an empty home directory")
+@test("package: Neovim recognizes a new file and each example, and shows errors, with an empty home directory")
 def in_neovim() -> None:
     want("Neovim")
     with installed_home() as (_, _, environment, work):
@@ -432,7 +432,7 @@ def in_neovim() -> None:
 def in_vim() -> None:
     want("Vim")
     with installed_home() as (_, usr, environment, work):
-        # (Debian's Vim reads /usr/share/vim/vimfiles, and the tree's folder is given instead)
+        # (Debian's Vim reads /usr/share/vim/vimfiles; this test's own folder is given instead)
         words = ["vim.nox", "-i", "NONE", "-n", "--cmd", f"set packpath^={usr}/share/vim/vimfiles"]
         seen_by_vim(words, environment, work, "Vim")
 
@@ -447,14 +447,14 @@ def in_emacs() -> None:
           (dolist (it '({' '.join(json.dumps(os.path.join(TOP, it)) for it in examples())})) (find-file it) (push major-mode r))
           (write-region (prin1-to-string (nreverse r)) nil "{report}")
           (kill-emacs))"""
-        # (Emacs looks for packages below each site-lisp of its load path: the tree's is put there)
+        # (Emacs looks for packages below each site-lisp of its load path, so this test's own one is added)
         environment["EMACSLOADPATH"] = os.path.join(usr, "share", "emacs", "site-lisp") + ":"
         status, drawn = run_in_terminal(["emacs", "-nw", "--eval", steps], environment, work)
         holds(os.path.exists(report), f"Emacs said nothing, and ended with {status}: {drawn[-500:]!r}")
         same(text_of(report), f"({' '.join(['ob0-mode'] * (1 + len(examples())))})")
 
 
-@test("package: package-lint and checkdoc accept the Emacs files, except that ob0 has no home page")
+@test("package: package-lint and checkdoc accept the Emacs files, except that ob0-mode.el has no home page")
 def linted() -> None:
     want("Emacs", "package-lint")
     with temporary() as room:
@@ -463,7 +463,7 @@ def linted() -> None:
         words = ["emacs", "--batch", "--eval", "(progn (require 'package) (package-initialize) (require 'package-lint))"]
         _, said = run_plainly([*words, "-f", "package-lint-batch-and-exit", mode], own_home, room)
         found = re.findall(r"^\S+\.el:\d+:\d+: (error|warning): (.*)$", said, re.M)
-        # (the code for eglot, lsp-mode and yasnippet is for packages that may be loaded later, or never)
+        # (package-lint also warns about the code for eglot, lsp-mode and yasnippet, which are loaded later or never)
         same([it for it in found if "with-eval-after-load" not in it[1]], [("error", "Package should have a Homepage or URL header.")], said)
         for path in (mode, os.path.join(TOP, "share", "emacs", "ob0-mode-autoloads.el")):
             said = run_plainly(["emacs", "-Q", "--batch", "--eval", f'(checkdoc-file "{path}")'], own_home, room)[1]
@@ -474,7 +474,7 @@ def linted() -> None:
 def in_kakoune() -> None:
     want("Kakoune")
     with installed_home() as (room, usr, environment, work):
-        # (Kakoune reads the files next to its own, in /usr/share/kak/rc: a runtime folder has both)
+        # (Kakoune reads only its runtime folder, so this one gets Kakoune's own files and the package's)
         runtime = os.path.join(room, "runtime")
         shutil.copytree("/usr/share/kak", runtime, symlinks=True, ignore=shutil.ignore_patterns("doc"))
         shutil.copytree(os.path.join(usr, "share", "kak"), runtime, dirs_exist_ok=True)
@@ -497,7 +497,7 @@ def in_nano() -> None:
             screen.shows(b"\x1b\\[[0-9;]*mMODULE", "a coloured word in nano")
 
 
-@test("package: GtkSourceView recognizes and colours a module, even if the desktop has no type for such files")
+@test("package: GtkSourceView recognizes and colours a module even if the desktop has no file type for Oberon-0")
 def in_gtksourceview() -> None:
     want("GtkSourceView", "PyGObject")
     with installed_home() as (_, usr, environment, work):
@@ -510,7 +510,7 @@ def in_gtksourceview() -> None:
         same((found["language"], len(colours)), ("oberon0", 1), "the language, and whether a reserved word has a colour")
 
 
-@test("package: a desktop recognizes a module as text/x-oberon0, and still takes go.mod for plain text")
+@test("package: a desktop recognizes a module as text/x-oberon0, and still treats go.mod as plain text")
 def on_a_desktop() -> None:
     want("MIME types", "gio")
     with installed_home() as (_, usr, environment, work):
@@ -523,7 +523,7 @@ def on_a_desktop() -> None:
         same(kinds[1], "text/plain", "the type of go.mod, which is Go's")
 
 
-@test("package: its manual pages and its changelog match the repository's")
+@test("package: the packed manual pages and the packed changelog match the repository's")
 def written_pages() -> None:
     with temporary() as room:
         usr = placed(room)

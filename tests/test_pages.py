@@ -10,7 +10,7 @@ import prose
 import rooms
 from harness import TOP, holds, same, test, text_of, tracked
 
-# pages whose names of messages, ends and methods may stand without backticks on every page
+# pages whose names of messages, ends and methods need no backticks on any page
 NAMING = ["docs/LANGUAGE.md", "docs/PROTOCOL.md", "docs/MESSAGES.md"]
 OTHERS = {"GitHub", "GitLab", "GtkSourceView", "KiB", "LuaSnip", "MiB", "SnipMate", "StdIO", "UltiSnips", "YouCompleteMe", "macOS"}
 INNER = re.compile(r"\b[A-Za-z]*[a-z][A-Z]\w*")  # a word with a capital inside
@@ -47,7 +47,7 @@ def broken_links(page: str, text: str) -> list[str]:
     return broken
 
 
-@test("pages: each link leads to an existing file, and to an existing heading")
+@test("pages: each link leads to an existing file and to an existing heading")
 def links() -> None:
     found = pages()
     holds(len(found) > 30, "few pages were found")
@@ -56,7 +56,7 @@ def links() -> None:
     same(broken_links("x.md", wrong.replace("words)", "some-words-all)")), ["x.md: README.md#ends", "x.md: nowhere.md"], "of four links")
 
 
-@test("pages: a word with an inner capital is in backticks, unless it is a name of the language, protocol or a product")
+@test("pages: a word with an inner capital is in backticks, unless the language, the protocol or a product uses it")
 def names_in_backticks() -> None:
     known = OTHERS.union(*(INNER.findall(text_of(it)) for it in NAMING))
     wrong = []
@@ -67,7 +67,7 @@ def names_in_backticks() -> None:
     holds("ExchangeTurn" in INNER.findall("ExchangeTurn on the plugin") and "ExchangeTurn" not in known, "a name of a type would be found")
 
 
-@test("pages: the chart of a message's life is aligned, and each crate in it contains the name before it")
+@test("pages: the chart of a message's life is aligned, and each name in the chart occurs in the crate next to it")
 def chart_holds() -> None:
     steps = rooms.steps_of(text_of(os.path.relpath(rooms.PAGE, TOP)))
     holds(len(steps) > 5, "the chart is missing")
@@ -93,7 +93,7 @@ def words_of(page: str) -> int:
     return len(text_of(page).split())
 
 
-@test("pages: no page has more words than tests/pages.txt allows, and neither do all pages together")
+@test("pages: no page is longer than tests/pages.txt allows, and all pages together aren't longer than it allows")
 def lengths_held() -> None:
     allowed = {name: int(number) for name, number in (line.split(": ") for line in text_of("tests/pages.txt").splitlines())}
     found = {it: words_of(it) for it in [*pages(), *(f"share/{it}" for it in os.listdir(os.path.join(TOP, "share")) if it.endswith(".1"))]}

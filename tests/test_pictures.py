@@ -24,7 +24,7 @@ PICTURES = os.path.join("docs", "pictures")
 PERFORMANCE = os.path.join("docs", "PERFORMANCE.md")
 
 
-@test("pictures: each picture is shown on a page, has texts and a title, and has colours for dark screens")
+@test("pictures: each picture is shown on a page, contains texts and a title, and has colours for dark screens")
 def shown() -> None:
     pages = [*glob.glob(os.path.join(TOP, "*.md")), *glob.glob(os.path.join(TOP, "docs", "*.md"))]
     linked = {os.path.normpath(os.path.join(os.path.dirname(page), it)) for page in pages for it in re.findall(r"!\[[^]]+\]\(([^)]+)\)", text_of(page))}
@@ -37,12 +37,12 @@ def shown() -> None:
         name = os.path.basename(path)
         holds(len(texts) > 5 and drawn.find("{http://www.w3.org/2000/svg}title") is not None, f"{name} has texts and a title")
         holds("prefers-color-scheme:dark" in text_of(path), f"{name} has colours for dark screens")
-        # (a terminal has its own background)
+        # (the picture of a terminal has its own background)
         fixed = [it.text for it in texts if it.get("fill") and name != "editor.svg"]
         same(fixed, [], f"texts of {name} in a colour that doesn't change on dark screens")
 
 
-@test("pictures: the pictures of tools/rooms.py are up to date, and each step mentions a function or type of its crate")
+@test("pictures: the pictures by tools/rooms.py are up to date, and each step mentions a function or type of its crate")
 def drawn_from_text() -> None:
     for name, drawn in rooms.pictures().items():
         same(text_of(PICTURES, name), drawn, f"{name} (tools/rooms.py draws it)")
@@ -69,7 +69,7 @@ def placed() -> None:
         holds(any(a <= u <= a + w and abs(b - v) < 1 for a, b, w, _ in boxes), f"an arrow that ends at {u}, {v}")
 
 
-@test("pictures: the README's picture matches what Neovim shows: a marked error and a refused rename")
+@test("pictures: the README's picture equals what Neovim shows for a marked error and a refused rename")
 def editor() -> None:
     want("Neovim", "tmux")
     need_program()
@@ -85,7 +85,7 @@ def editor() -> None:
         same(now, kept, "the picture (tools/screens.py makes it)")
 
 
-@test("pictures: a terminal's coloured line is split into pieces of text with their styles")
+@test("pictures: a coloured line of a terminal is split into pieces of text with their styles")
 def coloured() -> None:
     line = "a\x1b[1;31mb\x1b[0m \x1b[38;5;196;48;2;1;2;3mc\x1b[4;58;2;255;0;0md\x1b[24;39;49me\x1b[7mf"
     runs, last = screens.runs_of(line, screens.Style())
@@ -103,13 +103,13 @@ def coloured() -> None:
     same(last, wanted[-1][1], "the style at its end")
 
 
-@test("pictures: the plots match the tables of docs/PERFORMANCE.md, and the page lists the programs and versions used")
+@test("pictures: the plots match the tables of docs/PERFORMANCE.md, and the page lists the counted programs' versions")
 def plotted() -> None:
     page = text_of(PERFORMANCE)
     for name, drawn in plots.drawn_of(page).items():
         same(text_of(PICTURES, name), drawn, f"{name} (bench/report.py --plots draws it)")
     holds("make bench" in page and not re.search(r"\d (ms|s|seconds)\b", page), "how the figures are made again, and no time of one day")
-    # (until they are counted the page has neither plots nor figures)
+    # (until the programs are counted, the page has neither plots nor figures)
     if not plots.drawn_of(page):
         same(page.count("Not counted yet"), 2, "missing tables")
         return
@@ -118,7 +118,7 @@ def plotted() -> None:
     for word in ("- ob0: the proved program;", "the machine: x86-64 Linux", "valgrind: ", "Lua: ", "Python: "):
         holds(word in page, f"the page says nothing of {word}")
     counted_sources = common.match_of(r"the sum of its sources is `([0-9a-f]{64})`", page)[1]
-    # (a version that is released has its own figures)
+    # (a released version has its own figures)
     if package.versions()[0].day:
         same(counted_sources, common.sum_of(common.sources(common.below("ob0"))), "the sources that were counted")
 
@@ -132,7 +132,7 @@ def ratios_fit(page: str) -> None:
             holds(abs(scratch / value - ratio) <= 0.51 + ratio / 20, f"{name}: {scratch} is {ratio} times {value}")
 
 
-@test("pictures: new figures replace the page's two tables, and each table gets one plot")
+@test("pictures: new figures replace the two tables of docs/PERFORMANCE.md, and each table gets one plot")
 def counted() -> None:
     changes = {name: [10 ** (4 + at) // (number + 1) for at in range(3)] for number, name in enumerate((report.SCRATCH, *report.CHANGES, report.TYPED))}
     runs = {name: [1000 + number, 4000, 90000] for number, name in enumerate(programs.PROGRAMS)}

@@ -46,12 +46,12 @@ alone = f"where it {alone} mends", "alone", b"alone is taken"  # a value of its 
 '''
 
 
-@test("prose: no file exceeds its counts of phrases in tests/prose.txt, and no page gains a sentence that is too long")
+@test("prose: no file contains a phrase more often than tests/prose.txt allows, and no page gains a long sentence")
 def none_rose() -> None:
     same(prose.risen(), [], "what rose: word it in another way (`tools/prose.py FILE` shows each place)")
 
 
-@test("prose: phrases, long sentences and comments without a verb are found, and code isn't read")
+@test("prose: tools/prose.py finds phrases, long sentences and comments without a verb, and ignores code")
 def found() -> None:
     with tempfile.TemporaryDirectory() as room:
         page, code = os.path.join(room, "page.md"), os.path.join(room, "code.rt")
@@ -65,7 +65,7 @@ def found() -> None:
         same(+prose.phrases_in(comments), Counter({"what is left": 3, "mend": 1}), "the phrases of comments")
 
 
-@test("prose: Python's comments and strings with a space are counted, all lines of other files, mutants' first lines")
+@test("prose: tools/prose.py reads comments and texts of Python, all lines of other files, and first lines of mutants")
 def found_elsewhere() -> None:
     with tempfile.TemporaryDirectory() as room:
         script, completion, mutant = (os.path.join(room, it) for it in ("a.py", "ob0.fish", "a.edit"))

@@ -16,7 +16,7 @@ def where(line: int, character: int, **more: Any) -> Message:
 
 
 class Asked(Server):
-    """A server with one open document, and methods that ask about its text."""
+    """Runs a server with one open document, and asks about the document's text."""
 
     def __init__(self, text: str, **capabilities: Any) -> None:
         super().__init__(capabilities=capabilities)
@@ -40,7 +40,7 @@ class Asked(Server):
         return found and found["range"]
 
 
-@test("questions: the answer to hover is, byte by byte, as expected")
+@test("questions: hover is answered with exactly the expected bytes")
 def hover_bytes() -> None:
     found = serve(frames([initialize(), did_open(CALLS), request(3, "textDocument/hover", where(3, 7))])).contents()[2]
     wanted = (
@@ -50,7 +50,7 @@ def hover_bytes() -> None:
     same(found, wanted)
 
 
-@test("questions: the answers to definition, references and prepareRename are, byte by byte, as expected")
+@test("questions: definition, references and prepareRename are answered with exactly the expected bytes")
 def references_bytes() -> None:
     queries = [
         request(3, "textDocument/definition", where(2, 47)),
@@ -70,7 +70,7 @@ def references_bytes() -> None:
     )
 
 
-@test("questions: a predeclared name has no definition, and nothing is found at a position without a name")
+@test("questions: a predeclared name has no definition, and a position without a name has no definition or references")
 def no_names() -> None:
     with Asked(CALLS) as server:
         write = [extent("2:20-2:25")]
@@ -93,7 +93,7 @@ def no_hover() -> None:
         same(server.result("hover", 0, 7), None)
 
 
-@test("questions: if the text isn't well-typed, definition and prepareRename answer null, and references finds nothing")
+@test("questions: definition and prepareRename answer null, and references an empty list, if the text isn't well-typed")
 def ill_typed() -> None:
     with Asked("MODULE M") as server:
         for what in ("definition", "prepareRename"):
@@ -112,7 +112,7 @@ def ill_typed_places() -> None:
                 same(found, [], f"references at 0:{character}")
 
 
-@test("questions: an unreadable position is refused as `bad params`, and a position after the text counts as its end")
+@test("questions: a malformed position is refused as `bad params`, and one after the text counts as the text's end")
 def positions() -> None:
     bad = {"code": -32602, "message": "bad params"}
     with Asked(CALLS) as server:
@@ -127,7 +127,7 @@ def positions() -> None:
         refused = {"code": -32803, "message": "unopened"}
         same(server.query("textDocument/definition", {**where(0, 0), "textDocument": {"uri": "x"}}).get("error"), refused)
     with Asked("MODULE M; VAR x: INTEGER; END M") as server:
-        # (a line after the last one is the text's end, whatever the character is)
+        # (a position on a line after the last one is the text's end, whatever its character is)
         far = place(18446744073709551615, 0)
         change = {"range": {"start": far, "end": far}, "text": "."}
         same(server.notify(did_change([change], URI)), [], "the name and a dot after it")
@@ -190,7 +190,7 @@ def hover_false() -> None:
         shows(server, wanted)
 
 
-@test("questions: definition and references tell names that are declared again apart, and include closing names")
+@test("questions: definition and references distinguish names that are declared again, and include closing names")
 def scopes() -> None:
     with Asked(NAMES) as server:
         same(server.definition(6, 19), extent("5:4-5:5"), "the inner c")
@@ -200,7 +200,7 @@ def scopes() -> None:
         same(server.references(7, 20, False), [extent(it) for it in ("6:40-6:41", "7:20-7:21", "8:17-8:18")])
 
 
-@test("questions: definition and references tell fields with the same name in different records apart")
+@test("questions: definition and references distinguish fields of the same name in different records")
 def fields() -> None:
     with Asked(NAMES) as server:
         same(server.hover(6, 26), ("FIELD x: INTEGER", extent("6:26-6:27")))
@@ -254,7 +254,7 @@ END M.
             same(server.hover(line, character), None, f"at {line}:{character}")
 
 
-@test("questions: prepareRename returns the range of a field, at its declaration and at a use")
+@test("questions: prepareRename returns the range of a field at the field's declaration and at its uses")
 def renamable_fields() -> None:
     with Asked(NAMES) as server:
         same(server.result("prepareRename", 6, 31), extent("6:31-6:33"))
@@ -263,7 +263,7 @@ def renamable_fields() -> None:
         same(server.result("prepareRename", 2, 41), extent("2:40-2:41"))
 
 
-@test("questions: the answers to prepareRename at a field are, byte by byte, as expected")
+@test("questions: prepareRename at a field is answered with exactly the expected bytes")
 def renamable_bytes() -> None:
     text = "MODULE M; VAR r: RECORD a: INTEGER END; BEGIN (* 😀 *) r.a := 1 END M."
     queries = [request(3, "textDocument/prepareRename", where(0, 24)), request(4, "textDocument/prepareRename", where(0, 57))]
@@ -274,7 +274,7 @@ def renamable_bytes() -> None:
         same(server.result("prepareRename", 0, 59), extent("0:59-0:60"))
 
 
-@test("questions: positions are counted in UTF-8 units if the client asks for them, and otherwise in UTF-16 units")
+@test("questions: positions are counted in UTF-8 units if the client offers utf-8, and in UTF-16 units otherwise")
 def utf8() -> None:
     text = "MODULE M; VAR x: INTEGER; BEGIN (* 😀é *) x := 1 END M."
     with Asked(text, general={"positionEncodings": ["utf-8"]}) as server:
@@ -283,7 +283,7 @@ def utf8() -> None:
         same(server.references(0, 14, True), [extent("0:14-0:15"), extent("0:42-0:43")])
 
 
-@test("questions: 5,000 references are found, on many lines and on one")
+@test("questions: references finds 5,000 uses of a name, on many lines and on one line")
 def many() -> None:
     for gap in ("\n", " ", "\r\n", " (* 😀 *) "):
         text = "MODULE M; VAR x: INTEGER; BEGIN" + f"{gap}x := 1;" * 5000 + " END M."

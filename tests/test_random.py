@@ -1,4 +1,5 @@
-"""Compares the program with the reference on random texts and runs. (tests/lib/seeds.py chooses the random numbers.)"""
+"""Compares the program with the reference implementation on random texts and runs. tests/lib/seeds.py chooses the
+random numbers."""
 from __future__ import annotations
 
 import random
@@ -27,22 +28,22 @@ def compare(kind: str, count: int) -> None:
             same_diagnostics(server, MAKERS[kind](seed), seed)
 
 
-@test("random: diagnostics of texts with a few changed lexemes match the reference's")
+@test("random: diagnostics of modules with a few changed lexemes equal the reference implementation's")
 def lexemes() -> None:
     compare("lexemes changed", COUNT)
 
 
-@test("random: diagnostics of texts with a few changed names and operators match the reference's")
+@test("random: diagnostics of modules with a few changed names and operators equal the reference implementation's")
 def names() -> None:
     compare("names and operators changed", COUNT)
 
 
-@test("random: diagnostics of modules with few names and many faults match the reference's")
+@test("random: diagnostics of modules with few names and many errors equal the reference implementation's")
 def few_names() -> None:
     compare("few names", 2 * COUNT)
 
 
-@test("random: diagnostics of texts made of few different characters match the reference's")
+@test("random: diagnostics of texts made of few different characters equal the reference implementation's")
 def few_characters() -> None:
     compare("few characters", 3 * COUNT)
 
@@ -64,7 +65,7 @@ def answers_at(server: Server, found: Text, at: int, where: str) -> None:
     same(result("hover"), span and {"contents": contents, "range": ranges(span)}, f"{where}: hover")
 
 
-@test("random: hover, definition and references at random positions match the reference's")
+@test("random: hover, definition and references at random positions give the reference implementation's answers")
 def questions_anywhere() -> None:
     with Server() as server:
         for seed in seeds(max(1, COUNT // 30)):
@@ -76,7 +77,7 @@ def questions_anywhere() -> None:
                 answers_at(server, found, at, f"{named(seed)}, at {found.position(at)}")
 
 
-@test("random: hover, definition and references at fields of records match the reference's")
+@test("random: hover, definition and references at fields of records give the reference implementation's answers")
 def declared_fields() -> None:
     with Server() as server:
         for seed in seeds(COUNT // 3):
@@ -88,17 +89,17 @@ def declared_fields() -> None:
                     answers_at(server, found, it.start, f"{named(seed)}, at {found.position(it.start)} of\n{text}\n")
 
 
-@test("random: runs of random modules match the reference interpreter's")
+@test("random: runs of random modules have the same output and end as the reference interpreter's")
 def runs() -> None:
     print("    " + counted(run_of(random_texts.program, seed) for seed in seeds(COUNT)))
 
 
-@test("random: runs that pass and copy arrays and records match the reference interpreter's")
+@test("random: runs that pass and copy arrays and records have the same output and end as the reference interpreter's")
 def aliased_runs() -> None:
     print("    " + counted(run_of(random_texts.aliased, seed) for seed in seeds(COUNT)))
 
 
-@test("random: runs of modules with counting loops match the reference interpreter's")
+@test("random: runs of modules with counting loops have the same output and end as the reference interpreter's")
 def counting_runs() -> None:
     print("    " + counted(run_of(random_texts.counting, seed) for seed in seeds(COUNT)))
 
@@ -128,7 +129,7 @@ def modules(count: int) -> Iterator[tuple[int, random.Random, str, Text]]:
         yield seed, chance, text, Text(text)
 
 
-@test("random: renames match the reference's, and the renamed modules run as before")
+@test("random: renames equal the reference implementation's, and the renamed modules run as before")
 def renames() -> None:
     with Server() as server:
         for seed, chance, text, found in modules(COUNT // 10):
@@ -146,7 +147,7 @@ def renames() -> None:
                     keeps_runs(text, edits.patched(text, wanted_), seed)
 
 
-@test("random: inlinings match the reference's, and the changed modules run as before")
+@test("random: inlinings equal the reference implementation's, and the changed modules run as before")
 def inlining() -> None:
     with Server(capabilities={"textDocument": {"codeAction": {"codeActionLiteralSupport": {}}}}) as server:
         for seed, chance, text, found in modules(COUNT // 10):
@@ -169,7 +170,7 @@ def inlining() -> None:
                         keeps_runs(text, edits.patched(text, it), seed)
 
 
-@test("random: formatting matches the reference's")
+@test("random: formatting makes the same edits as the reference implementation")
 def formatting() -> None:
     with Server() as server:
         for seed, chance, text, _ in modules(COUNT // 5):

@@ -1,5 +1,5 @@
-"""Makes random changes. After each, the server must report the same as a new server that reads only the new text. `make
-faults` does the same 20,000 times."""
+"""Makes random changes of documents. After each change the server must report the same as a new server that reads only
+the new text. `make faults` does the same 20,000 times."""
 from __future__ import annotations
 
 import random_changes
@@ -8,7 +8,7 @@ from seeds import COUNT, starts
 
 
 def make(part: int) -> None:
-    @test(f"changes: after each the server reports the same as a new server, part {part + 1}")
+    @test(f"changes: after each random change the server reports the same as a new server, part {part + 1}")
     def changed() -> None:
         start = starts()[part % len(starts())] + 1000 * (part // 2)
         print(f"    seeds begin at {start}", flush=True)

@@ -53,18 +53,18 @@ def goal_at(name: str) -> str:
     return BY_GOAL.format(line=turned.first if name == turned.name else turned.first - 5)
 
 
-@test("refusals: an edit counts as refused if a goal of the clause in its first line is unproved, or its answer fails")
+@test("refusals: an edit counts as refused if a goal of the clause in its first line is unproved or wrongly answered")
 def by_its_clause() -> None:
     same(why(FRAME, BY_ANSWER), None, "an answer")
     same(why(TEXT, goal_at("character_width")), None, "a goal")
 
 
-@test("refusals: a refusal by another clause or function, a cut-off goal or missing names isn't the expected refusal")
+@test("refusals: an edit doesn't count as refused if another clause or function, or missing names, refuse it")
 def by_something_else() -> None:
     for said in (
         BY_ANSWER.replace("clause-taken", "clause-memory"),
         BY_ANSWER.replace("Framer/feed", "Framer/next"),
-        # (the kit prints the first line of a message: that the module has no such name is in the next one)
+        # (`rt ci` prints only the first line of a message, and the next line says that the module has no such name)
         BY_ANSWER.partition(": as printed")[0] + ": `goal.returns-in-Bad-stage-clause-taken`: module `Rattle.ob0_frame.proofs.framer.",
         BY_ANSWER.replace("`: as printed, the two types first differ where one has `(Rattle.ob0_fr", ""),
         "refused, as it must be (only because a proof file names what the edit took away, so this says little of the contract): x",
@@ -75,7 +75,7 @@ def by_something_else() -> None:
     holds(why(TEXT, goal_at("character_width").replace("returns-in-Utf16", "count-requires-few")), "what a callee requires")
 
 
-@test("refusals: an edit that is still proved or can't be tried doesn't count, and one without a line of output fails")
+@test("refusals: an edit counts as failed if it is still proved, can't be tried, or isn't in the output of `rt ci`")
 def not_at_all() -> None:
     for said in ("NOT REFUSED: the crate is still proved with this edit", "BAD EDIT: an 'old:' text is in src/framer.rt 2 times, and not once"):
         same(why(FRAME, said), said, "what the kit says")
@@ -95,7 +95,7 @@ def not_at_all() -> None:
     same((refused, failed), (0, count + 1), "a line of no edit")
 
 
-@test("refusals: each edit of `rt ci` changes the function that it names, adds no loop, and is of a listed crate")
+@test("refusals: each edit of `rt ci` changes the function in its first line, adds no loop, and is of a listed crate")
 def edits_of_kit() -> None:
     found = refusals.Refusals().edits
     for path, edit in found.items():
@@ -114,7 +114,7 @@ PROMISED = (
 
 
 class NamedBody:
-    """A row of the page's table: an edit, the function and clauses that refuse it, and whether the function is
+    """Stores a row of the page's table: an edit, the function and clauses that refuse it, and whether the function is
     public."""
 
     def __init__(self, row: str) -> None:

@@ -12,7 +12,7 @@ from harness import holds, test
 
 
 def make(name: str, case: conversations.Case) -> None:
-    @test(f"refused memory: {name}")
+    @test(f"refused memory: ob0 ends as usual or with `fault: Memory` if an allocation fails (case: {name})")
     def walk() -> None:
         failing.refused(name, *case)
 
@@ -22,7 +22,7 @@ for key, given in conversations.SHORT.items():
 
 
 def make_of_crate(what: str, crate: str, *modules: str) -> None:
-    @test(f"refused memory: {what}")
+    @test(f"refused memory: {what} pass if any of their allocations fails")
     def walk_tests() -> None:
         found = list(refused_tests.checks(crate, 20000))
         for module in modules:
@@ -32,4 +32,4 @@ def make_of_crate(what: str, crate: str, *modules: str) -> None:
 
 
 make_of_crate("the tests of the framer, of documents and of texts", "ob0_tests_low", "frame")
-make_of_crate("the tests of sessions, and of worlds of an editor and a server", "ob0_tests_world", "session", "world")
+make_of_crate("the tests of sessions, and of an editor together with a server,", "ob0_tests_world", "session", "world")

@@ -24,7 +24,7 @@ from harness import TOP, holds, leave_out, same, test, text_of, tracked, want
 from homes import copy, run_plainly, temporary, write
 from snippets import FENCED
 
-# each place that has the program's version, with what is around it
+# each place that states the program's version, with a pattern that finds the version
 PLACES = [
     ("share/ob0.1", r'^\.TH OB0 1 \S+ "ob0 (\S+)"'),
     *((f"share/{it}.1", rf'^\.TH {it.upper()} 1 \S+ "ob0 (\S+)"') for it in package.SCRIPTS),
@@ -47,7 +47,7 @@ json.dump({**notices.head(), "crates": crates}, open(notices.KEPT, "w"))
 
 
 class Repository:
-    """A temporary Git repository with the files that are packed, and with /bin/true in place of ob0."""
+    """Makes a temporary Git repository with the files that are packed, and with /bin/true in place of ob0."""
 
     def __init__(self, room: str) -> None:
         self.room = os.path.join(room, "repository")
@@ -103,7 +103,7 @@ def repository() -> Iterator[Repository]:
         yield Repository(room)
 
 
-@test("release: every place that has the version has the same version as the program's source")
+@test("release: every place that states the version agrees with the program's source")
 def places() -> None:
     number = package.version()
     for path, pattern in PLACES:
@@ -135,7 +135,7 @@ def linked() -> None:
     same(lacking, [], "crates without a notice that CONTRIBUTING's recipe doesn't list")
 
 
-@test("release: without its own notices, and without the toolchain to collect them, a program isn't packed")
+@test("release: a program without its own notices isn't packed if the toolchain that collects them is missing")
 def kept() -> None:
     with repository() as made:
         page = "print(package.copyright_page().decode())"
@@ -152,7 +152,7 @@ def kept() -> None:
             same((status, "`make build` with rt on PATH" in said), (2, True), f"with {'the notices of another program' if content else 'none'}: {said}")
 
 
-@test("release: only files known to Git are packed, and the version of an uncommitted state ends with .changed")
+@test("release: only files known to Git are packed, and the version of a state that isn't committed ends with .changed")
 def known() -> None:
     with repository() as made:
         version: Callable[..., str] = lambda **named: made.call("print(package.build_version())", **named)[1].strip()
@@ -168,14 +168,14 @@ def known() -> None:
         same(version(), f"{number}.changed", "with a changed page")
         made.commit()
         holds(f"{package.DOC}/docs/private.md" in made.tree() and not version().endswith(".changed"), "once it is of the commit")
-        # (a time is the files' and not the version's)
+        # (SOURCE_DATE_EPOCH sets the files' time, and not the version)
         same(version(SOURCE_DATE_EPOCH="315532800"), version(), "with SOURCE_DATE_EPOCH")
         same(made.call("print(package.moment())", SOURCE_DATE_EPOCH="315532800"), (0, "315532800\n"), "the files' time")
         status, said = made.call("print(package.moment())", SOURCE_DATE_EPOCH="abc")
         same((status, "is a number of seconds" in said), (2, True), said)
 
 
-@test("release: the packages have the same bytes in another folder, time zone, locale and home, and with skipped tests")
+@test("release: the packages have the same bytes in another folder, time zone, locale and home, or after skipped tests")
 def elsewhere() -> None:
     with repository() as made, temporary() as room:
         other = os.path.join(room, "an other f\u00f6lder")
@@ -195,7 +195,7 @@ def elsewhere() -> None:
         holds(text_of(other, "bin", "TESTED").endswith("\ngate: 2 passed, 0 failed, 3 skipped\n"), "what was tested there")
 
 
-@test("release: without git a version must be given, and it must begin with the program's version")
+@test("release: without git the packages need a given version, and it must begin with the program's version")
 def given() -> None:
     with repository() as made:
         shutil.rmtree(os.path.join(made.room, ".git"))
@@ -211,13 +211,13 @@ def given() -> None:
             same({it.mtime for it in tar}, {1700000000}, "the time of the files")
 
 
-@test("release: a compressed file contains no time and no system's name, so every Python writes the same bytes")
+@test("release: the head of a compressed file contains no time and no system's name")
 def compressed() -> None:
     same(package.squeezed(b"x")[:10], b"\x1f\x8b\x08\0\0\0\0\0\x02\xff", "the head of a .gz, with no time and no name of a system")
     same(gzip.decompress(package.squeezed(b"some text")), b"some text", "what was compressed")
 
 
-@test("release: the glibc versions found in a program are those that objdump prints")
+@test("release: the glibc versions that are found in a program equal those that objdump prints")
 def as_by_objdump() -> None:
     want("objdump")
     said = subprocess.run(["objdump", "-p", "/bin/true"], stdout=subprocess.PIPE, check=True).stdout.decode()
@@ -231,7 +231,7 @@ def needed() -> None:
         with open("/bin/true", "rb") as file:
             content = file.read()
         latest = glibc.needed("/bin/true")
-        # (the same program, which needs a later one)
+        # (the same program, except that it needs a later glibc)
         other = latest[:-1] + str((int(latest[-1]) + 1) % 10)
         program = os.path.join(room, "program")
         with open(program, "wb") as file:
@@ -306,7 +306,7 @@ def release(made: Repository, number: str, day: str) -> list[str]:
     return [os.path.join(room, it) for it in found]
 
 
-@test("release: CONTRIBUTING's recipe makes two releases; the second replaces the first, and removal leaves nothing")
+@test("release: CONTRIBUTING's recipe makes two releases, the second replaces the first, and removal leaves no file")
 def twice() -> None:
     want("dpkg", "gpg", "root")
     with repository() as made, temporary() as room:
@@ -361,7 +361,7 @@ def in_prefix(made: Repository, prefix: str) -> None:
     same([at for at, _, _ in os.walk(prefix)], [prefix, os.path.join(prefix, "bin")], "what `make uninstall` leaves")
 
 
-@test("release: under umask 077 everybody can read the installed files; PREFIX may contain spaces and shell characters")
+@test("release: everybody can read files installed under umask 077, and PREFIX may contain spaces and shell characters")
 def for_everybody() -> None:
     with repository() as made, temporary() as room:
         prefix = os.path.join(room, 'a "b" \'c\' $HOME `d` \\e')
@@ -381,7 +381,7 @@ def for_everybody() -> None:
         same(closed, [], "folders of the archive that others can't enter")
 
 
-@test("release: the exercises can be marked even if a system leaves out share/doc")
+@test("release: the exercises can be marked even if the system leaves out share/doc")
 def without_pages() -> None:
     with repository() as made, temporary() as room:
         made.ran("make", "--silent", "install", f"PREFIX={room}")

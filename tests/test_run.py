@@ -48,7 +48,7 @@ def four_runs(text: str | bytes) -> None:
     ran(text, "\n\n 0", "", "2", 1, 3)
 
 
-@test("run: outputs and ends are as expected for given inputs and bounds of turns and calls")
+@test("run: two modules have the expected outputs and ends for given inputs and bounds of turns and calls")
 def bounds() -> None:
     four_runs(COUNTS)
     ran(CALLS, " 2 1", "", "", 3)
@@ -56,14 +56,14 @@ def bounds() -> None:
     ran(CALLS, " 2 1")
 
 
-@test("run: after `rename`, a module with a WHILE has the same four runs")
+@test("run: a module with a WHILE has the same outputs and ends after one of its variables was renamed")
 def renamed_runs() -> None:
     found = on_file("rename", COUNTS, "1", "4", "k")
     ends(found, edited(COUNTS, ["1:4-1:5", "2:25-2:26", "3:11-3:12", "3:21-3:22", "3:30-3:31", "3:35-3:36"], "k"), 0)
     four_runs(found.out)
 
 
-@test("run: equal field names in two records, constants below 0 and a new TRUE have the expected results")
+@test("run: equal field names in two records, constants below 0 and a redeclared TRUE have the expected results")
 def before_edits() -> None:
     ran(RECORDS, " 3")
     ran(LEAST, " -2147483648")
@@ -71,7 +71,7 @@ def before_edits() -> None:
     ran(SHADOWED, "")
 
 
-@test("run: names refer to the innermost declaration, and to the right activation of a procedure")
+@test("run: a name refers to the innermost declaration, and to the right activation of a procedure")
 def scopes() -> None:
     ran(NESTED, " 1")
     ran(WRITES_A_GLOBAL, " 2 7")
@@ -79,7 +79,7 @@ def scopes() -> None:
     ran(ACTIVATIONS, "", "CallBound", "", 3)
 
 
-@test("run: VAR parameters are aliases, and refer to the element that was selected at the call")
+@test("run: a VAR parameter is an alias of the element that was selected at the call")
 def aliases() -> None:
     ran(ALIASES, " 0 10 0 1 20", "Index", "", 1)
     ran(ALIASES, "", "CallBound", "", 0)
@@ -98,7 +98,7 @@ def arithmetic() -> None:
     ran(body("x := -2147483647; Write(x - 1); Write(x - 2)"), " -2147483648", "Overflow")
 
 
-@test("run: relations give the right values, and & and OR skip an operand that isn't needed")
+@test("run: relations give the right values, and & and OR don't evaluate an operand that isn't needed")
 def truth() -> None:
     shows: Callable[[str], str] = lambda it: f"IF {it} THEN Write(1) ELSE Write(0) END"
     ran(body("; ".join(shows(it) for it in ("1 < 2", "1 <= 1", "2 > 2", "2 >= 2", "1 = 1", "1 # 1", "TRUE = FALSE", "TRUE # b"))), " 1 1 0 1 1 0 0 1")
@@ -107,7 +107,7 @@ def truth() -> None:
     ran(body(shows("b OR (1 DIV 0 = 1)")), "", "Divisor")
 
 
-@test("run: IF, WHILE and empty statements have the expected effects, and TurnBound ends an endless loop")
+@test("run: IF, WHILE and empty statements have their defined effects, and an endless loop ends with TurnBound")
 def statements() -> None:
     ran(body("IF b THEN Write(1) ELSIF x = 0 THEN Write(2) ELSE Write(3) END"), " 2")
     ran(body("IF b THEN Write(1) ELSIF b THEN Write(2) END; WriteLn; ;; Write(4)"), "\n 4")
@@ -126,7 +126,7 @@ def repeated() -> None:
     ran(REPEATED, " 2 1", "", "2", None, 2)
 
 
-@test("run: arrays and records are copied by value, and a wrong index ends a run with Index")
+@test("run: arrays and records are copied by value, and an index outside an array ends a run with Index")
 def arrays() -> None:
     ran(body("a[0] := 1; b := a; b[0] := 2; Write(a[0]); Write(b[0]); Write(b[1])", "a, b: ARRAY 2 OF INTEGER"), " 1 2 0")
     ran(body("r.x[1].y := 5; Write(r.x[1].y); Write(r.x[0].y); IF ~r.b THEN WriteLn END", "r: RECORD x: ARRAY 2 OF RECORD y: INTEGER END; b: BOOLEAN END"), " 5 0\n")
@@ -144,7 +144,7 @@ def begin_again() -> None:
     ran("MODULE M; PROCEDURE P; VAR x: INTEGER; b: BOOLEAN; BEGIN IF b THEN Write(9) END; x := x + 1; b := TRUE; Write(x) END P; BEGIN P; P END M.", " 1 1")
 
 
-@test("run: Read accepts whole numbers between white space, and other input ends a run with the fault Input")
+@test("run: Read accepts whole numbers between white space, and any other input ends a run with the fault Input")
 def inputs() -> None:
     text = body("Read(x); Read(y); Write(x + y)")
     ran(text, " 3", "", "1 2")
@@ -159,7 +159,7 @@ def inputs() -> None:
     ends(on_file("run", DIVIDES, given=b"1 x"), "", 4, "fault: Input\n")
 
 
-@test("run: a file that isn't well-typed is reported as by `check`, and its input isn't read")
+@test("run: `ob0 run` reports a file that isn't well-typed as `check` does, and doesn't read the input")
 def ill_typed() -> None:
     ends(on_file("run", "MODULE M; BEGIN x := 1 END M.", given=b"x"), "0:16: Undeclared: not declared\n", 1)
     ends(on_file("run", "", given=b"x"), "0:0: Syntax: expected MODULE\n", 1)
@@ -167,7 +167,7 @@ def ill_typed() -> None:
     ends(run(["run", "/nowhere"]), "", 4, "fault: File\n")
 
 
-@test("run: bounds over their limits and other bad command lines are refused with status 2")
+@test("run: `ob0 run` refuses a bound over its limit, or another bad argument, with status 2")
 def lines() -> None:
     for words in (["--calls", "65"], ["--turns", "100001"], ["--calls", "-1"], ["--turns=-1"], ["--calls", "x"], ["--calls"], ["y"]):
         found = on_file("run", DIVIDES, *words)
@@ -177,7 +177,7 @@ def lines() -> None:
     same(run(["run"]).status, 2)
 
 
-@test("run: options are accepted before the file and after it")
+@test("run: `ob0 run` accepts its options before and after the file")
 def options() -> None:
     with tempfile.TemporaryDirectory() as room:
         with open(os.path.join(room, "m.mod"), "w", encoding="utf-8") as file:
@@ -193,7 +193,7 @@ def declared_anew() -> None:
     ran("MODULE M; CONST TRUE = 1 = 2; BEGIN IF TRUE THEN Write(1) ELSE Write(0) END END M.", " 0")
 
 
-@test("run: a long run prints all of its 1,000 lines")
+@test("run: a module that prints 1,000 lines prints all of them")
 def long_run() -> None:
     text = body("WHILE x < 1000 DO y := 0; WHILE y < 100 DO Write(y); y := y + 1 END; WriteLn; x := x + 1 END")
     line = "".join(f" {at}" for at in range(100)) + "\n"
@@ -208,14 +208,15 @@ def longest_array() -> None:
     ran(text, " 7 0", "Index", "-1")
 
 
-@test("run: a procedure that would need 2^32 cells is accepted, and does no harm unless it is called")
+@test("run: a procedure that needs 2^32 cells is accepted, and the module runs unless the procedure is called")
 def too_many_cells() -> None:
     names = ",".join(f"v{at:x}" for at in range(65536))
     ran(f"MODULE M; TYPE T = ARRAY 65536 OF INTEGER; PROCEDURE P; VAR {names}: T; BEGIN END P; BEGIN Write(1) END M.", " 1")
     ran(f"MODULE M; TYPE T = ARRAY 65536 OF INTEGER; PROCEDURE P(b: INTEGER); VAR {names}: T; BEGIN Write(b) END P; BEGIN Write(1); P(2) END M.", " 1", "CallBound", calls=0)
 
 
-# the repeated text, how often, and the output: as long as a text of 1 MiB can be, or 100,000 times
+# for each chain: the function that makes its text, the number of links (as many as fit into 1 MiB, or 100,000), and the
+# output
 CHAINS: Dict[str, Tuple[Callable[[int], str], int, str]] = {
     "operands of +": (lambda count: body("Write(" + "+".join(["1"] * count) + ")"), 100000, " 100000"),
     "operands of *": (lambda count: body("Write(" + "*".join(["1"] * count) + ")"), 100000, " 1"),
@@ -233,7 +234,7 @@ CHAINS: Dict[str, Tuple[Callable[[int], str], int, str]] = {
 }
 
 
-@test("run: chains of 80,000 and more operands, ELSIF parts, statements, calls and selectors fit a stack of 4 MiB")
+@test("run: chains of 80,000 and more operands, ELSIF parts, statements, calls or selectors fit a stack of 4 MiB")
 def chains() -> None:
     for name, (make, count, out) in CHAINS.items():
         text = make(count)
@@ -242,9 +243,9 @@ def chains() -> None:
         same((found.out, found.err, found.status), (out.encode(), b"", 0), name)
 
 
-@test("run: the functions that a loop runs at each turn are inlined in the program")
+@test("run: the functions that a loop calls at each turn are inlined in the program")
 def inlined() -> None:
-    # (one that has grown too large isn't, without a word from the toolchain, and loops take a quarter longer)
+    # (the toolchain silently stops inlining a function that has grown too large, and loops then take a quarter longer)
     with open(BINARY, "rb") as file:
         program = file.read()
     if b"ob0_run_machine::statements::run_while" not in program:

@@ -55,7 +55,7 @@ def ran(words: list[str], work: str, environment: dict[str, str], given: str = "
     return found.returncode, found.stdout.decode(errors="surrogateescape"), found.stderr.decode(errors="surrogateescape")
 
 
-@test("scripts: ob0-format formats files and prints their names, and leaves formatted or faulty files unchanged")
+@test("scripts: ob0-format formats files and prints their names, and leaves formatted and invalid files unchanged")
 def lays_out() -> None:
     def trial(work: str, own: dict[str, str]) -> None:
         os.chmod(os.path.join(work, "loose.ob0"), 0o640)
@@ -75,7 +75,7 @@ def lays_out() -> None:
     in_folder(MODULES, trial)
 
 
-@test("scripts: ob0-format handles non-ASCII letters and each kind of line ending, and reads /dev/stdin")
+@test("scripts: ob0-format handles non-ASCII characters and each kind of line ending, and reads /dev/stdin")
 def in_bytes() -> None:
     text = "MODULE M;\r\n(* \u00e4\U0001f600 *)VAR x:INTEGER;\rBEGIN(*\u20ac*)x:=1 END M.\n"
 
@@ -89,7 +89,7 @@ def in_bytes() -> None:
     in_folder({"m.mod": text}, trial)
 
 
-@test("scripts: ob0-format formats standard input to standard output, formats folders, and prints differences")
+@test("scripts: ob0-format formats standard input and folders, and prints differences with --diff")
 def format_forms() -> None:
     def trial(work: str, own: dict[str, str]) -> None:
         same(ran(["ob0-format", "-"], work, own, LOOSE), (0, LAID_OUT, ""), "standard input")
@@ -129,7 +129,7 @@ END M.
 """
 
 
-@test("scripts: ob0-rename takes a position counted from 1, prints or replaces the file, and puts a refusal into words")
+@test("scripts: ob0-rename counts positions from 1, prints or replaces the file, and explains refusals in words")
 def rename_script() -> None:
     refusals = {
         "m.mod:2:5 y": (1, "m.mod:2:5: `y` is declared in line 2 already (Duplicate)"),
@@ -205,7 +205,7 @@ BEGIN
   Write(i)
 END M.
 """
-# the first numbers of the input, and lines that are printed of the fault
+# for each first number of the input: lines that ob0-trace prints about the fault
 TRACED: dict[str, list[str]] = {
     "0": ["m.mod:17:17: TurnBound: WHILE TRUE DO a[0] := a[0] + 1 END", "  in module M", "    p = (x = 3, b = TRUE)"],
     "1": [
@@ -254,7 +254,7 @@ def traced() -> None:
     in_folder({**MODULES, "m.mod": FAULTS, "gcd.mod": text_of("examples", "Gcd.mod")}, trial)
 
 
-@test("scripts: ob0-trace reports, with its own status, if its second run differs from `ob0 run`")
+@test("scripts: ob0-trace ends with status 6 if its second run differs from `ob0 run`")
 def traced_otherwise() -> None:
     said = "m.mod: the second run ends with Done or prints something else, unlike `ob0 run`: please report this\n"
     for line in ("printf ' 1 2'", "printf ' 1\\n'; echo 'fault: Index' >&2; exit 1"):
@@ -269,7 +269,7 @@ def traced_otherwise() -> None:
         in_folder({"m.mod": "MODULE M; BEGIN Write(1); WriteLn END M."}, trial)
 
 
-@test("scripts: ob0-format ends with 2 for a bad command line and 4 for bad files, and continues with the other files")
+@test("scripts: ob0-format ends with 2 for bad arguments and 4 for bad files, and continues with the other files")
 def format_statuses() -> None:
     def trial(work: str, own: dict[str, str]) -> None:
         with open(os.path.join(work, "latin.mod"), "wb") as file:
@@ -313,7 +313,7 @@ def server_with(
     )
 
 
-@test("scripts: ob0-format writes no text whose tokens differ, whatever a server answers")
+@test("scripts: ob0-format writes no text with changed tokens, whatever the server answers")
 def guarded() -> None:
     change: Callable[[str], list[Message]] = lambda new: [{"range": harness.extent("4:7-4:8"), "newText": new}]
     spaced = LAID_OUT.replace("1\n", "1 \n")
@@ -331,7 +331,7 @@ def guarded() -> None:
         in_folder(MODULES, trial)
 
 
-@test("scripts: ob0-format leaves a file unchanged if another program changes it before the server has answered")
+@test("scripts: ob0-format leaves a file unchanged if another program changed the text before the server's answer")
 def format_late() -> None:
     edits: list[Message] = [{"range": harness.extent("4:7-4:8"), "newText": "1 "}]
     trials: dict[str, tuple[str | None, str]] = {
@@ -356,10 +356,11 @@ def format_late() -> None:
         in_folder({"good.mod": LAID_OUT}, trial)
 
 
-@test("scripts: if writing fails, the old file is kept and no temporary file remains")
+@test("scripts: ob0-format keeps the old file if writing fails, and leaves no temporary file")
 def failed_write() -> None:
     def trial(work: str, own: dict[str, str]) -> None:
-        # (root may write everywhere, so it becomes another user, who may have no way into the folder of the sources)
+        # (root may write everywhere, so another user runs the script; that user may be unable to enter the sources'
+        # folder)
         room = os.path.dirname(work)
         for name in ("ob0", "ob0-format"):
             at = os.path.join(room, "bin", name)
@@ -381,7 +382,7 @@ LOCALES: list[dict[str, str]] = [{}, {"PYTHONIOENCODING": "utf-8:strict"}, {"PYT
 LOCALES.append({"LC_ALL": "C", "PYTHONCOERCECLOCALE": "0", "PYTHONUTF8": "0"})
 
 
-@test("scripts: ob0-format prints file names of any bytes in any locale, and tries each file")
+@test("scripts: ob0-format prints file names of any bytes in any locale, and formats each file")
 def format_names() -> None:
     def trial(more: dict[str, str], work: str, own: dict[str, str]) -> None:
         found = ran(["ob0-format", "--check", *NAMES], work, {**own, **more})
@@ -397,7 +398,7 @@ def format_names() -> None:
 CLOSED = "import os, sys; r, w = os.pipe(); os.close(r); os.dup2(w, 1); os.execvp(sys.argv[1], sys.argv[1:])"
 
 
-@test("scripts: ob0-format formats each file even if the names can't be printed, and reports that once")
+@test("scripts: ob0-format formats each file even if the names can't be printed, and reports the failure once")
 def format_unprinted() -> None:
     def trial(line: str, why: str, work: str, own: dict[str, str]) -> None:
         found = ran(["sh", "-c", line, "sh", *NAMES], work, own)
@@ -412,7 +413,7 @@ def format_unprinted() -> None:
         in_folder(dict.fromkeys(NAMES, LOOSE), functools.partial(trial, line, why))
 
 
-@test("scripts: ob0-format keeps owner, mode, attributes and line endings, and skips read-only and hard-linked files")
+@test("scripts: ob0-format keeps owner, mode, attributes and line endings, and refuses read-only and hard-linked files")
 def format_keeps() -> None:
     def trial(work: str, own: dict[str, str]) -> None:
         file = os.path.join(work, "loose.ob0")
@@ -436,7 +437,7 @@ def format_keeps() -> None:
     in_folder({**dict.fromkeys(("loose.ob0", "read.mod", "first.mod"), LOOSE), "dos.mod": LOOSE.replace("\n", "\r\n")}, trial)
 
 
-@test("scripts: ob0-format leaves another user's file unchanged if it can't keep the owner")
+@test("scripts: ob0-format leaves another user's file unchanged if it can't keep the file's owner")
 def format_others() -> None:
     want("root")
 
@@ -455,7 +456,7 @@ def format_others() -> None:
     in_folder({"good.mod": LAID_OUT}, trial)
 
 
-@test("scripts: ob0-format refuses to replace a device, and reads no more from one than a module may have")
+@test("scripts: ob0-format refuses to replace a device, and reads no more from a device than the longest module")
 def format_devices() -> None:
     refused = "/dev/stdin: only a file can be replaced\n"
 
@@ -483,7 +484,7 @@ def first_by(lines: str, answers: list[Content], work: str, own: dict[str, str])
     return {**own, "PATH": other + os.pathsep + own["PATH"]}
 
 
-@test("scripts: ob0-format continues with a new server if the old one fails on a file")
+@test("scripts: ob0-format starts a new server for the next file if the server fails on a file")
 def format_again() -> None:
     strange: list[Content] = [*STARTED, {"method": "textDocument/publishDiagnostics"}]
     for answers, said in ((STARTED, "the server ended"), (strange, "the server answers something else than it has to")):
@@ -509,7 +510,7 @@ runpy.run_path(sys.argv[0], run_name="__main__")
 SIGNALS = (signal.SIGINT, signal.SIGTERM, signal.SIGHUP)
 
 
-@test("scripts: a signal ends ob0-format and its server, and leaves no half-written and no temporary file")
+@test("scripts: a signal ends ob0-format and its server, and leaves neither a half-written nor a temporary file")
 def format_signalled() -> None:
     def while_it_writes(number: int, work: str, own: dict[str, str]) -> None:
         status, out, _ = ran(["python3", "-c", SIGNALLED, str(int(number)), FORMAT, "a.mod", "b.mod"], work, own)
@@ -542,7 +543,7 @@ ODD = ["-ugly.mod", "100%, a:b.mod", "1:x.mod", "it's.mod", 'quote".mod', "back\
 ESCAPED = [("%", "%25"), ("\n", "%0A"), (":", "%3A"), (",", "%2C")]
 
 
-@test("scripts: ob0-check lists the errors of several files as compilers do, or for GitHub, with the worst status")
+@test("scripts: ob0-check lists errors of several files as compilers do or for GitHub, and ends with the worst status")
 def check_script() -> None:
     def trial(work: str, own: dict[str, str]) -> None:
         same(
@@ -642,7 +643,7 @@ def check_json() -> None:
     in_folder(MODULES, trial)
 
 
-@test("scripts: ob0-check --hints prints a hint below a message, and includes it in the other formats")
+@test("scripts: ob0-check --hints prints a hint below a message, and includes the hint in the other formats")
 def check_hints() -> None:
     text = "MODULE M;\nVAR x: INTEGER;\nBEGIN\n  x = 1\nEND M.\n"
     hint = "an assignment is written `:=`, as in `x := 1`; `=` compares"
@@ -681,7 +682,7 @@ def check_names() -> None:
     in_folder(dict.fromkeys(names, FAULTY), trial)
 
 
-@test("scripts: ob0-check says once that standard output can't be written")
+@test("scripts: ob0-check reports once that standard output can't be written, and ends with status 4")
 def check_unprinted() -> None:
     for line, why in (
         (f'exec python3 -c "{CLOSED}" ob0-check "$@"', "Broken pipe"),
@@ -694,7 +695,7 @@ def check_unprinted() -> None:
         same(found, (4, "", f"ob0-check: standard output can't be written: {why}\n"), line)
 
 
-# files that end as modules do, and whether they are some
+# files with names like modules', with their texts, and whether they are modules
 TAKEN = [
     ("go.mod", "module example\n", False),
     ("go/tools.mod", "module example.com/x\n", False),
@@ -715,7 +716,7 @@ TAKEN = [
 ]
 
 
-@test("scripts: in a folder ob0-check and ob0-format handle only module files, and skip links and hidden folders")
+@test("scripts: ob0-check and ob0-format handle only the modules of a folder, and skip links and hidden folders")
 def taken() -> None:
     def trial(work: str, own: dict[str, str]) -> None:
         for name, target in (("link.mod", "f.mod"), ("links", "lib")):
@@ -736,7 +737,7 @@ def taken() -> None:
     in_folder({name: text for name, text, _ in TAKEN}, trial)
 
 
-@test("scripts: a folder that can't be read is reported, and the files after it are checked")
+@test("scripts: ob0-check reports a folder that can't be read, and checks the files after it")
 def unreadable() -> None:
     def trial(work: str, own: dict[str, str]) -> None:
         room = os.path.dirname(work)
@@ -757,7 +758,7 @@ def unreadable() -> None:
 ENDLESS = "MODULE Gcd;\nBEGIN\n  WHILE TRUE DO\n  END\nEND Gcd.\n"
 
 
-@test("scripts: the line in docs/CI.md compares a module's output with the expected one, and fails after a run's fault")
+@test("scripts: the line in docs/CI.md that compares a module's output fails after a different output or a fault")
 def run_script() -> None:
     files = {f"Gcd.{it}": text_of("examples", f"Gcd.{it}") for it in ("mod", "in", "out")}
     faulty = "a: ARRAY 1 OF INTEGER;\n" + files["Gcd.mod"].partition("VAR\n")[2]
@@ -770,7 +771,7 @@ def run_script() -> None:
         same((found[0], found[2] if said else ""), (status, said), f"with {more}: {found}")
 
 
-@test("scripts: FILE may be /dev/stdin for the commands that docs/CI.md lists")
+@test("scripts: the commands that docs/CI.md lists accept /dev/stdin as FILE")
 def standard_input() -> None:
     def trial(work: str, own: dict[str, str]) -> None:
         same(ran(["ob0", "check", "/dev/stdin"], work, own, LAID_OUT), (0, "", ""), "check")
@@ -810,7 +811,7 @@ def hook() -> None:
         git(work, own, "add", ".")
         status, out, err = git(work, own, "commit", "-q", "-m", "all")
         holds(status == 1 and "\n".join([*LISTED, ""]) in err, f"the errors: {out}{err}")
-        # (what is in the folder doesn't count)
+        # (the staged text counts, and the file in the folder doesn't)
         write(os.path.join(work, "two words.Mod"), LAID_OUT)
         same(git(work, own, "commit", "-q", "-m", "all")[0], 1, "a commit of what isn't in the folder any more")
         git(work, own, "add", ".")
@@ -826,7 +827,7 @@ def hook() -> None:
     in_folder({**MODULES, "other.txt": FAULTY, "go.mod": "module example.com/x\n"}, trial)
 
 
-@test("scripts: the hook in docs/CI.md checks files of any name, and follows no links")
+@test("scripts: the hook in docs/CI.md checks staged files of any name, and follows no links")
 def hook_names() -> None:
     if not shutil.which("git"):
         harness.leave_out("it needs git")

@@ -26,14 +26,14 @@ def begun(count: int, given: Optional[str]) -> Tuple[List[int], str]:
         return seeds.seeds(count), said.getvalue()
 
 
-@test("seeds: half of the numbers depend on the commit, unless OB0_SEED sets them all; the first ones are printed")
+@test("seeds: half of the random numbers depend on the commit unless OB0_SEED sets all, and the first ones are printed")
 def half_of_them() -> None:
     same(begun(6, None), ([0, 1, 2, 5000, 5001, 5002], "    seeds begin at 0 and 5000\n"))
     same(begun(1, None)[0], [0, 5000], "for one of each")
     same(begun(3, "77"), ([77, 78, 79], "    seeds begin at 77\n"), "with OB0_SEED=77")
 
 
-@test("seeds: a failing text is shortened by whole lexemes as long as it still fails")
+@test("seeds: a failing text is shortened by whole lexemes as long as the shorter text still fails")
 def shorter() -> None:
     rows: List[Tuple[Callable[[str], bool], str]] = [
         (lambda it: "WHILE" in it and "+" in it, "WHILE +"),
@@ -47,7 +47,7 @@ def shorter() -> None:
         same("".join(found.split()), "".join(wanted.split()), "the shortest text")
 
 
-@test("seeds: a check that fails once by chance isn't reported as failing on a shorter text")
+@test("seeds: a check that fails only once isn't reported as failing on a shorter text")
 def by_chance() -> None:
     times = [0]
 
@@ -59,7 +59,7 @@ def by_chance() -> None:
     fail_shortly(TEXT, check)
 
 
-@test("seeds: a diagnostic or a run that the reference contradicts is shown on a shortened text, with its number")
+@test("seeds: a result that differs from the reference's is shown with a shortened text and the text's number")
 def against_another() -> None:
     need_program()
     diagnostics, run = against_reference.diagnostics_of, against_reference.Short

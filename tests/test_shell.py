@@ -18,7 +18,7 @@ from snippets import fenced
 T = TypeVar("T")
 SHARE = os.path.join(TOP, "share")
 COMMANDS = ["check", "rename", "run", "serve"]
-# what is typed, and what is offered, in a folder with these files
+# typed lines, each with the offers that are expected in a folder with these files
 FILES = ["a.ob0", "b.mod", "c.Mod", "d.txt"]
 MODULES = ["a.ob0", "b.mod", "c.Mod"]
 OFFERED = [
@@ -63,7 +63,7 @@ def environment(room: str) -> dict[str, str]:
     return {**os.environ, "HOME": room, "LC_ALL": "C.UTF-8", "TERM": "dumb"}
 
 
-@test("shell: the completions and the manual page list the program's commands and options")
+@test("shell: the manual page lists each command and each option of the program")
 def commands() -> None:
     found = run(["--help"])
     listed = re.findall(r"^  (\w+)  +\w", found.out.decode().partition("Commands:")[2].partition("Options:")[0], re.M)
@@ -107,7 +107,7 @@ def in_fish() -> None:
 
     for typed, wanted in OFFERED:
         found = in_folder(functools.partial(offered, typed=typed))
-        # (it also offers `--` among the commands)
+        # (fish also offers `--` among the commands)
         same([it for it in found if it != "--" or it in wanted], sorted(wanted), f"after `{typed}`")
     # (words that fish expands, and words after the file)
     for given, wanted in {"~/a": ["~/a.ob0"], "$HOME/a": ["$HOME/a.ob0"], "'b": ["b.mod"]}.items():
@@ -135,7 +135,8 @@ def in_zsh() -> None:
                 return screen.drawn.decode(errors="replace")
 
             said(setup, "ready")
-            # (Tab twice: to the longest common beginning, and then the list; then the line is dropped)
+            # (the first Tab completes the common beginning, and the second lists the offers; then Ctrl-U removes the
+            # line)
             return [said(f"{typed}\t\t\x15echo do''ne{at}\n", f"done{at}") for at, (typed, _) in enumerate(OFFERED)]
 
     for (typed, wanted), shown in zip(OFFERED, in_folder(all_offered)):
@@ -147,7 +148,7 @@ def in_zsh() -> None:
                 holds(word not in shown, f"{word} is offered after `{typed}`: {shown!r}")
 
 
-@test("shell: mandoc accepts the manual pages without a warning")
+@test("shell: mandoc accepts each manual page without a warning")
 def manual() -> None:
     want("mandoc")
     for it in ("ob0.1", *(f"{it}.1" for it in package.SCRIPTS)):
@@ -165,7 +166,7 @@ def manual() -> None:
 PAGES = ["README.md", "examples/README.md"]
 
 
-@test("shell: the transcripts of README.md and examples/README.md are what the program prints")
+@test("shell: the transcripts in README.md and examples/README.md show what the program prints")
 def transcripts() -> None:
     need_program()
     blocks = [text for it in PAGES for name, text in fenced(it) if name == "console"]
@@ -179,7 +180,7 @@ def transcripts() -> None:
             same(said, block)
 
 
-@test("shell: the README's three lines write a first module, find no error in it and run it")
+@test("shell: the README's three lines write a first module, find no error in it, and run it")
 def first_module() -> None:
     need_program()
     page = text_of("README.md").partition("\n## A first module\n\n")[2]
@@ -192,7 +193,7 @@ def first_module() -> None:
         same(run_plainly(["sh", "-e", "-c", "\n".join(lines)], own, work), (0, printed + "\n"), "what they print")
 
 
-@test("shell: `make` without a goal prints the goals")
+@test("shell: `make` without a goal prints the list of goals")
 def alone() -> None:
     lines = [re.sub("^# ?", "", it) for it in text_of("Makefile").partition("\nPREFIX")[0].splitlines()]
     same(run_plainly(["make", "--silent"], dict(os.environ), TOP), (0, "\n".join(lines) + "\n"))

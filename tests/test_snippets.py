@@ -70,7 +70,7 @@ def alike() -> None:
     same(of_emacs(), of_vscode(), "Emacs's")
 
 
-@test("snippets: each snippet, put in a module, has no diagnostics and is formatted as the server would format it")
+@test("snippets: each snippet, put in a module, is valid and formatted as the server would format it")
 def correct() -> None:
     with Server() as server:
         for key, _, body in of_vscode():
@@ -81,7 +81,7 @@ def correct() -> None:
             same(server.query("textDocument/formatting", options).get("result"), [], f"the layout of {text}")
 
 
-@test("snippets: yasnippet expands each snippet in Emacs as expected")
+@test("snippets: yasnippet expands each snippet in Emacs to the text of VS Code's snippet")
 def in_emacs() -> None:
     want("Emacs", "yasnippet")
     with temporary() as room:
@@ -95,5 +95,5 @@ def in_emacs() -> None:
         same(status, 0, said[-1500:])
         got = [it.split() for it in said.split("--\n")[:-1]]
         wanted = [filled(body).replace("WriteLn", "").split() for _, _, body in of_vscode()]
-        # (before the first one Emacs says what it loads)
+        # (before the first snippet Emacs prints what it loads)
         same([it[-len(due) :] for it, due in zip(got, wanted)], wanted, said[-1500:])

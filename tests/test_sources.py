@@ -22,14 +22,14 @@ from harness import TOP, holds, same, test, text_of, want
 from homes import run_plainly
 
 
-@test("sources: each mutant's old text is in its file exactly once, and its new text is different")
+@test("sources: each mutant's old text occurs exactly once in its file, and differs from its new text")
 def mutants_fit() -> None:
     found = [it for crate in common.listed() for it in edits.edits_of(crate)]
     holds(found, "no mutants were found")
     same([f"{it.crate}/{it.name}: {it.why}" for it in found if it.why], [], "mutants that don't fit their sources")
 
 
-@test("sources: each mutant's first line gives the clause that refuses it, and README has the numbers of mutants")
+@test("sources: each mutant's first line gives the clause that refuses it, and README has the right numbers of mutants")
 def mutants_explained() -> None:
     found = [it for crate in common.listed() for it in edits.edits_of(crate)]
     same([it.path for it in found if not it.claim], [], "mutants without such a line")
@@ -57,7 +57,7 @@ def mutants_name_clauses() -> None:
     same(wrong, [], "mutants with another clause or function")
 
 
-@test("sources: the picture of the rooms agrees with crates.txt, and no arrow goes up")
+@test("sources: the picture of the rooms agrees with crates.txt, and no arrow in the picture goes up")
 def rooms_drawn() -> None:
     page = text_of(os.path.relpath(rooms.PAGE, TOP))
     found = match_of(rooms.PICTURE.pattern, page, rooms.PICTURE.flags)
@@ -70,8 +70,8 @@ def rooms_drawn() -> None:
 @test("sources: no mutant adds a loop")
 def mutants_without_loops() -> None:
     found = [it for crate in common.listed() for it in edits.edits_of(crate)]
-    # (the prover requires an invariant for a new loop, or uses another loop's: such a mutant is refused whatever it
-    # does)
+    # (a mutant that adds a loop is refused whatever it does: the prover requires an invariant for the new loop, or uses
+    # another loop's)
     same([it.path for it in found if it.adds_loop], [], "mutants that add a loop")
 
 
@@ -92,10 +92,10 @@ def named_files() -> None:
         same(missing, [], f"missing files that {page} mentions")
 
 
-@test("sources: every function of the scripts, tests and measurements has types, and they fit (mypy --strict)")
+@test("sources: each function in the scripts, tests and measurements has types that `mypy --strict` accepts")
 def types_fit() -> None:
     want("mypy")
-    # (two scripts have the name run.py, and scripts of share/ have no ending: so they are checked separately)
+    # (two scripts are named run.py, and scripts of share/ have no ending, so these are checked separately)
     scripts = [[f"share/{it}"] for it in package.SCRIPTS]
     most = ["tools/*.py", "tests/**/*.py", "examples/exercises/*.py", "share/ob0/**/*.py"]
     for patterns in (most, *scripts, ["bench/*.py"]):
@@ -105,7 +105,7 @@ def types_fit() -> None:
         same(status, 0, said[-3000:])
 
 
-@test("sources: bench/sizes.py succeeds, and prints the counts of tokens, concepts, functions and searches")
+@test("sources: bench/sizes.py ends with status 0, and prints the counts of tokens, concepts, functions and searches")
 def sizes_counted() -> None:
     status, said = run_plainly([sys.executable, os.path.join("bench", "sizes.py")], dict(os.environ), TOP)
     same(status, 0, said[-3000:])
@@ -114,9 +114,9 @@ def sizes_counted() -> None:
         holds(word in said, f"{word}: {said}")
 
 
-# pages with names in backticks that aren't of the sources: words that users type, and what isn't Oberon-0
+# pages whose names in backticks may be missing from the sources: words that users type, and other languages' code
 OF_USERS = ("docs/MESSAGES.md", "editors/", "examples/")
-# words in backticks that name no part of the sources: of the kit, of the system, of editors, of commands, or examples
+# words in backticks that name no part of the sources: words of the kit, the system, editors or commands, and examples
 OTHERS = {"FILE", "NAME", "WORDS", "XWriteJson", "X_made", "Lts", "Proof", "tidy", "Serialize", "getrusage", "nm"}
 OTHERS |= {"Interrupted", "Rc", "changedtick", "codeDescription", "keystroke", "text_of_value"}
 # types of the kit, whose names in pairs aren't checked
@@ -131,7 +131,7 @@ def known_words() -> Set[str]:
     words = {word for it in files if os.path.isfile(it) for word in re.findall(r"\w+", text_of(it))}
     words |= {word for it in files for word in re.findall(r"\w+", os.path.relpath(it, TOP))} | {*common.listed()} | OTHERS
     words |= {word for names in common.listed().values() for word in names}
-    # (of mutants the names count, and not what is in them)
+    # (a mutant's name counts, and the mutant's text doesn't)
     mutants = [it for crate in common.listed() for it in edits.edits_of(crate)]
     return words | {os.path.splitext(os.path.basename(it.file))[0] for it in mutants}
 
@@ -157,7 +157,7 @@ def all_pages() -> List[str]:
     return [os.path.relpath(it, TOP) for it in found]
 
 
-@test("sources: the names that pages cite exist in the sources, and in `A::b` the name `b` belongs to `A`")
+@test("sources: each name that a page cites exists in the sources, and in `A::b` the name `b` belongs to `A`")
 def cited_names() -> None:
     words, pairs, pages = known_words(), known_pairs(), all_pages()
     holds(len(pages) > 40 and len(pairs) > 2000, "few pages or names were found")
@@ -173,7 +173,7 @@ def cited_names() -> None:
 @test("sources: each search at the start of a recipe in CONTRIBUTING.md finds something outside that page")
 def searches_find() -> None:
     want("git")
-    # (the sources may lie outside a repository)
+    # (the sources may be outside a repository)
     without = [] if os.path.exists(os.path.join(TOP, ".git")) else ["--no-index", "--exclude-standard"]
     searches = [it.replace("\n", " ") for it in re.findall(r"`(git grep [^`]*)`", text_of("CONTRIBUTING.md"))]
     searches = [it for it in searches if any(not word.startswith("-") for word in shlex.split(it)[2:])]
@@ -188,14 +188,14 @@ def searches_find() -> None:
     same(nothing, [], "searches that find nothing")
 
 
-# names that types of the code, and types or facts of the definitions, have in two files
+# names that may be in two files: of types in the code, and of types or facts in the definitions
 DOUBLED = {
     "src": set(),
     "specs": {"Place", "WalkState"},
 }
 
 
-@test("sources: no two types of the code share a name, nor two types or facts of the definitions, except listed ones")
+@test("sources: no two types in the code share a name, and no two types or facts in definitions, unless it is listed")
 def names_apart() -> None:
     in_code = r"^\s*(?:pub(?:\(\w+\))? )?(?:struct|enum|trait) (\w+)"
     in_definitions = r"^ *(?:(?:abbrev|pub|record|data) )+([A-Z]\w*)(?: |$)"

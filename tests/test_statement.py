@@ -114,14 +114,14 @@ class Counted:
         return found
 
 
-@test("statement: docs/STATEMENT.md is generated from the present sources")
+@test("statement: docs/STATEMENT.md is up to date with the sources that it is generated from")
 def statement() -> None:
     checked = ran("--check")
     if checked.returncode:
         raise Failed(checked.stdout[-3000:])
 
 
-@test("statement: no name is defined twice on the two pages")
+@test("statement: no name is defined twice in docs/STATEMENT.md and bin/DEFINITIONS.md")
 def names_once() -> None:
     blocks = [text for page in (text_of(PAGE), second()) for _, text in fenced("agda", page)]
     names = [name for text in blocks for name in re.findall(rf"^(?!--){WORDS_BEFORE}(\S+) [^=\n]*?:(?: |$)", text, re.M)]
@@ -134,7 +134,7 @@ def line_of(begin: str) -> int:
     return next(i for i, line in enumerate(text_of(PAGE).splitlines(), 1) if line.startswith(begin))
 
 
-@test("statement: the page has the sentence, the theorem, the editor's duties, the guarantees and `serve`, in order")
+@test("statement: STATEMENT.md shows the headline, theorem, editor's duties, guarantees and `serve` in this order")
 def in_order() -> None:
     places = [line_of(it) for it in ("> In every interleaving", "pub record ServeGuaranteesHoldForExchange ", "abbrev pub IsAllowedMove ", "pub record GuaranteesHoldForExchange ", "pub fn serve<")]
     same(places, sorted(places), "the order of the page")
@@ -146,7 +146,7 @@ def quoted(page: str) -> str:
     return " ".join(match_of(r"(?:^> .*\n)+", text_of(page), re.M)[0].replace("> ", "").split())
 
 
-@test("statement: the page, PROMISES.md and the comment of `play_in` state the headline in the same words")
+@test("statement: STATEMENT.md, PROMISES.md and the comment of `play_in` state the headline in the same words")
 def one_headline() -> None:
     comment = match_of(r"((?: *///.*\n)+) *pub fn play_in\(", text_of("crates", "ob0_world", "src", "world.rt"))[1]
     paragraphs = [" ".join(it.split()) for it in re.sub(r"^ *///", "", comment, flags=re.M).split("\n\n")]
@@ -166,7 +166,7 @@ PARTS = {"docs/STATEMENT.md": PAGE, **{f"Part {part}": "" for part in range(4, 1
 SUMS = {"Without the language": 3, "With the language": 4}
 
 
-@test("statement: the pages have at most 260 definitions and 1,190 lines, or 505 and 2,800 with the language")
+@test("statement: the pages have at most 260 definitions and 1,190 lines, and 505 and 2,800 with the language")
 def short_enough() -> None:
     table = rows()
     for name, most in (("Without the language", (260, 1190)), ("With the language", (505, 2800))):
@@ -181,7 +181,7 @@ def text_of_part(part: str) -> str:
     return next(it for it in re.split(r"^(?=## )", second(), flags=re.M) if it.startswith(f"## {part}"))
 
 
-@test("statement: the table's counts of each part, and their sums, match the pages")
+@test("statement: the counts in the table of the parts, and their sums, match the pages")
 def counts_hold() -> None:
     table = rows()
     same([it for it in table if it not in SUMS], [*PARTS], "the parts of the table")
@@ -195,7 +195,7 @@ def counts_hold() -> None:
         same(found, table[part][0], f"the definitions of {part}")
 
 
-@test("statement: the first page has the contract of `serve`, and the second has both sides of `play_in`'s contract")
+@test("statement: STATEMENT.md contains the contract of `serve`, and DEFINITIONS.md both sides of `play_in`'s contract")
 def tie_is_there() -> None:
     first = "\n".join(text for _, text in [*fenced("agda", text_of(PAGE)), *fenced("rust", text_of(PAGE))])
     for it in ("pub fn serve<", "record ServeGuaranteesHoldForExchange ", "record GuaranteesHoldForExchange ", "record AppliesAnswer ", "IsAllowedMove :", "ExchangeTakesTurn :"):
@@ -207,7 +207,7 @@ def tie_is_there() -> None:
 
 
 
-# (the names that a comment under a definition or a contract explains)
+# (matches the names that a comment below a definition or a contract explains)
 NOTE = r"^(?:--|//)   (?! )([^:]+): "
 
 
@@ -222,7 +222,7 @@ def shown_first() -> list[Place]:
     return found
 
 
-@test("statement: each name in a definition of the page is defined there, or explained below a definition that uses it")
+@test("statement: each name in a definition of STATEMENT.md is defined there, or explained below a definition with it")
 def nothing_unsaid() -> None:
     counted = Counted()
     read, shown = text_of(PAGE).partition("\n## The notation\n")[0], shown_first()
@@ -267,7 +267,7 @@ def spoken_for() -> None:
     same([path for path in files if not os.path.exists(os.path.join(TOP, path))], [], "missing files and folders")
 
 
-@test("statement: each link of the drawn chain is marked proved, tested or trusted, and exists in the code")
+@test("statement: each link of the chain in STATEMENT.md is marked proved, tested or trusted, and exists in the code")
 def chain_drawn() -> None:
     drawn = match_of(r"^```\n(editor +(?:.+\n)+?)```", text_of(PAGE), re.M)[1].splitlines()
     links = [it for it in drawn if ":" in it]

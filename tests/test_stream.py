@@ -22,19 +22,19 @@ def ended(found: Ended, out: bytes, status: int, err: bytes = b"") -> None:
     same(found.status, status, "the status")
 
 
-@test("stream: the first conversation, sent all at once, gets the expected bytes")
+@test("stream: a short conversation that is sent all at once gets the expected bytes")
 def at_once() -> None:
     same([len(it) for it in IN], HEADS_IN, "the lengths that come in")
     same([len(it) for it in OUT], HEADS_OUT, "the lengths that go out")
     ended(run(["serve"], INPUT), OUTPUT, 0)
 
 
-@test("stream: the first conversation, sent one byte at a time, gets the expected bytes")
+@test("stream: a short conversation that is sent one byte at a time gets the expected bytes")
 def by_bytes() -> None:
     ended(serve_in_pieces([INPUT[at : at + 1] for at in range(len(INPUT))]), OUTPUT, 0)
 
 
-@test("stream: the first conversation, cut between the two line ends of each head, gets the expected bytes")
+@test("stream: a short conversation that is cut between the two line ends of each head gets the expected bytes")
 def between_line_ends() -> None:
     cuts = [border + len(b"Content-Length: %d\r\n" % length) for border, length in zip(BORDERS, HEADS_IN)]
     pieces = [INPUT[start:end] for start, end in zip([0, *cuts], [*cuts, len(INPUT)])]
@@ -42,13 +42,13 @@ def between_line_ends() -> None:
     ended(serve_in_pieces(pieces), OUTPUT, 0)
 
 
-@test("stream: the first conversation, cut in two after any byte, gets the expected bytes")
+@test("stream: a short conversation that is cut in two after any byte gets the expected bytes")
 def in_two() -> None:
     for cut in range(1, len(INPUT)):
         ended(serve_in_pieces([INPUT[:cut], INPUT[cut:]]), OUTPUT, 0)
 
 
-@test("stream: if the first conversation stops after any byte, whole messages are answered, a partial one is Truncated")
+@test("stream: if a short conversation stops after any byte, whole messages are answered, a partial one is Truncated")
 def ended_early() -> None:
     for end in range(len(INPUT) + 1):
         whole = BORDERS.index(end) if end in BORDERS else None
@@ -72,12 +72,12 @@ def bad_head() -> None:
     ended(serve(INPUT[: BORDERS[1]] + b"Content-Length: x\r\n\r\n"), frame(FIRST), 3, b"fault: BadHead\n")
 
 
-@test("stream: nothing is read after a bad head")
+@test("stream: no message after a bad head is answered")
 def behind_bad_head() -> None:
     ended(serve(b"Content-Length: x\r\n\r\n" + INPUT), b"", 3, b"fault: BadHead\n")
 
 
-@test("stream: if `exit` and a bad head come in one piece, the server ends with status 0")
+@test("stream: the server ends with status 0 if `exit` and then a bad head arrive in one piece")
 def exit_before_bad_head() -> None:
     ended(serve(INPUT + b"Content-Length: x\r\n\r\n"), OUTPUT, 0)
 
@@ -101,7 +101,7 @@ REFUSED = {
 }
 
 
-@test("stream: a bad head, such as one with two lengths, stops the server with BadHead")
+@test("stream: each kind of bad head, such as a head with two lengths, stops the server with BadHead")
 def refused_heads() -> None:
     same(REFUSED["a head of 4,097 bytes"].index(b"[]"), 4097, "the length of that head")
     for name, given in REFUSED.items():
@@ -121,7 +121,7 @@ TAKEN = {
 }
 
 
-@test("stream: unusual but valid heads are accepted")
+@test("stream: each unusual but valid kind of head is accepted")
 def taken_heads() -> None:
     same(TAKEN["a head of 4,096 bytes"].index(b"[]"), 4096, "the length of that head")
     for name, given in TAKEN.items():
@@ -139,7 +139,7 @@ LAST_HEADS = {
 }
 
 
-@test("stream: the last message of the first conversation may have any other valid head")
+@test("stream: the last message of a conversation may have any other valid head")
 def other_heads() -> None:
     same(len(LAST_HEADS["4,096 bytes"]), 4096, "the length of that head")
     for name, head in LAST_HEADS.items():
@@ -147,30 +147,30 @@ def other_heads() -> None:
         same((found.out, found.err, found.status), (OUTPUT, b"", 0), name)
 
 
-@test("stream: 4,095 bytes without an empty line, and then the end, stop the server with Truncated")
+@test("stream: an input of 4,095 bytes without an empty line stops the server with Truncated")
 def almost_a_bad_head() -> None:
     ended(serve(b"a" * 4095), b"", 3, b"fault: Truncated\n")
 
 
-@test("stream: a content of 16,777,216 bytes is accepted")
+@test("stream: a message with a content of 16,777,216 bytes is accepted")
 def largest_content() -> None:
     content = b"[" + b" " * (16777216 - 2) + b"]"
     ended(serve(b"Content-Length: 16777216\r\n\r\n" + content), NO_MESSAGE, 1)
 
 
-@test("stream: if only two of the promised 16,777,216 bytes come, the server ends with Truncated")
+@test("stream: the server ends with Truncated if only two of the announced 16,777,216 bytes arrive")
 def promised_content() -> None:
     found = run(["serve"], b"Content-Length: 16777216\r\n\r\n[]")
     ended(found, b"", 3, b"fault: Truncated\n")
 
 
-@test("stream: an end of input between messages gives status 1, even after shutdown")
+@test("stream: an end of input between two messages ends the server with status 1, even after shutdown")
 def end_after_shutdown() -> None:
     found = serve([initialize(), SHUTDOWN])
     same((len(unframed(found.out)), found.err, found.status), (2, b"", 1))
 
 
-@test("stream: if the reader of its output has gone, the server ends with the fault Write")
+@test("stream: the server ends with `fault: Write` if nobody reads its output any more")
 def gone_reader() -> None:
     reader, writer = os.pipe()
     os.close(reader)
@@ -181,11 +181,11 @@ def gone_reader() -> None:
     same((err, process.returncode), (b"fault: Write\n", 4))
 
 
-# sequences of bytes that are no UTF-8
+# byte sequences that aren't valid UTF-8
 BROKEN = [b"\xff", b"\x80", b"\xc3", b"\xc0\x80", b"\xc1\xbf", b"\xe2\x82", b"\xe0\x80\xaf", b"\xed\xa0\x80", b"\xf0\x9f\x98", b"\xf4\x90\x80\x80", b"\xf8\x88\x80\x80\x80"]
 
 
-@test("stream: a content with invalid UTF-8 is answered with `not JSON`, wherever the invalid bytes are")
+@test("stream: a content with invalid UTF-8 at any place is answered with `not JSON`")
 def broken_utf8() -> None:
     refused = '{"error":{"code":-32700,"message":"not JSON"},"id":null,"jsonrpc":"2.0"}'
     places = [IN[1].index(it) + len(it) for it in (b"{", b'"te', b"MODULE M; ", b'"file:')]
@@ -206,7 +206,7 @@ def mutated(seed: int) -> bytes:
     return bytes(given)
 
 
-@test("stream: randomly changed bytes end a conversation with one of its statuses, and each sent message is whole")
+@test("stream: a conversation with random changes of bytes ends with a known status, and each sent message is whole")
 def garbage() -> None:
     for seed in seeds(COUNT):
         found = serve(mutated(seed))

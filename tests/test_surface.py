@@ -19,7 +19,7 @@ import reading
 from harness import TOP, Failed, holds, leave_out, same, test
 
 
-@test("surface: each public function has a comment, and a mutant, or a reason why not")
+@test("surface: each public function has a comment, and either a mutant or a reason for having none")
 def surface() -> None:
     if not shutil.which("rt"):
         leave_out("rt, which reads the sources, is missing")
@@ -30,7 +30,7 @@ def surface() -> None:
         raise Failed(ran.stdout[-3000:])
 
 
-@test("surface: the page describes each crate, and lists the promises and definitions of its functions")
+@test("surface: bin/SURFACE.md describes each crate, and lists the promises and definitions of its functions")
 def made_page() -> None:
     if not shutil.which("rt"):
         leave_out("rt, which reads the sources, is missing")
@@ -48,7 +48,7 @@ def made_page() -> None:
     holds(len(rows) > 400, f"{len(rows)} public functions")
 
 
-# The calls that the specification names, by crate. (A method of a trait stands under the trait.)
+# The calls that the specification names, by crate. A trait's method is listed under the trait.
 PROMISED: Dict[str, str] = {
     "ob0_frame": "Framer::new Framer::feed Framer::next Framer::finish write_frame",
     "ob0_text": "TextStore::from_str TextStore::from_str_in TextStore::unit TextStore::len TextStore::offset TextStore::position "
@@ -87,7 +87,7 @@ def unnamed_clauses(source: reading.Source, calls: Sequence[str]) -> List[str]:
     return unnamed
 
 
-@test("surface: each clause of a call in the specification is named by a mutant, or has a reason why not")
+@test("surface: each clause of a call in the specification is cited by a mutant, or has a reason for not being cited")
 def each_clause() -> None:
     of_functions, of_clauses = public_functions.reasons(), public_functions.reasons(are_of_clauses=True)
     unnamed = [it for crate, calls in PROMISED.items() for it in unnamed_clauses(reading.Source(crate), calls.split())]
@@ -219,7 +219,7 @@ def said_of(top: str) -> Tuple[int, List[str]]:
     return status, sorted(it.strip() for it in said.getvalue().split("\n") if it.startswith("  "))
 
 
-@test("surface: a public function without a mutant is reported, as well as a reason for a function that doesn't exist")
+@test("surface: a public function without a mutant, and a reason for a function that doesn't exist, are reported")
 def lacking() -> None:
     with tempfile.TemporaryDirectory() as top, two_crates(top):
         same(said_of(top), (1, LACKING), "the functions that lack a mutant")

@@ -18,10 +18,10 @@ import harness
 from harness import TOP, holds, leave_out, same, test, tracked, want
 from homes import as_another, copy, temporary, write
 
-INSIDE = "OB0_SURROUNDINGS"  # (the tests that run there don't start this test again)
-# modules with the names of ours, as packages that are installed have them
+INSIDE = "OB0_SURROUNDINGS"  # (tests that run in other surroundings don't start this test again)
+# modules with the same names as ours, as installed packages may have them
 NAMES = ("common", "editors", "edits", "modules", "package", "svg")
-# files that git doesn't know: of an editor, of `npm install`, and a note
+# files that git doesn't know: an editor's file, a file of `npm install`, and a note
 UNKNOWN = {
     "examples/exercises/.Clock.txt.swp": "b0VIM 9.0",
     "editors/vscode/node_modules/it/README.md": "[it](no-such-page.md)\n",
@@ -29,7 +29,7 @@ UNKNOWN = {
 }
 
 
-@test("surroundings: each test runs under umask 022, and without the user's Git variables and configuration")
+@test("surroundings: each test runs under umask 022, without the user's Git settings and without variables of make")
 def settled() -> None:
     umask = os.umask(0o022)
     same(umask, 0o022, "the umask")
@@ -113,7 +113,7 @@ def run_there(at: str, own: dict[str, str], *words: str) -> tuple[int, int]:
     return int(last[1]), int(last[2] or 0) + sum(map(int, re.findall(r"^(\d+) wait for a program", said, re.M)))
 
 
-@test("surroundings: tests that need no program pass in another user's clone, and change no other repository")
+@test("surroundings: the tests that need no program pass in another user's clone, and change no other repository")
 def first_tests() -> None:
     want("git")
     if INSIDE in os.environ:
@@ -138,13 +138,13 @@ def archive() -> None:
         own["TMPDIR"] = os.path.join(room, "tmp")
         os.chmod(room, 0o711)
         os.mkdir(own["TMPDIR"])
-        words = ["release: e", "release: without git", "sources: each search", "pictures: the plots", "shell: the links"]
-        passed, _ = run_there(at, own, *words, "exercises: there are twelve", "examples: there are")
+        words = ["release: e", "release: without git", "sources: each search", "pictures: the plots", "pages: each link"]
+        passed, _ = run_there(at, own, *words, "exercises: twelve", "examples: at least")
         holds(passed >= len(words) + 2, f"{passed} passed")
         same(os.listdir(own["TMPDIR"]), [], "the remaining temporary files")
 
 
-@test("surroundings: a folder in which tests would fail isn't used for temporary files, and the reason is printed")
+@test("surroundings: temporary files don't go into a folder in which tests would fail, and the reason is printed")
 def temporary_folders() -> None:
     with temporary() as room, mock.patch.object(common, "LONGEST_TEMPORARY", len(room) + 10):
         os.chmod(room, 0o755)
@@ -161,7 +161,7 @@ def temporary_folders() -> None:
                 same(common.unfit(room), why, f"for the user {user}")
 
 
-@test("surroundings: temporary files go into the first usable folder, and if there is none nothing runs")
+@test("surroundings: temporary files go into the first usable folder, and nothing runs if no folder is usable")
 def chosen_folder() -> None:
     for good, status in (("/var/tmp", None), ("none", 2)):
         unfit: Callable[[str], str] = lambda it: "" if it == good else "it is odd"  # pylint: disable=cell-var-from-loop
@@ -176,7 +176,7 @@ def chosen_folder() -> None:
     same((os.environ["TMPDIR"], tempfile.gettempdir()), ("/var/tmp", "/var/tmp"), "the folder")
 
 
-@test("surroundings: if root can't switch to another user, a test that needs one is skipped, with the reason")
+@test("surroundings: a test that needs another user is skipped with a reason if root can't switch to another user")
 def no_other_user() -> None:
     with mock.patch.dict(editors.TOOLS, {"another user": (lambda: False, "")}), mock.patch.dict(os.environ):
         os.environ.pop("OB0_WHOLE", None)

@@ -3,7 +3,7 @@ from __future__ import annotations
 
 from harness import Server, diagnostic, did_open, ends, frames, initialize, on_file, same, serve, test
 
-# text: where, what is expected
+# each text with the place of its error and what is expected there
 EXPECTED = {
     "": ("0:0-0:0", "MODULE"),
     "MODULE M; BEGIN x = 1 END M.": ("0:18-0:19", "END"),
@@ -37,14 +37,14 @@ EXPECTED = {
 }
 
 
-@test("syntax: an error is reported at the first unexpected token, with what was expected instead")
+@test("syntax: a syntax error is reported at the first unexpected token, with what was expected there")
 def expected() -> None:
     with Server() as server:
         for text, (where, what) in EXPECTED.items():
             same(server.notify(did_open(text)), [diagnostic("Syntax", f"expected {what}", where)], repr(text))
 
 
-@test("syntax: the diagnostic of the empty text is, byte by byte, as expected")
+@test("syntax: the diagnostic of the empty text is published with exactly the expected bytes")
 def empty() -> None:
     wanted = (
         b'{"jsonrpc":"2.0","method":"textDocument/publishDiagnostics","params":{"diagnostics":[{"code":"Syntax",'
@@ -55,7 +55,7 @@ def empty() -> None:
     same(found.contents()[1].encode(), wanted)
 
 
-@test("syntax: if a text has lexical faults, only these are reported")
+@test("syntax: only lexical errors are reported if a text has a lexical error")
 def scanning_first() -> None:
     with Server() as server:
         same(server.notify(did_open("MODULE 12ab")), [diagnostic("NumberJoinsLetter", "letter after number", "0:7-0:11")])
@@ -70,7 +70,7 @@ DEEP = {
 }
 
 
-@test("syntax: 100 nested constructs of one kind are accepted, and the 101st is too deep")
+@test("syntax: 100 nested constructs of one kind are accepted, and the 101st is reported as TooDeep")
 def deep() -> None:
     with Server() as server:
         for name, (before, opened, middle, closed, after, where) in DEEP.items():
@@ -79,7 +79,7 @@ def deep() -> None:
                 same(server.notify(did_open(text)), wanted, f"{depth} of {name}")
 
 
-@test("syntax: long chains, such as 100,000 statements, don't count as nested")
+@test("syntax: long chains, such as 100,000 statements, don't count as nesting")
 def chains() -> None:
     count = 100000
     texts = {
@@ -96,11 +96,11 @@ def chains() -> None:
     with Server() as server:
         for name, text in texts.items():
             same(server.notify(did_open(text)), [], name)
-        # (selectors are a chain of lexemes and of the tree; no type has that many fields)
+        # (a chain of selectors isn't nested either, but its fields don't exist, so only syntax errors count)
         found = server.notify(did_open("MODULE M; VAR x: INTEGER; BEGIN x" + ".x" * count + " := 1 END M."))
         same([it for it in found if it["code"] in ("Syntax", "TooDeep")], [], "selectors")
 
 
-@test("syntax: `check` reports a text that ends early at the position of its end")
+@test("syntax: `ob0 check` reports the empty text as `expected MODULE` at its start")
 def checked() -> None:
     ends(on_file("check", ""), "0:0: Syntax: expected MODULE\n", 1)

@@ -28,7 +28,7 @@ def reserved() -> list[str]:
     return sorted(found)
 
 
-@test("syntax files: docs/LANGUAGE.md lists the scanner's reserved words")
+@test("syntax files: docs/LANGUAGE.md lists exactly the scanner's reserved words")
 def page() -> None:
     block = match_of(r"The reserved words:\n\n```\n(.*?)```", text_of("docs", "LANGUAGE.md"), re.S)[1]
     same(sorted(block.split()), reserved())
@@ -84,7 +84,7 @@ OF_EDITORS = {
 
 
 def make(name: str, words: Callable[[], list[str]]) -> None:
-    @test(f"syntax files: the words of {name}'s are the language's, each once")
+    @test(f"syntax files: {name}'s file lists each reserved and predeclared word of the language exactly once")
     def are_the_languages() -> None:
         same(sorted(words()), sorted([*reserved(), *PREDECLARED]))
 
@@ -144,7 +144,7 @@ def kate_folds() -> None:
         write(file, FOLDED)
         status, said = run_plainly(["kate-syntax-highlighter", "--output-format", "ansi", "--syntax-trace", "region", file], own, room)
         same(status, 0, said)
-    # (above each line of the text are the regions that begin `(2--` or end `--2)` in it)
+    # (the output shows, above each line of the text, the regions that begin `(2--` or end `--2)` in that line)
     folds: list[tuple[int, int]] = []
     opened: dict[str, list[int]] = {}
     line = 0
@@ -167,7 +167,7 @@ def qtcreator() -> None:
         same(text_of(room, ".local/share/org.kde.syntax-highlighting/syntax/oberon0.xml"), text_of("editors", "kate", "oberon0.xml"), "the file")
 
 
-@test("syntax files: the GtkSourceView library highlights a sample as expected")
+@test("syntax files: the GtkSourceView library highlights a sample module as expected")
 def gtksourceview() -> None:
     want("GtkSourceView", "PyGObject", "MIME types")
     with temporary() as room:
@@ -187,18 +187,18 @@ def gtksourceview() -> None:
     same(colour("BEGIN"), colour("DIV"), "the colour of reserved words")
 
 
-@test("syntax files: nano colours a sample as expected")
+@test("syntax files: nano colours a sample module as expected")
 def nano() -> None:
     want("nano")
     with temporary() as room:
         own = at_home(room, "nano")
         write(os.path.join(room, "sample.mod"), SAMPLE)
         own["LC_ALL"] = "C.UTF-8"
-        # (for root nano takes the home of the table of users)
+        # (as root, nano reads the home directory from the table of users)
         settings = os.path.join(room, "nanorc")
         write(settings, text_of(room, ".nanorc").replace("~", room))
         with Screen(["nano", f"--rcfile={settings}", "sample.mod"], own, room) as screen:
-            # (what is coloured begins with the terminal's word for a colour)
+            # (a coloured word follows the terminal's code for a colour)
             for it in (b"MODULE", b"INTEGER", b"12", b"DIV", b"Write", b"4x"):
                 screen.shows(rb"\x1b\[[0-9;]*m(\x1b\(B)?" + it, f"the colour of {it.decode()}")
             holds(not re.search(rb"m(\x1b\(B)?Begin", screen.drawn.replace(b"\x1b[39;49m", b"").replace(b"\x1b(B\x1b[m", b"")), "a plain name has a colour")
@@ -256,7 +256,7 @@ FILES = [
     ("b.mod", "IMPLEMENTATION MODULE M;", False),
     ("c.mod", "DEFINITION MODULE M;", False),
     ("d.mod", "(* MODULE M; *) x", False),
-    # (a slip in the first line: the server tells of it, so the file has to be Oberon-0)
+    # (a mistake in the first line: the file has to be Oberon-0, so that the server reports the mistake)
     ("e.mod", "MODULE New", True),
     ("f.mod", "MODULE New\nVAR x: INTEGER;\nBEGIN x := 1 END New.", True),
     ("g.mod", "MODULE New();\nEND New.", True),
@@ -307,7 +307,7 @@ END R.
 """
 
 
-# (below the heading of Q each line is as it would be if all above it were whole)
+# (below the heading of Q each line is indented as if everything above it were complete)
 BROKEN = """MODULE B;
   PROCEDURE P(
   VAR
@@ -363,13 +363,13 @@ def by_vim(editor: str, words: list[str], name: str) -> None:
     same(found["matched"], 1, "the line that % on the module's END leads to")
 
 
-@test("syntax files: Vim's file types, colours, :make and indentation work in Vim")
+@test("syntax files: in Vim modules get the expected file type, colours, :make errors and indentation")
 def in_vim() -> None:
     want("Vim")
     by_vim("vim", ["vim.nox", "-n", "-i", "NONE", "-u", "RC"], "Vim")
 
 
-@test("syntax files: Vim's file types, colours, :make and indentation work in Neovim")
+@test("syntax files: in Neovim modules get the expected file type, colours, :make errors and indentation")
 def in_neovim() -> None:
     want("Neovim")
     by_vim("neovim", ["nvim", "-n", "-i", "NONE", "-u", "RC"], "Neovim")
@@ -393,13 +393,13 @@ def helped(editor: str, words: list[str], name: str) -> None:
         same(sorted({*re.findall(r"\|(\S+?)\|", page)} - {*tags}), [":clist"], "what the page links to, besides itself")
 
 
-@test("syntax files: after `:helptags ALL`, Vim finds `:help ob0` and each of its tags")
+@test("syntax files: Vim finds `:help ob0` and each of its tags after `:helptags ALL`")
 def help_in_vim() -> None:
     want("Vim")
     helped("vim", ["vim.nox", "-n", "-i", "NONE"], "Vim")
 
 
-@test("syntax files: after `:helptags ALL`, Neovim finds `:help ob0` and each of its tags")
+@test("syntax files: Neovim finds `:help ob0` and each of its tags after `:helptags ALL`")
 def help_in_neovim() -> None:
     want("Neovim")
     helped("neovim", ["nvim", "-n", "-i", "NONE"], "Neovim")
@@ -409,7 +409,7 @@ def managed(words: list[str], name: str, folders: list[str], lines: list[str], s
     """Tests a plugin manager: copies folders of editors/ to ~/ob0, runs the shell commands, and checks that Vim or
     Neovim with these settings recognizes a module and finds `:help ob0`."""
     with temporary() as room:
-        # (without the program: an editor that ends at once would end the server while it starts)
+        # (without the program: if an editor ended at once, it would end the server while that starts)
         kept = {key: value for key, value in os.environ.items() if not key.startswith("XDG_")}
         own, report = {**kept, "HOME": room, "TERM": "xterm"}, os.path.join(room, "report")
         for it in folders:
@@ -426,13 +426,13 @@ def managed(words: list[str], name: str, folders: list[str], lines: list[str], s
         same(json.loads(text_of(report)), ["ob0", 2, 2, 1, len(folders) - 1, "ob0.txt"], f"a module in {name}")
 
 
-@test("syntax files: Vim finds the files in a folder of 'runtimepath', as plugin managers install them")
+@test("syntax files: Vim loads ob0's files from a folder in 'runtimepath', where plugin managers install them")
 def managed_in_vim() -> None:
     want("Vim")
     managed(["vim.nox"], "Vim", ["vim"], ["set runtimepath+=~/a\\ copy"], "mv ob0/editors/vim 'a copy'")
 
 
-@test("syntax files: Neovim finds the files in folders of 'runtimepath', as plugin managers install them")
+@test("syntax files: Neovim loads ob0's files from folders in 'runtimepath', where plugin managers install them")
 def managed_in_neovim() -> None:
     want("Neovim")
     lines = ["set runtimepath+=~/a\\ copy/vim", "set runtimepath+=~/a\\ copy/neovim"]
@@ -449,19 +449,19 @@ def by_pathogen(editor: str) -> str:
     return found
 
 
-@test("syntax files: Pathogen loads the files in Vim after the commands on their page")
+@test("syntax files: Pathogen loads ob0's files in Vim after the commands on their page")
 def pathogen_in_vim() -> None:
     want("Vim", "Pathogen")
     managed(["vim.nox"], "Vim", ["vim"], PATHOGEN, by_pathogen("vim"), "Helptags")
 
 
-@test("syntax files: Pathogen loads the files in Neovim after the commands on their page")
+@test("syntax files: Pathogen loads ob0's files in Neovim after the commands on their page")
 def pathogen_in_neovim() -> None:
     want("Neovim", "Pathogen")
     managed(["nvim"], "Neovim", ["vim", "neovim"], PATHOGEN, by_pathogen("neovim"), "Helptags")
 
 
-@test("syntax files: Emacs installs its mode by package-install-file and by use-package, as its page says")
+@test("syntax files: package-install-file and use-package install the Emacs mode as its page says")
 def managed_in_emacs() -> None:
     want("Emacs", "eglot", "use-package")
     (lines,) = (it for it in snippets.snippets("emacs", "elisp") if "(use-package" in it)
@@ -480,7 +480,7 @@ def managed_in_emacs() -> None:
         same(run_plainly([*words, "-l", "init.el", *modes], own, room)[1].splitlines()[-1], "ob0-mode (eglot-ensure)", "by use-package")
 
 
-@test("syntax files: the settings on Vim's help page are the same as on the editors' pages")
+@test("syntax files: Vim's help page shows the same settings as the editors' pages")
 def help_blocks() -> None:
     text = text_of("editors", "vim", "doc", "ob0.txt")
     blocks = ["".join(f"{it[1:]}\n" for it in found.splitlines()) for found in re.findall(r" >\n\n((?:\t.*\n)+)<", text)]
@@ -489,7 +489,7 @@ def help_blocks() -> None:
     holds(text.isascii(), "its tags would begin with their encoding")
 
 
-@test("syntax files: Emacs's file types, colours, indentation, index, check and run work")
+@test("syntax files: in Emacs file types, colours, indentation, index, check and run have the expected results")
 def in_emacs() -> None:
     want("Emacs")
     need_program()
@@ -506,7 +506,7 @@ def in_emacs() -> None:
         same(status, 0, said[-2000:])
 
 
-@test("syntax files: Kakoune recognizes a module, and its lint shows errors and removes them once they are fixed")
+@test("syntax files: Kakoune recognizes a module, and its lint shows errors until they are fixed")
 def in_kakoune() -> None:
     want("Kakoune")
     need_program()
@@ -535,7 +535,7 @@ def in_kakoune() -> None:
         same(text_of(report, "commented"), "MODULE N; END N.\n", "the text after :comment-line")
 
 
-@test("syntax files: a module typed line by line in Kakoune is indented as the server would format it")
+@test("syntax files: Kakoune indents a module that is typed line by line as the server would format it")
 def kakoune_indents() -> None:
     want("Kakoune")
     with temporary() as room:
@@ -551,7 +551,7 @@ def kakoune_indents() -> None:
             same(text_of(file), text, f"{name}, unchanged")
 
 
-@test("syntax files: the settings of Kate and VS Code start the server and name files that exist")
+@test("syntax files: the settings of Kate and VS Code start the server, and mention only files that exist")
 def settings() -> None:
     server = json.loads(text_of("editors", "kate", "settings.json"))["servers"]["oberon0"]
     same(server["command"], ["ob0", "serve"], "Kate's command")

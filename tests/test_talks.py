@@ -1,5 +1,5 @@
-"""Runs conversations (tests/inputs/talks.py) through ob0-watch: tests what it reports about each, and that it changes
-no byte."""
+"""Runs the conversations of tests/inputs/talks.py through ob0-watch. Tests what it reports about each, and that it
+changes no byte."""
 from __future__ import annotations
 
 import json
@@ -182,7 +182,7 @@ def reported(talk: Talk) -> None:
         same((editor.out, status), (direct.out, direct.status), f"the server's output in {talk.name}, and its status")
 
 
-@test("talks: ob0-watch reports each fault of an editor by its rule, or its manual page says that it doesn't")
+@test("talks: ob0-watch reports each fault of an editor under its rule, or its manual page says that it doesn't")
 def faulty() -> None:
     need_program()
     manual = " ".join(text_of("share", "ob0-watch.1").replace("\\-", "-").split())
@@ -199,7 +199,7 @@ def kept() -> None:
         reported(talk)
 
 
-@test("talks: there are 28 conversations with a fault and 22 without")
+@test("talks: tests/inputs/talks.py contains 28 conversations with a fault and 22 that keep all rules")
 def counted() -> None:
     names = [it.name for it in (*talks.FAULTS, *talks.KEPT)]
     same((len(talks.FAULTS), len(talks.KEPT), len({*names})), (28, 22, 50), "the conversations, and their names")

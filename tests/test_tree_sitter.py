@@ -39,9 +39,9 @@ COLOURS = [
 ]  # fmt: skip
 # the queries of Neovim and of Helix, below the folder `queries`
 QUERIES = ["highlights", "folds", "helix/highlights", "helix/indents"]
-# the lines (counted from 0) of what can be folded over several
+# the first and last lines, counted from 0, of the parts that can be folded
 FOLDS = [(4, 5), (6, 10), (7, 10)]
-# faults that the grammar doesn't know, or after which nothing is reported
+# errors that the grammar doesn't know, or after which nothing else is reported
 OTHER_FAULTS = {"NumberTooLarge", "TooDeep", "TooLong"}
 LEXICAL = {"BadChar", "NumberJoinsLetter"}
 
@@ -66,7 +66,7 @@ def read_by_neovim(texts: tuple[str, ...]) -> Any:
         own = {**os.environ, "HOME": room, "OB0_PARSER": compiled(room), "OB0_QUERIES": os.path.join(FOLDER, "queries")}
         own.update(OB0_GIVEN=os.path.join(room, "given"), OB0_REPORT=os.path.join(room, "report"))
         script = os.path.join(TOP, "tests", "editors", "treesitter.lua")
-        # (after an error of the script Neovim would wait)
+        # (Neovim would wait after an error of the script)
         words = ["nvim", "--headless", "-n", "-i", "NONE", "-u", "NONE", "-c", f"luafile {script}", "-c", "cquit"]
         status, said = run_plainly(words, own, room)
         holds(status == 0 and os.path.exists(own["OB0_REPORT"]), said[-1500:])
@@ -81,7 +81,7 @@ def correct_texts() -> list[str]:
     return found + [text for language, text in fenced("docs/TUTORIAL.md") if language == "oberon" and "MODULE Broken" not in text]
 
 
-@test("tree-sitter: the modules of the examples, answers and tutorial are parsed without an error")
+@test("tree-sitter: the parser finds no error in the modules of the examples, answers and tutorial")
 def trees() -> None:
     texts = tuple(correct_texts())
     same([text[:40] for text, faulty in zip(texts, read_by_neovim(texts)["faulty"]) if faulty], [], "those with an error")
@@ -108,7 +108,7 @@ def agrees() -> None:
     same([text for text, due, came in zip(texts, wanted, got) if due is not None and due != came], [], "the texts that are read differently")
 
 
-@test("tree-sitter: Neovim's and Helix's queries find the expected colours and folds, and Helix's indents are read")
+@test("tree-sitter: Neovim's and Helix's queries find the expected colours and folds, and Helix's indent query matches")
 def queries() -> None:
     found = read_by_neovim((SAMPLE,))
     same(found["faulty"], [False], "the sample")
@@ -137,7 +137,7 @@ def corpus() -> list[tuple[str, str, str]]:
     return found
 
 
-@test("tree-sitter: each text of test/corpus is parsed to the tree given there, or has the expected error")
+@test("tree-sitter: each text of test/corpus is parsed to the tree that is given there, or has the expected error")
 def trees_of_corpus() -> None:
     cases = corpus()
     found = read_by_neovim(tuple(text for _, text, _ in cases))
@@ -148,7 +148,7 @@ def trees_of_corpus() -> None:
     holds(len(cases) > 8, f"{len(cases)} cases")
 
 
-@test("tree-sitter: its files follow tree-sitter's conventions, and all use the grammar's name")
+@test("tree-sitter: the grammar's files follow tree-sitter's conventions, and all use the grammar's name")
 def conventions() -> None:
     about = json.loads(text_of(FOLDER, "tree-sitter.json"))
     (grammar,) = about["grammars"]
@@ -164,7 +164,7 @@ def conventions() -> None:
     same(grammar["file-types"], ["ob0", "mod", "Mod"], "its endings")
 
 
-@test("tree-sitter: the reserved words of its grammar are the language's")
+@test("tree-sitter: the reserved words of the grammar and of its queries are the language's")
 def words() -> None:
     block = match_of(r"The reserved words:\n\n```\n(.*?)```", text_of("docs", "LANGUAGE.md"), re.S)[1]
     found = {*re.findall(r'"([A-Z]+)"', text_of(FOLDER, "grammar.js"))}
@@ -174,7 +174,7 @@ def words() -> None:
         same(sorted(in_query), sorted(block.split()), f"the words that {name} colours")
 
 
-@test("tree-sitter: the commands on its page and on Helix's page compile the parser and copy its queries")
+@test("tree-sitter: the commands on tree-sitter's and Helix's pages compile the parser and copy its queries")
 def installed() -> None:
     want("cc")
     for page, library, queries_at, own in (
@@ -189,7 +189,7 @@ def installed() -> None:
             same({it: text_of(room, queries_at, it) for it in os.listdir(os.path.join(room, queries_at))}, wanted, page)
 
 
-@test("tree-sitter: parser.c, grammar.json and node-types.json are what `tree-sitter generate` makes of grammar.js")
+@test("tree-sitter: parser.c, grammar.json and node-types.json equal the output of `tree-sitter generate`")
 def generated() -> None:
     want("tree-sitter 0.22")  # (tree-sitter-cli of Debian 13)
     with temporary() as room:

@@ -112,7 +112,7 @@ def packed() -> None:
         same({os.path.splitext(it)[1] for it in names if it != "[Content_Types].xml"} - endings, set(), "endings without a kind")
 
 
-@test("VS Code: if a module is missing or has no notice, packing stops; without the client no package is made")
+@test("VS Code: packing stops if a module is missing or has no notice, and without the client no package is made")
 def not_packed() -> None:
     with temporary() as room:
         found = stand_ins(room)

@@ -111,7 +111,7 @@ class Talk:
         return {it.rule for it in self.watcher.findings if it.is_broken == is_broken}
 
 
-# how an editor tells of the edits of a rename: the changes of each notification
+# ways in which an editor may send the edits of a rename: for each way, the changes of each notification
 IN_TURN = replacements("tot", reversed(PLACES))
 TAKEN_OUT: Edits = [it for edit in IN_TURN for it in ({**edit, "text": ""}, inserted(edit["range"]["start"], "tot"))]
 TOLD: Dict[str, List[Any]] = {
@@ -127,7 +127,7 @@ TOLD: Dict[str, List[Any]] = {
 HOVER = request("h", "textDocument/hover", {"textDocument": {"uri": URI}, "position": place(0, 0)})
 
 
-@test("watch: a correctly applied edit is counted and not reported, however the editor sends its changes")
+@test("watch: ob0-watch counts a correctly applied edit and reports no fault, however the editor sends its changes")
 def clean() -> None:
     other = notice("$/setTrace", {"value": "off"})
     for how, notifications in TOLD.items():
@@ -144,7 +144,7 @@ def clean() -> None:
             same(talk.found(False), {"told-apart"} if is_apart else set(), f"the notes of a rename that is told {how}")
 
 
-@test("watch: what a user types, undoes and redoes isn't reported, even after discarded answers")
+@test("watch: ob0-watch doesn't report what a user types, undoes and redoes, even after discarded answers")
 def typed() -> None:
     talk = Talk()
     actions = [replacements("7", PLACES[1:2]), replacements("7")]
@@ -200,7 +200,7 @@ def reopened(talk: Talk, text: str, changes: Edits, *between: harness.Content) -
 
 
 def made_as(ident: Any) -> Fault:
-    """Returns a fault: a rename with this id is answered, and its edit is made."""
+    """Returns a fault in which a rename with this id is answered and its edit is made."""
     return lambda talk: talk.is_answered(replacements("tot"), ident=ident).changes(IN_TURN)
 
 
@@ -213,12 +213,13 @@ def changed(*changes: Any) -> Fault:
 
 
 def renamed(*changes: Any) -> Fault:
-    """Returns a fault: a rename is answered, and then the editor sends these changes."""
+    """Returns a fault in which a rename is answered and the editor then sends these changes."""
     return lambda talk: (talk.is_answered(replacements("tot")), changed(*changes)(talk))
 
 
 def inlined(text: str) -> Fault:
-    """Returns a fault: an inlining of a constant after an emoji is answered, and then the editor sends this text."""
+    """Returns a fault in which an inlining of a constant after an emoji is answered and the editor then sends this
+    text."""
 
     def fault(talk: Talk) -> None:
         talk.changes(EMOJI)
@@ -230,7 +231,7 @@ def inlined(text: str) -> Fault:
 
 EMOJI = "MODULE M;\nCONST k = 7;\nBEGIN (* \U0001f600 *) Write(k) END M.\n"
 TYPED = [inserted(place(0, 0), " ")]
-# what is done in a conversation, and the rule that is broken so
+# faults in a conversation, each with the rule that it breaks
 BROKEN: Dict[str, Tuple[str, Fault]] = {
     "a late edit at its old places": ("late-edit", lambda talk: late(talk, IN_TURN)),
     "a late edit that moves along": ("late-edit", lambda talk: late(talk, lower(IN_TURN))),
@@ -281,7 +282,7 @@ BROKEN: Dict[str, Tuple[str, Fault]] = {
     "a change after `shutdown`": ("end", told(request(1, "shutdown"), did_change("x"))),
     "an opening after `exit`": ("end", told(request(1, "shutdown"), EXIT, did_open("x"))),
 }
-# and what is harmless by itself
+# faults that are only noted, each with its rule
 NOTED: Dict[str, Tuple[str, Fault]] = {
     "a range after the end of a line": ("ranges", changed([{"range": extent("0:99-1:0"), "text": "\n"}])),
     "a range after the end of the text": ("ranges", changed([inserted(place(99, 0), "x")])),
@@ -314,7 +315,7 @@ NOTED: Dict[str, Tuple[str, Fault]] = {
     "an id that a question had": ("ids", lambda talk: (talk.sends(HOVER), talk.answers("h", None), made_as("h")(talk))),
     "a question with the id of an edit": ("ids", lambda talk: (made_as("h")(talk), talk.sends(HOVER))),
 }
-# and what the rules allow
+# conversations that the rules allow
 ALLOWED: Dict[str, Fault] = {
     "versions that fall, come again, are negative and large": lambda talk: [talk.changes(TYPED, it) for it in (5, 4, 4, 0, -1, 2**63 - 1)],
     "an edit of a version that comes again": lambda talk: (talk.is_answered(replacements("tot")), talk.changes(IN_TURN, 1)),
@@ -350,7 +351,7 @@ def found(fault: Fault, is_broken: bool) -> set[str]:
     return talk.found(is_broken)
 
 
-@test("watch: each planted fault is reported by the name of its rule, and nothing else is")
+@test("watch: ob0-watch reports each planted fault under its rule, and reports nothing else")
 def planted() -> None:
     for what, (rule, fault) in BROKEN.items():
         same(found(fault, True), {rule}, f"the broken rules of {what}")
@@ -361,7 +362,7 @@ def planted() -> None:
 
 
 NO_EDITS: Message = {"workspace": {}, "textDocument": {}}
-# what a client announces, whose edit it makes, and whether that is noted
+# each row: what a client announces, the request whose edit it makes, and whether that is noted
 ANNOUNCED: List[Tuple[Message, str, bool]] = [
     *((EDITS, it, False) for it in (RENAME, ACTION, FORMAT)),
     *(({**NO_EDITS, "workspace": EDITS["workspace"]}, it, it == ACTION) for it in (RENAME, ACTION, FORMAT)),
@@ -370,7 +371,7 @@ ANNOUNCED: List[Tuple[Message, str, bool]] = [
 ]
 
 
-@test("watch: an applied edit is noted if it needs a capability that the client doesn't announce")
+@test("watch: ob0-watch notes an applied edit if the client doesn't announce a capability that the edit needs")
 def capabilities() -> None:
     for client, method, is_noted in ANNOUNCED:
         talk = Talk(**client)
@@ -382,7 +383,7 @@ def capabilities() -> None:
         same((talk.found(True), talk.found(False)), (set(), notes), f"{method}, by a client that announces {client}")
 
 
-@test("watch: a didOpen before `initialize` is reported, and a didOpen or a request before its answer is noted")
+@test("watch: a didOpen before `initialize` is reported, and one before the answer to `initialize` is noted")
 def beginnings() -> None:
     watcher = WATCH.Watcher()
     watcher.take("editor", frame(did_close()) + frame(HOVER) + frame(did_open(TEXT)), 0.0)
@@ -394,7 +395,7 @@ def beginnings() -> None:
         same([(it.rule, it.is_broken) for it in watcher.findings], [("start", False)] * is_noted, f"{early} before the answer")
 
 
-@test("watch: positions are counted in the agreed unit")
+@test("watch: ob0-watch counts positions in the unit on which editor and server agreed")
 def counted_units() -> None:
     talk = Talk(EMOJI, general={"positionEncodings": ["utf-16", "utf-8"]})
     talk.is_answered([replacements("7", ["2:23-2:24"])], ACTION)
@@ -402,7 +403,8 @@ def counted_units() -> None:
     same((talk.found(True), talk.watcher.watched["wrong-places"]), (set(), 1), "by bytes")
 
 
-# the line end of a text, the one that an editor writes for each LF of an edit, and whether it isn't the text's own
+# each row: the line ending of a text, the line ending that an editor writes for each LF of an edit, and whether that is
+# noted
 LINE_ENDS = [
     ("\n", "\n", False),
     ("\r\n", "\n", False),
@@ -413,7 +415,7 @@ LINE_ENDS = [
 ]
 
 
-@test("watch: an edit may use the text's own line ending for each LF, and another line ending is noted")
+@test("watch: an edit may use the text's own line ending for each LF, and any other line ending is noted")
 def line_ends() -> None:
     for end, written, is_noted in LINE_ENDS:
         text = "MODULE M;\nVAR n: INTEGER;\nEND M.\n".replace("\n", end)
@@ -465,7 +467,7 @@ def put(path: str, text: str) -> None:
     os.replace(path + ".new", path)
 
 
-@test("watch: a file that is half written when it is read isn't reported as a lost change")
+@test("watch: a file that is only half written when ob0-watch reads it isn't reported as a lost change")
 def half_written() -> None:
     with temporary() as room:
         path = os.path.join(room, "m.mod")
@@ -478,7 +480,7 @@ def half_written() -> None:
         same(talk.found(True), set(), "with a file that is written while its document is closed")
 
 
-@test("watch: a file is read when its document is opened and closed, even if these messages are judged later")
+@test("watch: ob0-watch reads a file when its document is opened or closed, even if it judges these messages later")
 def late_judge() -> None:
     with temporary() as room:
         path = os.path.join(room, "m.mod")
@@ -501,7 +503,7 @@ def late_judge() -> None:
 FORGED = "file:///zz\n12:00:00.000 BROKEN late-edit: forged\u202e\ud83d"
 
 
-@test("watch: no text from an editor can forge a line of the report")
+@test("watch: a text from an editor can't forge a line of the report")
 def on_its_line() -> None:
     talk = Talk()
     talk.sends(did_change("x", FORGED[:-1]), notice(FORGED[:-1], 1), '"\\n12:00:00.000 BROKEN x"')
@@ -524,7 +526,7 @@ def watch(room: str, *words: str, given: bytes = b"", first: Iterable[str] = ())
     return ran.returncode, ran.stdout, ran.stderr, watched.complete(report) if os.path.exists(report) else ""
 
 
-@test("watch: every byte is passed on, and the status is the server's")
+@test("watch: ob0-watch passes on every byte, and ends with the server's status")
 def passed_on() -> None:
     chance = random.Random(1)
     noise = bytes(chance.randrange(256) for _ in range(300_000))
@@ -541,7 +543,7 @@ def passed_on() -> None:
             same((got, out, err, report.splitlines()[-1]), (status, b"", b"", f"The server ended {last}"), f"the end of {words}")
 
 
-@test("watch: bytes are passed on one at a time, as they come, and a signal reaches the server")
+@test("watch: ob0-watch passes on each byte as soon as it arrives, and passes a signal to the server")
 def at_once() -> None:
     with temporary() as room:
         words = [sys.executable, watched.SCRIPT, "--report", os.path.join(room, "report"), "--", "cat"]
@@ -557,7 +559,7 @@ def at_once() -> None:
         holds("readable: watched 4, broken 0" in report and report.endswith("by signal 15.\n"), report)
 
 
-@test("watch: neither a fault of the watcher nor an unwritable report affects the conversation")
+@test("watch: neither a fault of ob0-watch nor an unwritable report affects the conversation")
 def robust() -> None:
     with temporary() as room:
         fault = "import watched; it = watched.load(); it.Watcher.opened = 0; import sys; it.end_as(it.main(sys.argv[1:]))"
@@ -579,7 +581,7 @@ def wait_for_reports(count: int, *folder: str) -> None:
     harness.wait_until(lambda: [it.endswith(".new") for it in names()] == [False] * count, f"{count} reports in {there}", 20)
 
 
-@test("watch: bad command lines are refused, reports go to the state folder, and other commands of ob0 aren't watched")
+@test("watch: ob0-watch refuses bad arguments, writes reports to the state folder, and watches only `serve`")
 def command_line() -> None:
     need_program()
     with temporary() as room:
@@ -608,7 +610,7 @@ def command_line() -> None:
         same([ran(PATH="/nowhere"), ran("--", "no-such-program", PATH="/nowhere")], [(4, b"")] * 2, "no program")
 
 
-@test("watch: if judging lags, all messages are judged after the server has ended, and the report shows the progress")
+@test("watch: if judging lags, ob0-watch judges all messages after the server has ended, and reports its progress")
 def behind() -> None:
     with temporary() as room:
         report = os.path.join(room, "report")
@@ -633,7 +635,7 @@ def behind() -> None:
         holds("BROKEN open: message 104 " in found and found.endswith(last), found)
 
 
-@test("watch: a report isn't written through a symbolic link")
+@test("watch: ob0-watch doesn't write a report through a symbolic link")
 def through_a_link() -> None:
     with temporary() as room:
         write(os.path.join(room, "victim"), "unchanged")
@@ -650,7 +652,7 @@ def by_watched(room: str) -> None:
     harness.BINARY = watched.put_program(room, [os.path.abspath(harness.BINARY)])
 
 
-@test("watch: the conversations of tests/inputs break no rule, except by unreadable messages")
+@test("watch: the conversations of tests/inputs break no rule, except for unreadable messages")
 def recorded() -> None:
     cases = {name: it for name, it in {**conversations.SHORT, **conversations.LONG}.items() if it.words == ["serve"]}
     for name, case in cases.items():
@@ -664,8 +666,8 @@ def recorded() -> None:
             write(os.path.join(room, "breaks"), "readable" if unreadable else "")
 
 
-# (a change by chance can equal a part of an answer: with these seeds none does)
-@test("watch: conversations of random changes and questions break no rule, except by unreadable changes")
+# (a random change can equal a part of an answer by chance, but none does with these seeds)
+@test("watch: conversations of random changes and questions break no rule, except for unreadable changes")
 def random_talks() -> None:
     with temporary() as room:
         by_watched(room)
@@ -696,7 +698,7 @@ def breaks(editor: keyed.Keyed, rule: str) -> None:
 
 
 class PlainNeovim(keyed.Neovim):
-    """Neovim's own LSP client without ob0's files, configured as on Neovim's page."""
+    """Drives Neovim's own LSP client without ob0's files, configured as on Neovim's page."""
 
     (given,) = (it for it in snippets("neovim", "") if it.startswith("return {"))
     start = f"""
@@ -714,7 +716,7 @@ end }})
         return {name: lines + self.start for name, lines in found.items()}
 
 
-@test("watch: Neovim without ob0's files applies a late answer, and ob0-watch reports it")
+@test("watch: ob0-watch reports a late answer that Neovim applies if ob0's files aren't installed")
 def plain_neovim() -> None:
     want("Neovim")
     need_program()
@@ -732,7 +734,7 @@ def plain_neovim() -> None:
 BEHIND = "MODULE M;\nVAR n: INTEGER;\nBEGIN (* {} *) n := 1; Write(n)\nEND M.\n"
 
 
-@test("watch: Vim with ALE applies an edit at wrong positions after non-ASCII letters, and ob0-watch reports it")
+@test("watch: ob0-watch reports an edit that Vim with ALE applies at wrong positions after non-ASCII letters")
 def ale_places() -> None:
     want("Vim", "ALE")
     need_program()
@@ -742,7 +744,7 @@ def ale_places() -> None:
         breaks(editor, "wrong-places")
 
 
-@test("watch: Emacs with lsp-mode loses a change after an emoji, and ob0-watch reports it once the file is written")
+@test("watch: ob0-watch reports a change that Emacs with lsp-mode loses after an emoji, once the file is written")
 def lsp_mode_places() -> None:
     want("Emacs", "lsp-mode")
     need_program()

@@ -72,8 +72,8 @@ def try_some(libraries: Libraries) -> Any:
 
 
 class Whole(NamedTuple):
-    """The result of running tools/test.py: its status, last line and output, its calls, the lines of bin/results and of
-    the stamp (also before the last tests), the umask and variables that `rt ci` saw, and bin/gate.log."""
+    """Stores the result of running tools/test.py: its status, last line and output, its calls, the lines of bin/results
+    and of the stamp (also before the last tests), the umask and variables that `rt ci` saw, and bin/gate.log."""
 
     status: int
     last: str
@@ -118,8 +118,8 @@ def whole(
     program: str = "a program", others: int = 0, tried: Tuple[int, int] = (20, 0), printed: str = "",
     flags: Tuple[str, ...] = (), known: str = "", **named: str,
 ) -> Whole:  # fmt: skip
-    """Runs tools/test.py with an `rt ci` and two parts of the tests that print these last lines, and with tried mutants
-    that print `printed`."""
+    """Runs tools/test.py with scripts in place of its parts, and returns the result. `rt ci` and the two parts of the
+    tests print these last lines, and the tried mutants print `printed`."""
     with temporary() as room:
         furnish(room, ci, first, rest, others, tried, printed)
         own = environment(room, STATUS=str(status), PROGRAM=program, FLAGS=known, **named)
@@ -136,7 +136,7 @@ def whole(
         return Whole(ran.returncode, last, said, called, results, *kept)
 
 
-@test("whole: the passed tests of all parts are added up, and the stamp gets the last line once all parts have ended")
+@test("whole: `make test` adds up the passed tests of all parts, and puts the sum into the stamp once all have ended")
 def passes() -> None:
     found = whole()
     same((found.status, found.last), (0, "1220 passed, 0 failed, 2 skipped"), found.said)
@@ -149,7 +149,7 @@ def passes() -> None:
     same(re.findall(r"^\d+ passed.*$", found.said, re.M), [found.last], "the lines that look like a verdict")
 
 
-@test("whole: the run fails if any part fails, ends badly, runs no test or runs too few tests")
+@test("whole: `make test` fails if any part fails, ends badly, runs no test or runs too few tests")
 def fails() -> None:
     kinds: Dict[str, Dict[str, Any]] = {
         "a test of a crate": {"ci": "199 passed, 1 failed", "status": 1},
@@ -172,7 +172,7 @@ def fails() -> None:
         holds(found.stamp.endswith(f"\ngate {found.last}\n"), f"{what}, the stamp: {found.stamp}")
 
 
-@test("whole: a gate that builds no program fails, and no test runs on an older one")
+@test("whole: `make test` fails if the gate builds no program, and then runs no test on an older program")
 def without_program() -> None:
     found = whole(ci="199 passed, 1 failed", status=1, program="")
     same((found.status, found.last), (1, "319 passed, 2 failed"), found.said)
@@ -180,7 +180,7 @@ def without_program() -> None:
     same(found.stamp, "", "the stamp")
 
 
-@test("whole: --anew is passed on to a kit that knows it")
+@test("whole: `make test` passes the option --anew on to `rt ci` if the kit knows it")
 def anew() -> None:
     for known, wanted in (("--anew", "rt ci --anew"), ("", "rt ci")):
         found = whole(flags=("--anew",), known=known)
@@ -189,7 +189,7 @@ def anew() -> None:
 
 @test("whole: neither an argument nor a variable of `make test` can choose the mutants that it tries")
 def no_choice() -> None:
-    # (`try_some` is given the libraries and nothing else)
+    # (`try_some` gets the libraries as its only argument)
     found = whole(flags=("--part", "3", "--all", "ob0_text"))
     same((found.status, [it for it in found.called if it.startswith("rt ci")]), (0, ["rt ci"]), found.said)
     own = {name: value for name, value in os.environ.items() if not name.startswith("MAKE")}
@@ -213,7 +213,7 @@ EDIT = "rt: must-fail ob0/an.edit: refused, as it must be: note: src/main.rt:1:1
 OK = f"rt: ok; handles allowed: none; {SHARE}; the others\n"
 
 
-@test("whole: the prover's output goes to bin/gate.log; the screen shows the crates left and the proofs of this run")
+@test("whole: bin/gate.log gets the prover's output, and the screen shows the remaining crates and this run's proofs")
 def on_screen() -> None:
     found = whole(ci=f"== ob0\n{PROVER * 3000}rt: ob0 proved\n{EDIT}{OK}200 passed, 0 failed")
     same(found.status, 0, found.said)
@@ -250,7 +250,7 @@ def repeated() -> None:
     holds(REPEATED in end, f"no {REPEATED} in {end}")
 
 
-@test("whole: at the end each mutant with an unexpected verdict is repeated, and no other mutant")
+@test("whole: each mutant with an unexpected verdict is repeated at the end, and no other mutant is repeated")
 def repeated_mutants() -> None:
     forms = {word: f"ob0_low/wrong-bodies/{at}.edit" for at, word in enumerate(mutants.WORDS)}
     forms[mutants.RIGHT] += ":right"
@@ -267,7 +267,7 @@ def begun(room: str, said: str) -> "subprocess.Popen[bytes]":
         return subprocess.Popen(words, stdout=out, stderr=subprocess.STDOUT, env=environment(room, SLEEPS="1"))
 
 
-@test("whole: a signal ends a run and its child processes, after it has printed its progress; a second run waits")
+@test("whole: a signal makes a run print its progress and end with its child processes, and a second run waits")
 def ended() -> None:
     for number in (signal.SIGTERM, signal.SIGINT, signal.SIGHUP):
         with temporary() as room:
@@ -285,14 +285,14 @@ def ended() -> None:
             same(os.listdir(os.path.join(room, "tmp")), [], "the remaining temporary files")
 
 
-@test("whole: if root can't switch to another user, as the gate needs, the run ends at once and says why")
+@test("whole: a run ends at once, with the reason, if root can't switch to another user, as the gate needs")
 def no_other_user() -> None:
     found = whole(LACKS="1")
     same((found.status, "root can't become another user here" in found.said, "be another" in found.last), (2, True, True), found.said)
     same([it for it in found.called if it.startswith(("rt ci", "tests"))], [], "what is run")
 
 
-@test("whole: skipped tests count as run, but if OB0_MAY_LACK is set only a few may be skipped")
+@test("whole: skipped tests count as run, except that only a few may be skipped if OB0_MAY_LACK is set")
 def floor() -> None:
     many, few = "500 passed, 0 failed, 100 skipped", "5000 passed, 0 failed, 4 skipped"
     same([whole(rest=it).status for it in (many, few)], [0, 0], "by hand")
@@ -301,7 +301,7 @@ def floor() -> None:
     holds("FAILED   end to end\n    2 tests ran, 0 were left out, and there are " in found.said, found.said)
 
 
-@test("whole: LEAST in tools/test.py has the present numbers of tests")
+@test("whole: LEAST in tools/test.py states the present numbers of tests")
 def least() -> None:
     spec = importlib.util.spec_from_file_location("whole", os.path.join(TOP, "tools", "test.py"))
     assert spec and spec.loader
@@ -326,7 +326,7 @@ exec "$@"
 """
 
 
-@test("whole: .ci/run ends with the verdict of bin/results, or fails without one; it sets limits and the tools to skip")
+@test("whole: .ci/run ends with the verdict in bin/results, fails without one, and sets limits and the tools to skip")
 def verdict() -> None:
     lines, none = "ok\t0.1 s\ta test\n7 passed, 0 failed\tof this name\n", "0 passed, 1 failed"
     for results, status, wanted in (
@@ -359,10 +359,10 @@ def verdict() -> None:
             same(called.splitlines(), wanted_calls, "what is run")
 
 
-@test("whole: a signal to .ci/run ends its test, and the last line reports a failure")
+@test("whole: a signal to .ci/run ends the test that it runs, and the last line reports a failure")
 def ci_ended() -> None:
     with temporary() as room:
-        # (a signal in its first moment ends `timeout` without its child)
+        # (a signal in its first moment would end `timeout` without its child)
         make = "#!/bin/sh\n[ $2 = test ] || exit 0\nsleep 1\necho $$ > '{}/test'\nexec sleep 1000\n"
         write(os.path.join(room, "path", "make"), make.format(room))
         os.chmod(os.path.join(room, "path", "make"), 0o755)
@@ -378,13 +378,13 @@ def ci_ended() -> None:
         holds(not harness.is_running(number), "the test still runs")
 
 
-@test("whole: the tools that .ci/run allows to be missing are ones that the tests use and Debian 12 lacks")
+@test("whole: each tool that .ci/run allows to be missing is used by the tests, and Debian 12 lacks it")
 def may_lack_there() -> None:
     for name in LACKING.split(","):
         holds(name in editors.TOOLS and not editors.TOOLS[name][1], name)
 
 
-@test("whole: a package states if its program is tested, not tested or failed; the screen says so unless it is tested")
+@test("whole: a package states if its program is tested, not tested or failed, and the screen repeats it unless tested")
 def said_by_package() -> None:
     not_tested = "NOT TESTED: each function of this program is proved, and `make test` has not ended on it"
     failed = "FAILED: 10 passed, 10 failed, by `make test` on this program, each of whose functions is proved"
@@ -398,7 +398,7 @@ def said_by_package() -> None:
             same(package.tested(), f"{wanted}\n" + (f"gate: {gate}\n" if gate else ""), "the file TESTED")
 
 
-@test("whole: the gate removes packages from bin/ that say that their program isn't tested, and keeps others")
+@test("whole: the gate removes packages from bin/ that state that their program isn't tested, and keeps the others")
 def untested_packages() -> None:
     for first, left in (("NOT TESTED: x\n", []), (f"{package.PASSED}\n", ["SHA256SUMS", "TESTED", "ob0_1_amd64.deb"])):
         with temporary() as room, mock.patch.object(common, "BINARY", os.path.join(room, "ob0")):

@@ -48,8 +48,8 @@ def compiled() -> str:
 
 
 class Walked(harness.Ended):
-    """Consecutive runs with the same result: their numbers, whether an allocation or a device failed, and how many
-    calls of each kind the last one made."""
+    """Stores consecutive runs with the same result: their numbers, whether an allocation or a device failed, and how
+    many calls of each kind the last one made."""
 
     def __init__(
         self, out: bytes, err: bytes, status: int, numbers: range, is_touched: bool, calls: Iterable[int]
@@ -62,14 +62,14 @@ class Walked(harness.Ended):
 def walked(
     words: list[str], given: bytes, cwd: str | None, kind: str, numbers: range, ending: str, **fails: object
 ) -> list[Walked]:
-    """Runs a program once for each of these numbers, in one process that forks. Returns the results in order. The
-    `kind` of call with that number fails; `fails` lists other failures, as failing.c reads them."""
+    """Runs a program once for each of these numbers, and makes the call of this `kind` with that number fail. One
+    process forks for all runs. `fails` lists other failures, as failing.c reads them. Returns the results in order."""
     with tempfile.TemporaryFile() as stdin, tempfile.TemporaryFile() as reports:
         stdin.write(given)
         stdin.flush()
         span = f"{kind} {numbers[0]}-{numbers[-1]}/{numbers.step}"
         named = {"report": reports.fileno(), "each": span, **fails, kind: f"0{ending}"}
-        # (nothing else of this environment: what a program takes in before main is not to depend on it)
+        # (the program gets no other variables, so that its allocations before main don't depend on them)
         own = {f"OB0_{name.upper()}": str(value) for name, value in named.items() if value is not None}
         own.update(LD_PRELOAD=library(), PATH=os.environ.get("PATH", ""))
         how: dict[str, Any] = {"stdin": stdin, "stdout": subprocess.DEVNULL, "stderr": subprocess.PIPE, "cwd": cwd, "env": own}

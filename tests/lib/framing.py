@@ -28,7 +28,7 @@ def frames(contents: Iterable[Content]) -> bytes:
 
 
 class Incoming:
-    """The received bytes that haven't been read as messages yet."""
+    """Collects the received bytes that haven't been read as messages yet."""
 
     def __init__(self, came: bytes = b"") -> None:
         self.held = bytearray(came)
@@ -37,13 +37,13 @@ class Incoming:
         self.held += came
 
     def take(self) -> bytes | None:
-        """Removes the first message, and returns its content. Returns None if it isn't complete yet."""
+        """Removes the first message, and returns its content. Returns None if the message isn't complete yet."""
         taken = self.take_framed()
         return taken[1] if taken else None
 
     def take_framed(self) -> tuple[bytes, bytes] | None:
-        """Removes the first message, and returns its bytes with the header, and its content. Returns None if it isn't
-        complete yet."""
+        """Removes the first message, and returns its bytes with the header, and its content. Returns None if the
+        message isn't complete yet."""
         end_of_head = self.held.find(b"\r\n\r\n")
         if end_of_head < 0:
             return None

@@ -1,5 +1,5 @@
-"""The base of the end-to-end tests: the list of tests, functions that run the program, and functions that build
-messages. After it is imported, helpers, inputs, the reference and the scripts of tools/ and bench/ can be imported."""
+"""Registers the end-to-end tests, runs the program, and builds messages. After this module is imported, helpers,
+inputs, the reference and the scripts of tools/ and bench/ can be imported."""
 from __future__ import annotations
 
 import array
@@ -19,7 +19,7 @@ from collections.abc import Iterable, Sequence
 from typing import Any, Callable, IO, List, NoReturn, Tuple, TypeVar, Union
 
 TOP = os.path.dirname(os.path.dirname(os.path.dirname(os.path.abspath(__file__))))
-# (in front: packages of Python that are installed here have such names as `package` and `editors`)
+# (put in front, because installed Python packages have such names as `package` and `editors`)
 PARTS = (["tests"], ["tests", "lib"], ["tests", "inputs"], ["share", "ob0"], ["tools"], ["bench"])
 sys.path[:0] = [os.path.join(TOP, *it) for it in PARTS]
 
@@ -29,7 +29,7 @@ from framing import Content as Content, Message as Message, compact as compact, 
 from framing import Incoming  # noqa: E402
 
 BINARY = os.environ.get("OB0") or os.path.join(TOP, "bin", "ob0")
-SECONDS = 300  # the longest that one conversation may take (even if the machine has much other work)
+SECONDS = 300  # the longest that one conversation may take, even on a busy machine
 
 Test = Callable[[], object]  # (its result is ignored)
 Ident = Union[int, str, None]  # the id of a request
@@ -51,11 +51,11 @@ class Failed(Exception):
 
 
 class Skipped(Exception):
-    """Raised to skip a test. The run prints the test's name and the reason."""
+    """Skips a test when it is raised. The run prints the test's name and the reason."""
 
 
 class NoProgram(Skipped):
-    """Raised to skip a test that needs a program that doesn't exist yet."""
+    """Skips a test that needs a program that doesn't exist yet, when it is raised."""
 
 
 def leave_out(why: str, is_allowed: bool = False) -> NoReturn:
@@ -209,7 +209,7 @@ EXIT = notice("exit")
 
 
 class Ended:
-    """The result of a run of the program: its output, its error output, and its exit status."""
+    """Stores the result of a run of the program: its output, its error output, and its exit status."""
 
     def __init__(self, out: bytes, err: bytes, status: int | None) -> None:
         self.out, self.err, self.status = out, err, status
@@ -313,7 +313,7 @@ S = TypeVar("S", bound="Server")
 
 
 class Server:
-    """A running server. Messages are sent to it one at a time, and its answers are awaited."""
+    """Runs a server. Messages are sent to it one at a time, and its answers are awaited."""
 
     def __init__(self, silent: bool = False, **capabilities: Any) -> None:
         how: dict[str, Any] = {"stdin": subprocess.PIPE, "stdout": subprocess.PIPE, "stderr": subprocess.PIPE, "bufsize": 0}

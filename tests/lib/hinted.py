@@ -9,8 +9,8 @@ from harness import Message, Server, did_close, did_open
 
 
 class Found(NamedTuple):
-    """The first error of a text: its message, its line and column, the hint for it, and the rule that the hint comes
-    from."""
+    """Stores the first error of a text: its message, its line and column, the hint for it, and the rule that the hint
+    comes from."""
 
     message: str
     place: Tuple[int, int]

@@ -24,15 +24,15 @@ FOLLOWED = ("textDocument/didOpen", "textDocument/didChange", "textDocument/didC
 
 
 class Wire:
-    """The record of a conversation, read from the folder that contains it. (It remembers the lines that it has read,
-    because tests ask often.)"""
+    """Reads the record of a conversation from the folder that contains it. Remembers the lines that were read, because
+    tests ask often."""
 
     def __init__(self, folder: str) -> None:
         self.folder, self.hold_file = folder, os.path.join(folder, "hold")
-        self.read = 0  # the bytes that were read
-        self.known: list[Message] = []  # and their events
-        self.followed = 0  # the events that are in the document
-        self.document: tuple[str | None, str | None] = (None, None)  # its URI and its text
+        self.read = 0  # how many bytes of the record were read
+        self.known: list[Message] = []  # the events in these bytes
+        self.followed = 0  # how many of these events were applied to the document
+        self.document: tuple[str | None, str | None] = (None, None)  # the document's URI and text
 
     def events(self) -> list[Message]:
         try:

@@ -1,5 +1,5 @@
-"""Editors in a terminal, each set up according to its page and driven by keystrokes, with tests/lib/holding.py between
-the editor and the server. Keys are sent without waiting. An editor handles them in order, and writes a file when it has
+"""Drives editors in a terminal by keystrokes, each set up according to its page. tests/lib/holding.py runs between the
+editor and the server. Keys are sent without waiting: an editor handles them in order, and writes a file when it has
 handled them."""
 from __future__ import annotations
 
@@ -15,7 +15,7 @@ from homes import at_home, put_between, write
 from screen import Screen
 from snippets import snippets
 
-SECONDS = 300  # the longest wait for something (even if the machine has much other work)
+SECONDS = 300  # the longest wait for anything, even on a busy machine
 # the requests whose answers are edits
 RENAME, ACTION, LAYOUT = "textDocument/rename", "textDocument/codeAction", "textDocument/formatting"
 
@@ -24,11 +24,11 @@ K = TypeVar("K", bound="Keyed")
 
 
 class Keyed:
-    """An editor that shows a file in a separate folder, and is driven by keystrokes."""
+    """Drives an editor by keystrokes. The editor shows a file in a separate folder."""
 
-    page = ""  # the folder of its page
+    page = ""  # the folder of the editor's page below editors/
     asks: Dict[str, Tuple[str, str, bool]] = {}  # for each edit: the keys, the method, and whether the editor accepts no other key until the answer arrives
-    line_above = line_removed = ""  # the keys that put the line `(* new *)` above the text, and take it away
+    line_above = line_removed = ""  # the keys that insert the line `(* new *)` above the text, and that remove it
     letters = "é☺𝒳😀"  # the letters that are typed in addition to ASCII
 
     def __init__(self, folder: str, text: str) -> None:
@@ -112,7 +112,7 @@ class Keyed:
         return text
 
     def reports(self, text: str) -> None:
-        """Waits until the editor has told the server this text of the file."""
+        """Waits until the editor has sent this text of the file to the server."""
         self.await_(f"the text that the server has: {text!r}", lambda: self.wire.text() == text)
 
     def text(self, comes_last: bool = False) -> str:
@@ -121,7 +121,7 @@ class Keyed:
         return text() or ""
 
 
-NORMAL = "\x1c\x0e"  # to normal mode, from every mode
+NORMAL = "\x1c\x0e"  # the keys that lead to normal mode from every mode
 VIM_SETTINGS = """
 set nomore shortmess=aoOtTIWAF cmdheight=6 noswapfile nobackup nowritebackup
 function! Written(path) abort
@@ -173,7 +173,7 @@ class Neovim(Vimish):
         "layout by the page's key": ("grf", LAYOUT, True),
         "layout": (":lua if vim.lsp.buf.format then vim.lsp.buf.format({ async = true }) else vim.lsp.buf.formatting() end\r", LAYOUT, False),
     }
-    # a request that is answered after all others; the first action is chosen at once, or by `Choose`
+    # a request that the server answers after all others; the first action is chosen at once, or by `Choose`
     lines = """
 vim.cmd([[{settings}]])
 function _G.Last(path)
@@ -228,7 +228,7 @@ class Ycm(Vimish):
         "inlining": (":YcmCompleter FixIt\r", ACTION, True),
         "layout": (":YcmCompleter Format\r", LAYOUT, True),
     }
-    # (it handles an answer before the next key; of a list of actions the first is chosen)
+    # (Vim handles an answer before the next key, and the first of the listed actions is chosen)
     lines = """
 function! Last(path) abort
   py3 import ycm.vimsupport
@@ -239,7 +239,7 @@ endfunction
 """
 
     def __exit__(self, *why: object) -> None:
-        # (programs that it has started would run for half an hour)
+        # (otherwise programs that the editor has started would run for half an hour)
         self.wire.release()
         self.keys(f"{NORMAL}:silent! py3 ycm_state.OnVimLeave()\r")
         text = self.asked_for_text()
@@ -247,7 +247,7 @@ endfunction
         super().__exit__(*why)
 
     def settings(self) -> dict[str, str]:
-        # (its server needs the system's Python, whichever one is first on PATH)
+        # (YouCompleteMe's server needs the system's Python, whichever one is first on PATH)
         python = "let g:ycm_server_python_interpreter = '/usr/bin/python3'\nlet g:ycm_auto_hover = ''"
         return {".vimrc": "\n".join([*snippets("vim", "viml"), python, VIM_SETTINGS]), "keyed.vim": self.lines}
 
@@ -317,7 +317,7 @@ class Emacs(Keyed):
         return f'\x1b:(reopened "{self.file}")\r'
 
     def writing(self, path: str, comes_last: bool) -> str:
-        # (such an editor handles an answer before it takes the next key)
+        # (Emacs handles an answer before it accepts the next key)
         first = f"(while (not {self.managed}) (accept-process-output nil 0.01))" if comes_last else ""
         return f'\x1b:(progn {first} (written "{path}"))\r'
 
@@ -335,7 +335,7 @@ class Eglot(Emacs):
 
 
 class LspMode(Emacs):
-    block, managed, letters = 1, "(lsp-workspaces)", "é☺"  # (its page: no characters above U+FFFF)
+    block, managed, letters = 1, "(lsp-workspaces)", "é☺"  # (according to its page: no characters above U+FFFF)
     asks = {
         "rename": ('\x1b:(lsp-rename "tot")\r', RENAME, True),
         "inlining": ("\x1b:(call-interactively #'lsp-execute-code-action)\r", ACTION, True),

@@ -16,7 +16,7 @@ CRATES = ("ob0_tests_low", "ob0_tests_language", "ob0_tests_session", "ob0_tests
 
 def program_of(crate: str) -> str:
     """Returns the path of the program that contains a crate's tests. Skips this test if it doesn't exist."""
-    need_program()  # (`make test` makes both)
+    need_program()  # (`make test` makes the program and the program of the tests)
     program = os.path.join(TOP, "crates", crate, "out", f"{crate}_tests")
     if not os.access(program, os.X_OK):
         leave_out(f"the program of the tests of {crate} isn't here (`make test`, or `rt test` in its folder, makes it)")
@@ -37,7 +37,7 @@ def played(out: bytes) -> list[tuple[int, ...]]:
     return [tuple(map(int, it.split()[1:])) for it in lines]
 
 
-# the events that `play` has played, and those that were made one by one, up to the one whose allocation fails
+# two tests that print the events made before an allocation fails: by `play` all at once, and one by one
 PLAYED, STEPPED = "world::a_refused_event_keeps_earlier_results", "world::a_refused_step_keeps_earlier_results"
 
 

@@ -16,7 +16,7 @@ from harness import DRIVEN, Failed
 
 
 class Screen:
-    """A program that runs in a terminal of a given size. Tests send keys to it and wait for its output."""
+    """Runs a program in a terminal of a given size. Tests send keys to it and wait for its output."""
 
     def __init__(
         self, words: list[str], environment: dict[str, str], cwd: str, size: tuple[int, int] | None = None
@@ -53,7 +53,7 @@ class Screen:
     def ends(self, what: str, seconds: float) -> int:
         """Waits until the program ends, and returns its exit status. Fails if it doesn't end in time."""
         end = time.monotonic() + seconds
-        # (its terminal can be closed before, and remains open if a program that it has started is still running)
+        # (the terminal can be closed before the program ends, and remains open while a child of the program runs)
         while not self.has_ended():
             if time.monotonic() > end:
                 raise Failed(f"{what} had not ended after {seconds} seconds: {self.drawn[-500:]!r}")

@@ -9,8 +9,8 @@ from harness import Failed
 from random_texts import LEXEME
 
 PIECE = re.compile(rf"\s+|(?:{LEXEME.pattern})\s*", re.S)
-SECONDS = 60.0  # the longest that this may take
-SHORT = 16  # lexemes: stretches of at most so many are tried at each place
+SECONDS = 60.0  # how long the shortening of a text may take
+SHORT = 16  # stretches of at most this many lexemes are tried at each place
 
 
 def shrunk(text: str, fails: Callable[[str], bool]) -> str:

@@ -18,8 +18,8 @@ import harness
 from harness import TOP, Failed, same
 
 SCRIPT = os.path.join(TOP, "share", "ob0-watch")
-LAST = ("The server ended ", "It stopped watching, ", "ob0-watch was killed.")  # how the last line of a report begins
-SECONDS = 300  # the longest that a report is waited for, once its editor has ended
+LAST = ("The server ended ", "It stopped watching, ", "ob0-watch was killed.")  # the last line of a report begins with one of these
+SECONDS = 300  # a test waits at most this long for a report, once its editor has ended
 
 
 def load() -> Any:
@@ -41,7 +41,7 @@ def put_program(room: str, server: list[str]) -> str:
     report = f"{shlex.quote(os.path.join(room, 'watched'))}/$$"
     os.makedirs(os.path.join(room, "watched"), exist_ok=True)
     words = f"{shlex.join([sys.executable, SCRIPT])} --report {report} -- {shlex.join(server)}"
-    # (without the program nothing is watched: a report would never be complete)
+    # (without the program nothing is watched, and a report would never be complete)
     watches = f'[ "$1" = serve ] && : >{report} && exec {words} "$@"\n' if os.path.exists(harness.BINARY) else ""
     with open(program, "w", encoding="utf-8") as file:
         file.write(f"#!/bin/sh\n{watches}")
@@ -57,7 +57,7 @@ def put_program(room: str, server: list[str]) -> str:
 
 
 class Count(NamedTuple):
-    """How many messages were judged by a rule, and how many findings of each kind there were."""
+    """Counts how many messages were judged by a rule, and how many findings of each kind there were."""
 
     watched: int
     broken: int
@@ -86,7 +86,7 @@ def complete(path: str) -> str:
 
 
 def reports(room: str) -> list[Report]:
-    """Waits until all reports in a folder are complete, and returns them."""
+    """Waits until all reports in a folder are complete, and returns the reports."""
     found = []
     for path in sorted(glob.glob(os.path.join(glob.escape(room), "watched", "*[0-9]"))):
         text = complete(path)
