@@ -42,7 +42,7 @@ import rooms  # noqa: E402
 from reading import Function, Source  # noqa: E402
 
 PARTS = ("src", "specs", "proofs")
-# the beginnings of lines that are no text, and a token of the others
+# a pattern of lines that don't count as text, and a pattern of a token in the other lines
 NO_TEXT = re.compile(r" *(//|--|$|((pub(\(\w+\))?|ghost) )*(use|mod) )")
 TOKEN = re.compile(r"[\w'-]+|[^\w\s]")
 # the crate in which a function that calls `did_change` applies the notification, and the type of texts that `serve` stores
