@@ -186,7 +186,7 @@ class Calls:
             found |= ready
             held -= found | without
             ready = {it for it in held if it.owner not in self.types or it.owner in types}
-        # (a law's function does nothing)
+        # (the function of a law does nothing)
         return {it for it in found if it.words[len(it.head) :] != ["{", "}"]}
 
 
