@@ -12,7 +12,7 @@ from harness import did_change, did_open, extent, initialize, place, request
 from common import match_of
 from framing import Message
 
-Longer = Tuple[List[Message], List[Message], int]  # two conversations, and how often the second one repeats something more
+Longer = Tuple[List[Message], List[Message], int]  # two conversations, and how many repetitions the second one adds
 URI = "file:///m"
 LITERALS: Message = {"textDocument": {"codeAction": {"codeActionLiteralSupport": {}}}}
 MIB = 1 << 20
