@@ -23,7 +23,7 @@ VIM = ["-n", "-i", "NONE", "-u", "NONE", "--cmd", FILES, "--cmd", "filetype plug
 EMACS = ["emacs", "-Q", "--batch", "-L", os.path.join(TOP, "editors", "emacs"), "-l", "ob0-mode"]
 A_LINE = "(progn (newline) (indent-according-to-mode))"
 NEAR_END = f'(progn (goto-char (point-max)) (search-backward ";") (end-of-line) {A_LINE} {A_LINE})'
-# for each editor the words that it is started by, and those that have it open a line near the end, or indent all
+# for each editor: its command line, its keys for a new line near the end, and its keys for indenting the whole text
 EDITORS = {
     "nvim": (["nvim", "--headless", *VIM], ["-c", "normal! G20kox", "-c", "qall!"], ["-c", "normal! gg=G", "-c", "qall!"], ["-c", "qall!"]),
     "vim": (["vim", "-es", *VIM], ["-c", "normal! G20kox", "-c", "qall!"], ["-c", "normal! gg=G", "-c", "qall!"], ["-c", "qall!"]),
@@ -32,7 +32,7 @@ EDITORS = {
 
 
 def seconds(words: List[str]) -> float:
-    """Returns the CPU seconds of a command and its child processes."""
+    """Runs a command, and returns the CPU seconds that it and its child processes used."""
     before = resource.getrusage(resource.RUSAGE_CHILDREN)
     subprocess.run(words, check=False, stdin=subprocess.DEVNULL, stdout=subprocess.DEVNULL, stderr=subprocess.DEVNULL, timeout=3600)
     after = resource.getrusage(resource.RUSAGE_CHILDREN)
@@ -40,7 +40,7 @@ def seconds(words: List[str]) -> float:
 
 
 def measured(name: str, file: str, is_whole: bool) -> Tuple[float, float]:
-    """Returns the CPU seconds in which an editor indents a new line, and those for the whole text (0.0 unless
+    """Returns two CPU times in seconds: for indenting a new line, and for indenting the whole text (0.0 unless
     `is_whole`). The time to start the editor and open the file is subtracted."""
     start, line, whole, nothing = EDITORS[name]
     opened = ["--eval", f'(find-file "{file}")'] if name == "emacs" else [file]

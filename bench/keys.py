@@ -12,7 +12,7 @@ from harness import did_change, did_open, extent, initialize, place, request
 from common import match_of
 from framing import Message
 
-Longer = Tuple[List[Message], List[Message], int]  # two conversations, and how many things the second is longer by
+Longer = Tuple[List[Message], List[Message], int]  # two conversations, and how many repetitions the second one adds
 URI = "file:///m"
 LITERALS: Message = {"textDocument": {"codeAction": {"codeActionLiteralSupport": {}}}}
 MIB = 1 << 20
@@ -81,13 +81,13 @@ def with_constants(text: str) -> str:
 
 
 def query(text: str, method: str, params: Message, times: int = 1) -> Longer:
-    """Returns a pair of conversations: the second asks the same question `times` times."""
+    """Returns a pair of conversations. The second one sends the same request `times` times more."""
     question = request(5, f"textDocument/{method}", {"textDocument": {"uri": URI}, **params})
     return [did_open(text)], [did_open(text), *[question] * times], times
 
 
 def action_at(text: str, at: int) -> Longer:
-    """Returns a pair of conversations: the second asks for code actions at the offset `at` four times."""
+    """Returns a pair of conversations. The second one requests code actions at the offset `at` four times more."""
     here = place(*place_of(text, at))
     return query(text, "codeAction", {"range": {"start": here, "end": here}, "context": {"diagnostics": []}}, 4)
 

@@ -42,7 +42,7 @@ def part_of(name: str) -> str:
 
 
 def counted(messages: List[Message]) -> Dict[str, int]:
-    """Returns the instructions of a conversation for each part of the server."""
+    """Returns how many instructions each part of the server executes for a conversation."""
     with tempfile.TemporaryFile() as file:
         file.write(frames(keys.conversation(messages)))
         file.seek(0)

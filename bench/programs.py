@@ -1,6 +1,5 @@
-"""Programs that do the same in Oberon-0, Lua and Python: for each a name and three texts.
-
-A run allows 64 open calls and 100,000 iterations of each execution of a loop, so the work is in nested loops."""
+"""Contains programs that do the same in Oberon-0, Lua and Python: a name and three texts for each. A run allows 64 open
+calls and 100,000 iterations of each execution of a loop, so the programs do their work in nested loops."""
 from __future__ import annotations
 
 

@@ -34,8 +34,8 @@ PAGE = os.path.join(TOP, "docs", "PERFORMANCE.md")
 COUNTED = re.compile(r"(## What they were counted with\n\n).*?(?=\n## |\Z)", re.S)
 SIZES = keys.SIZES
 Table = Dict[str, List[int]]
-# each change: a pattern, after whose first match in the second half of the text it is made, and the text that comes and
-# goes
+# each change: a pattern, and a text that is inserted after the pattern's first match in the second half of the text and
+# removed again
 CHANGES = {
     "a blank in or out": (r":= [^;\n]*[0-9]", " "),
     "a digit in or out": (r":= [^;\n]*[0-9]", "1"),
@@ -54,7 +54,7 @@ def conversed(messages: list[Message]) -> int:
 
 
 def of_keys() -> Table:
-    """Returns the table of instructions for each kind of change and for reading the text from scratch, by the text's
+    """Measures the table of instructions for each kind of change, and for reading the text from scratch, by the text's
     size."""
     found: Table = {name: [] for name in (SCRATCH, *CHANGES, TYPED)}
     nothing = conversed([])
@@ -72,8 +72,8 @@ def of_keys() -> Table:
 
 
 def of_runs() -> Table:
-    """Returns how many instructions each program takes in ob0, in Lua and in Python, without those that starting
-    takes."""
+    """Measures how many instructions each program takes in ob0, in Lua and in Python, without the instructions for
+    starting."""
     words = [[BINARY, "run"], [OTHERS["Lua"]], [OTHERS["Python"], "-I", "-S"]]
     nothing = [counting.instructions_on_file(it, text) for it, text in zip(words, ("MODULE M; END M.\n", "", ""))]
     found: Table = {}
@@ -156,7 +156,7 @@ def draw() -> None:
 
 def main(words: List[str]) -> int:
     if words != ["--plots"]:
-        # (one that is compiled to be tried checks each access, and can't be counted)
+        # (a program that is compiled only to be tried checks each access, so it can't be counted)
         missing = [it for it in ("valgrind", *OTHERS.values(), BINARY) if not shutil.which(it)]
         if missing:
             common.stop(f"{', '.join(missing)} is missing: on Debian `apt-get install valgrind lua5.4 python3`, and `make build`")

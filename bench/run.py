@@ -441,7 +441,7 @@ def cost_of_query(text: str, method: str, params: Message, expected: bytes, coun
 
 
 USES = (("on many lines", False), ("on one line", True))
-# (uses in texts of 100 KB and of 1 MB: of a variable or a constant, and of a field)
+# (the numbers of uses in texts of 100 KB and of 1 MB: of a variable or a constant, and of a field)
 COUNTS, OF_A_FIELD = [17000, 170000], [12500, 125000]
 
 

@@ -79,7 +79,7 @@ ob0_scope_table/src/one_body: body_bounds_in_block body_bounds_in_procedure body
 ob0_types/src/one_body: body_with_token_in_block body_with_token_in_procedure
 """
 
-# Two changes of a valid module. For each one, the functions that only other changes call.
+# Two changes of a valid module, each with the functions that are called only by other changes.
 OTHER_WAYS = {
     "a letter in a name": """
 ob0_analysis/src/analysis: analyse_text

@@ -42,7 +42,7 @@ import rooms  # noqa: E402
 from reading import Function, Source  # noqa: E402
 
 PARTS = ("src", "specs", "proofs")
-# the beginnings of lines that are no text, and a token of the others
+# a pattern of lines that don't count as text, and a pattern of a token in the other lines
 NO_TEXT = re.compile(r" *(//|--|$|((pub(\(\w+\))?|ghost) )*(use|mod) )")
 TOKEN = re.compile(r"[\w'-]+|[^\w\s]")
 # the crate in which a function that calls `did_change` applies the notification, and the type of texts that `serve` stores
@@ -186,7 +186,7 @@ class Calls:
             found |= ready
             held -= found | without
             ready = {it for it in held if it.owner not in self.types or it.owner in types}
-        # (a law's function does nothing)
+        # (the function of a law does nothing)
         return {it for it in found if it.words[len(it.head) :] != ["{", "}"]}
 
 

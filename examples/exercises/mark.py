@@ -47,19 +47,19 @@ Lines = List[List[str]]
 
 
 class Refused(Exception):
-    """The inputs of the exercises can't be used."""
+    """Raised if the inputs of the exercises can't be used."""
 
 
 class Unprinted(Exception):
-    """The result can't be printed."""
+    """Raised if the result can't be printed."""
 
 
 class Stopped(BaseException):
-    """A signal has arrived. Its number is the argument."""
+    """Raised when a signal arrives. Its argument is the signal's number."""
 
 
 class Case(NamedTuple):
-    """An input, and the numbers that the module must print on each line."""
+    """An input of an exercise, and the numbers that the module must print on each line."""
 
     given: str
     wanted: Lines
