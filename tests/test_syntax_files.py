@@ -506,7 +506,7 @@ def in_emacs() -> None:
         same(status, 0, said[-2000:])
 
 
-@test("syntax files: Kakoune recognizes a module, and its lint shows errors and removes them once they are fixed")
+@test("syntax files: Kakoune recognizes a module, and its lint shows errors with hints and removes them once they are fixed")
 def in_kakoune() -> None:
     want("Kakoune")
     need_program()
@@ -516,7 +516,7 @@ def in_kakoune() -> None:
         work = os.path.join(room, "work")
         for file, text, _ in FILES:
             write(os.path.join(work, file), text)
-        write(os.path.join(work, "faulty.Mod"), "MODULE M;\nBEGIN x := 1 END M.\n")
+        write(os.path.join(work, "faulty.Mod"), "MODULE M;\nBEGIN x := 1;\n  inc(y) END M.\n")
         report = os.path.join(room, "report")
         os.makedirs(report)
         own.update(OB0_WORK=work, OB0_REPORT=report)
@@ -525,7 +525,10 @@ def in_kakoune() -> None:
         same(status, 0, said[-2000:])
         types = [text_of(report, it[0]) == "ob0" for it in FILES]
         same(types, [it[2] for it in FILES], f"what Kakoune takes as Oberon-0: {said}")
-        holds("2|error: Undeclared: not declared(col 7)" in text_of(report, "faulty"), "lint: " + text_of(report, "faulty"))
+        found = text_of(report, "faulty")
+        holds("2|error: Undeclared: not declared(col 7)" in found, f"lint: {found}")
+        hint = "3|error: Undeclared: not declared(col 3)\nhint: there is no inc: `x := x + 1`(col 3)"
+        holds(hint in found, f"lint shows a hint below the message: {found}")
         holds("Undeclared" not in text_of(report, "mended"), "lint: " + text_of(report, "mended"))
         same(text_of(report, "unsaved"), "", "the type of a new file")
         same(text_of(report, "saved"), "ob0", "the type of a new file once it is saved")
