@@ -216,7 +216,10 @@ def nano_lints() -> None:
         own["LC_ALL"] = "C.UTF-8"
         with Screen(["nano", f"--rcfile={settings}", "--constantshow", "faulty.ob0"], own, room) as screen:
             screen.shows(b"BEGIN", "the module in nano")
-            screen.keys(b"\x1bb")
+            # (Alt+B is another command since nano 8)
+            for page in (os.path.join("editors", "nano", "README.md"), os.path.join("docs", "TEACHING.md")):
+                holds("Ctrl+T Ctrl+Y" in " ".join(text_of(page).split()), f"{page} has other keys")
+            screen.keys(b"\x14\x19")
             screen.shows(b"not declared", "the message of the linter")
             screen.keys(b"\x03")
             screen.shows(rb"line +4/.*col +12/", "the line and the column of the error")
