@@ -127,7 +127,8 @@ endfunction
 
 " Asks `ob0-check --hints` about new errors, once ALE shows them. The script is in the program's folder, or on PATH.
 function! s:AskForHints(buffer) abort
-  let l:items = filter(copy(ale#engine#GetLoclist(a:buffer)), 'v:val.linter_name ==# "ob0" && !has_key(v:val, "ob0_asked")')
+  let l:is_new = 'v:val.linter_name ==# "ob0" && !has_key(v:val, "ob0_asked")'
+  let l:items = filter(copy(ale#engine#GetLoclist(a:buffer)), l:is_new)
   let l:near = fnamemodify(exepath(ale#Var(a:buffer, 'ob0_executable')), ':h') . '/ob0-check'
   let l:script = executable(l:near) ? l:near : 'ob0-check'
   if empty(l:items) || !get(g:, 'ob0_hints', 1) || !executable(l:script) | return | endif
