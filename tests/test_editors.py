@@ -446,6 +446,20 @@ def lsp_mode_hinted() -> None:
     same(in_lsp_mode("hinted", HINTED), steps)
 
 
+@test("Vim: with ALE a hint is appended to a diagnostic's message, unless the user turns hints off")
+def vim_hinted() -> None:
+    with_hint: Callable[[List[Any], str], List[List[Any]]] = lambda it, hint: [[*it[:5], f"{it[5]} | {hint}"]]
+    steps = [
+        ("opened", [EXPECTED_END]),
+        ("hinted", with_hint(EXPECTED_END, ASSIGN)),
+        ("listed", [f"Syntax: expected END | {ASSIGN}"]),
+        ("changed", [NOT_DECLARED]),
+        ("hinted again", with_hint(NOT_DECLARED, NO_INC)),
+        ("turned off", ["expected END"]),
+    ]
+    same(in_vim("hinted", HINTED), steps)
+
+
 # each row: a text, whether formatting changes it, and the file that is saved afterwards
 LINES_ENDED = [
     ("MODULE M;\nBEGIN Write(1) END M.", True, "MODULE M;\nBEGIN\n  Write(1)\nEND M.\n"),

@@ -297,6 +297,12 @@ def explained() -> None:
     same(
         marked("Clock", answer("Clock"), encoding="utf-16"), (1, "Clock.mod   wrong: it isn't UTF-8: save it as UTF-8")
     )
+    with temporary() as room:
+        write(os.path.join(room, "Clock.mod"), answer("Clock"))
+        write(os.path.join(room, "ob0"), "#!/bin/sh\necho 'fault: File' >&2; exit 4\n")
+        os.chmod(os.path.join(room, "ob0"), 0o755)
+        found = marking(room, ["--program", "./ob0", "Clock.mod"])[1].decode().splitlines()
+    holds("  Clock.mod   wrong: it can't be read" in found, f"a file that the program can't read: {found}")
     arrays = ", ".join(f"a{it}" for it in range(150))
     large = f"MODULE Clock; TYPE T = ARRAY 65536 OF INTEGER; PROCEDURE P; VAR {arrays}: T; BEGIN P END P; BEGIN P END Clock."
     said = "the run ends with Memory: it takes too much memory: does each loop and each recursion end? Is an array too large?"

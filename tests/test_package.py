@@ -10,10 +10,12 @@ import os
 import re
 import shutil
 import subprocess
+import sys
 import tarfile
 from collections.abc import Callable, Iterator
 
 import common
+import editors
 import package
 from common import match_of
 from harness import TOP, examples, holds, same, test, text_of, want, want_proved
@@ -21,6 +23,7 @@ from homes import copy, run_in_terminal, run_plainly, temporary, write
 from screen import Screen
 
 MODULE = "MODULE N;\nBEGIN x := 1 END N.\n"
+SLIP_HINT = "    hint: an assignment is written `:=`, as in `x := 1`; `=` compares\n"
 
 
 def made(*words: str) -> str:
@@ -177,6 +180,43 @@ def taken_away() -> None:
             else:
                 made(f"PREFIX={room}", "uninstall")
             same(modes_in(room), before, f"the folders after `{remove}`")
+
+
+def as_user(number: int) -> list[str]:
+    """Returns words to put before a command that another user runs, or an empty list if this isn't root."""
+    want("another user")
+    become = editors.BECOME.replace("65534", str(number))
+    return [sys.executable, "-c", f"{become}; os.execvp(sys.argv[1], sys.argv[1:])"] if os.geteuid() == 0 else []
+
+
+@test("package: the commands in docs/TEACHING.md set up a laboratory without root, which a student's two lines find")
+def laboratory() -> None:
+    want_proved()
+    want("man", "Neovim")
+    section = text_of("docs", "TEACHING.md").partition("## A laboratory without root\n")[2].partition("\n## ")[0]
+    blocks = ["".join(f"{it[4:]}\n" for it in found.splitlines()) for found in re.findall(r"(?:^    .*\n)+", section, re.M)]
+    same(len(blocks), 2, f"the teacher's commands and the student's lines: {blocks}")
+    with temporary() as room:
+        os.chmod(room, 0o755)
+        teacher, student = os.path.join(room, "home", "kate"), os.path.join(room, "home", "student")
+        for home, number in ((teacher, 65534), (student, 65533)):
+            os.makedirs(home, mode=0o755)
+            write(os.path.join(home, ".profile"), blocks[1].replace("/home/kate", teacher) if home == student else "")
+            os.chmod(home, 0o700)  # (as Debian makes homes)
+            if os.geteuid() == 0:
+                for it in (home, os.path.join(home, ".profile")):
+                    os.chown(it, number, number)
+        packed(os.path.join(room, "packages"))
+        at_home = {"HOME": teacher, "PATH": "/usr/bin:/bin", "LC_ALL": "C.UTF-8", "TERM": "xterm"}
+        words = [*as_user(65534), "sh", "-e", "-c", blocks[0]]
+        same(run_plainly(words, at_home, os.path.join(room, "packages")), (0, ""), "the teacher's commands")
+        steps = "ob0 --version; man -w ob0; nvim --headless -i NONE -n +'echo exists(\":Ob0Run\")' m.ob0 +qall!"
+        write(os.path.join(room, "m.ob0"), MODULE)
+        words = [*as_user(65533), "sh", "-l", "-c", steps]
+        status, said = run_plainly(words, {**at_home, "HOME": student}, room)
+        version = match_of("ob0 ([0-9.]+)", text_of("share", "ob0.1"))[1]
+        page = os.path.join(teacher, "lab", "share", "man", "man1", "ob0.1.gz")
+        same((status, said.split()), (0, ["ob0", version, page, "2"]), "what the student finds")
 
 
 def modes_in(room: str) -> dict[str, int]:
@@ -346,6 +386,7 @@ def stamped() -> None:
 @test("package: the packed program, its scripts and the manual pages work with an empty home directory")
 def in_shells() -> None:
     with installed_home() as (_, usr, environment, work):
+        write(os.path.join(work, "slip.mod"), "MODULE M;\nBEGIN x = 1 END M.\n")
         version = match_of("ob0 ([0-9.]+)", text_of("share", "ob0.1"))[1]
         modules = [os.path.join(TOP, it) for it in examples()]
         for words, wanted in (
@@ -353,6 +394,7 @@ def in_shells() -> None:
             (["ob0-format", "--check", *modules], (0, "")),
             (["ob0-check", *modules], (0, "")),
             (["ob0-watch", "check", "nowhere.mod"], (4, "fault: File\n")),
+            (["ob0-check", "--hints", "slip.mod"], (1, "slip.mod:2:9: Syntax: expected END\n" + SLIP_HINT)),
         ):
             same(run_plainly(words, environment, work), wanted, f"{words[0]}, which finds ob0 and its modules")
         want("man")

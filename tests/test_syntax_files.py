@@ -216,7 +216,10 @@ def nano_lints() -> None:
         own["LC_ALL"] = "C.UTF-8"
         with Screen(["nano", f"--rcfile={settings}", "--constantshow", "faulty.ob0"], own, room) as screen:
             screen.shows(b"BEGIN", "the module in nano")
-            screen.keys(b"\x1bb")
+            # (Alt+B is another command since nano 8)
+            for page in (os.path.join("editors", "nano", "README.md"), os.path.join("docs", "TEACHING.md")):
+                holds("Ctrl+T Ctrl+Y" in " ".join(text_of(page).split()), f"{page} has other keys")
+            screen.keys(b"\x14\x19")
             screen.shows(b"not declared", "the message of the linter")
             screen.keys(b"\x03")
             screen.shows(rb"line +4/.*col +12/", "the line and the column of the error")
@@ -506,7 +509,7 @@ def in_emacs() -> None:
         same(status, 0, said[-2000:])
 
 
-@test("syntax files: Kakoune recognizes a module, and its lint shows errors until they are fixed")
+@test("syntax files: Kakoune recognizes a module, and its lint shows errors with hints until they are fixed")
 def in_kakoune() -> None:
     want("Kakoune")
     need_program()
@@ -516,7 +519,7 @@ def in_kakoune() -> None:
         work = os.path.join(room, "work")
         for file, text, _ in FILES:
             write(os.path.join(work, file), text)
-        write(os.path.join(work, "faulty.Mod"), "MODULE M;\nBEGIN x := 1 END M.\n")
+        write(os.path.join(work, "faulty.Mod"), "MODULE M;\nBEGIN x := 1;\n  inc(y) END M.\n")
         report = os.path.join(room, "report")
         os.makedirs(report)
         own.update(OB0_WORK=work, OB0_REPORT=report)
@@ -525,7 +528,10 @@ def in_kakoune() -> None:
         same(status, 0, said[-2000:])
         types = [text_of(report, it[0]) == "ob0" for it in FILES]
         same(types, [it[2] for it in FILES], f"what Kakoune takes as Oberon-0: {said}")
-        holds("2|error: Undeclared: not declared(col 7)" in text_of(report, "faulty"), "lint: " + text_of(report, "faulty"))
+        found = text_of(report, "faulty")
+        holds("2|error: Undeclared: not declared(col 7)" in found, f"lint: {found}")
+        hint = "3|error: Undeclared: not declared(col 3)\nhint: there is no inc: `x := x + 1`(col 3)"
+        holds(hint in found, f"lint shows a hint below the message: {found}")
         holds("Undeclared" not in text_of(report, "mended"), "lint: " + text_of(report, "mended"))
         same(text_of(report, "unsaved"), "", "the type of a new file")
         same(text_of(report, "saved"), "ob0", "the type of a new file once it is saved")

@@ -1,4 +1,4 @@
-# Oberon-0 for Kakoune: file type, colours, comments, `lint` by `ob0-check` and `format` by `ob0-format`.
+# Oberon-0 for Kakoune: file type, colours, comments, `lint` by `ob0-check --hints` and `format` by `ob0-format`.
 declare-option -docstring 'the program ob0: its name, or the path of its file' str ob0_program ob0
 
 hook global BufCreate .*\.ob0 %{ set-option buffer filetype ob0 }
@@ -30,8 +30,10 @@ hook global WinSetOption filetype=ob0 %{
     hook -group ob0-indent window InsertChar \n ob0-indent-on-new-line
     hook -group ob0-indent window InsertChar [A-Z] ob0-indent-on-word
     hook -once -always window WinSetOption filetype=.* %{ remove-hooks window ob0-indent }
-    # (sed adds the kind that lint needs)
-    set-option window lintcmd "run() { ob0-check ""$1"" | sed 's/^[^:]*:[0-9]*:[0-9]*:/& error:/'; } && run"
+    # (awk adds the kind that lint needs, and gives a hint, which is the line below its error, the place of that error)
+    set-option window lintcmd %{run() { ob0-check --hints "$1" | awk -F: '
+        /^    hint: / { sub(/^ +/, ""); print at, $0; next }
+        { at = $1 ":" $2 ":" $3 ":"; sub(/^[^:]*:[^:]*:[^:]*:/, "& error:"); print }'; } && run}
 }
 
 hook -group ob0-highlight global WinSetOption filetype=ob0 %{

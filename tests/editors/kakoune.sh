@@ -30,7 +30,7 @@ for name in "$@"; do
 done
 answer begun "edit '$OB0_WORK/faulty.Mod'; lint-buffer" ''
 await finds faulty
-answer begun "execute-keys '%s:= 1<ret>d%sx <ret>cWriteLn<esc>'; lint-buffer" ''
+answer begun "execute-keys '%cMODULE M;<ret>BEGIN WriteLn END M.<esc>'; lint-buffer" ''
 await finds_none mended
 answer unsaved "edit '$OB0_WORK/new.mod'; execute-keys 'iMODULE N; END N.<esc>'" '%opt{filetype}'
 answer saved write '%opt{filetype}'

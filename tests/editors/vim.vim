@@ -100,6 +100,24 @@ function! s:refused() abort
   call s:Tell('definition', s:SaidBy({-> execute('ALEGoToDefinition')}))
 endfunction
 
+" The errors of the buffer, once the text of one has a hint.
+function! s:Hinted() abort
+  call s:Await('a hint', {-> !empty(filter(copy(ale#engine#GetLoclist(bufnr(''))), 'v:val.text =~# "hint: "'))})
+  return map(copy(ale#engine#GetLoclist(bufnr(''))), '[v:val.lnum - 1, v:val.col - 1, v:val.end_lnum - 1, v:val.end_col, v:val.code, v:val.text]')
+endfunction
+
+function! s:hinted() abort
+  call s:Tell('hinted', s:Hinted())
+  call s:Await('the list', {-> getloclist(0)[0].text =~# 'hint: '})
+  call s:Tell('listed', map(getloclist(0), 'v:val.text'))
+  call s:Tell('changed', s:After({-> setline(4, '  x := 1;')}))
+  call s:Tell('hinted again', s:Hinted())
+  let g:ob0_hints = 0
+  call s:After({-> setline(4, '  x = 1;')})
+  sleep 2
+  call s:Tell('turned off', map(copy(ale#engine#GetLoclist(bufnr(''))), 'v:val.text'))
+endfunction
+
 function! s:looking() abort
   for l:place in s:given.places
     call s:Go(l:place)

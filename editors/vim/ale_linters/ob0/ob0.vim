@@ -109,8 +109,37 @@ function! s:Tell(connection, response) abort
   call timer_start(0, {-> s:Echo(l:words)})
 endfunction
 
+" Shows errors with hints that still belong to the text of a buffer: what was probably meant, after each fixed message.
+function! s:ShowHints(tick, buffer, out, meta) abort
+  let l:errors = []
+  silent! let l:errors = json_decode(join(a:out, "\n"))
+  let l:items = filter(copy(ale#engine#GetLoclist(a:buffer)), 'v:val.linter_name ==# "ob0"')
+  let l:is_same = type(l:errors) is v:t_list && a:tick == getbufvar(a:buffer, 'changedtick')
+        \ && map(copy(l:items), 'v:val.text') ==# map(copy(l:errors), 'v:val.description')
+  if !l:is_same || empty(filter(copy(l:errors), 'has_key(v:val, "content")')) | return | endif
+  for l:index in range(len(l:items))
+    if has_key(l:errors[l:index], 'content')
+      let l:items[l:index].text .= ' | hint: ' . l:errors[l:index].content.body
+    endif
+  endfor
+  call ale#engine#SetResults(a:buffer, ale#engine#GetLoclist(a:buffer))
+endfunction
+
+" Asks `ob0-check --hints` about new errors, once ALE shows them. The script is in the program's folder, or on PATH.
+function! s:AskForHints(buffer) abort
+  let l:is_new = 'v:val.linter_name ==# "ob0" && !has_key(v:val, "ob0_asked")'
+  let l:items = filter(copy(ale#engine#GetLoclist(a:buffer)), l:is_new)
+  let l:near = fnamemodify(exepath(ale#Var(a:buffer, 'ob0_executable')), ':h') . '/ob0-check'
+  let l:script = executable(l:near) ? l:near : 'ob0-check'
+  if empty(l:items) || !get(g:, 'ob0_hints', 1) || !executable(l:script) | return | endif
+  call map(l:items, 'extend(v:val, {"ob0_asked": 1})')
+  let l:Show = function('s:ShowHints', [getbufvar(a:buffer, 'changedtick')])
+  call ale#command#Run(a:buffer, ale#Escape(l:script) . ' --hints --json -', l:Show, {'read_buffer': 1})
+endfunction
+
 function! s:Listen() abort
   if &filetype ==# 'ob0'
+    call s:AskForHints(bufnr(''))
     let l:connection = ale#Var(bufnr(''), 'ob0_executable') . ':' . expand('%:p:h')
     call ale#lsp#RegisterCallback(l:connection, function('s:Tell'))
   endif
