@@ -425,7 +425,7 @@ def other_white_space() -> None:
         talk = Talk()
         fault(talk)
         same((talk.found(True), talk.found(False)), (set(), set()), f"the broken rules and the notes of {what}")
-        same([talk.watcher.watched[it] for it in ("same-tokens", "half-edit")], [1, 1], f"how often {what} is counted")
+        same([talk.watcher.watched[it] for it in ("same-tokens", "half-edit")], [1, 1], f"the counts of {what}")
     talk = Talk()
     renamed(TYPED, RENAMED.replace(" := ", ":="))(talk)
     same((talk.found(True), talk.watcher.watched["half-edit"]), (set(), 0), "after a notification that typed a blank")
@@ -440,7 +440,7 @@ def compared_tokens() -> None:
         for text in (marks, random_texts.changed_module(seed, False) if seed < 20 else ""):
             lexemes, faults = scan(text)
             found = WATCH.tokens_of(text)
-            same(found[-1:] == ["(*"], any(it[0] == "OpenComment" for it in faults), f"whether a comment of {text!r} has no end")
+            same(found[-1:] == ["(*"], any(it[0] == "OpenComment" for it in faults), f"an open comment in {text!r}")
             if not faults:
                 same(found, [it.text for it in lexemes if it.kind != "comment"], f"the tokens of {text!r}")
                 compared += len(found) > 5
@@ -455,8 +455,8 @@ def too_long() -> None:
     for more, written, rules in (("", "\n", set()), ("x", "\n", set()), ("", "\r", set()), ("", "\r\n", {"same-tokens"})):
         talk = Talk()
         answered(text + more, edits, [{**edits[0], "text": written}], method=FORMAT)(talk)
-        same(talk.found(True), rules, f"what is broken by {written!r} and {more!r}")
-        same(talk.watcher.watched["same-tokens"], 1, "how often it is counted")
+        same(talk.found(True), rules, f"the broken rules with {written!r} and {more!r}")
+        same(talk.watcher.watched["same-tokens"], 1, "the count")
 
 
 @test("watch: a didOpen before `initialize` is reported, and a didOpen or a request before its answer is noted")
@@ -489,7 +489,7 @@ def line_ends() -> None:
         talk.changes(text.replace("VAR ", f"VAR{written}  ").replace(": ", ":  ").replace(f";{end}END", f";{written}END"))
         what = f"an edit with {written!r} in a text with {end!r}"
         same((talk.found(True), talk.found(False)), (set(), set()), what)
-        same([talk.watcher.watched[it] for it in ("same-tokens", "half-edit")], [1, 1], f"how often {what} is counted")
+        same([talk.watcher.watched[it] for it in ("same-tokens", "half-edit")], [1, 1], f"the counts of {what}")
 
 
 @test("watch: a change is reported as lost if a written file has a text that the editor didn't send")
@@ -522,7 +522,7 @@ def many_line_ends() -> None:
         for it in reversed(edits):
             talk.changes([{**it, "text": it["text"].replace("\n", end)}])
         same((talk.found(True), talk.found(False)), (set(), set()), f"the layout of a text with {end!r}")
-        same(talk.watcher.watched["half-edit"], 1, "how often it is counted")
+        same(talk.watcher.watched["half-edit"], 1, "the count")
 
 
 def put(path: str, text: str) -> None:
