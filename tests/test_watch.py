@@ -2,6 +2,7 @@
 about conversations that keep the rules. (The tests of editors also run under it: tests/lib/watched.py.)"""
 from __future__ import annotations
 
+import itertools
 import os
 import random
 import re
@@ -17,12 +18,14 @@ import conversations
 import harness
 import keyed
 import long_conversation
+import random_texts
 import several_documents
 import watched
 from first_conversation import INPUT, OUTPUT
 from harness import EXIT, Message, did_change, did_close, did_open, extent, frame, holds, need_program, notice, place, request
 from harness import same, test, want
 from homes import temporary, write
+from reference.scanner import scan
 from snippets import snippets
 
 WATCH = watched.load()
@@ -113,6 +116,7 @@ class Talk:
 
 # ways in which an editor may send the edits of a rename: for each way, the changes of each notification
 IN_TURN = replacements("tot", reversed(PLACES))
+ONE_RANGE: Message = {"range": extent("1:4-2:21"), "text": "tot: INTEGER;\nBEGIN tot := 1; Write(tot"}
 TAKEN_OUT: Edits = [it for edit in IN_TURN for it in ({**edit, "text": ""}, inserted(edit["range"]["start"], "tot"))]
 TOLD: Dict[str, List[Any]] = {
     "as the whole text": [RENAMED],
@@ -120,7 +124,7 @@ TOLD: Dict[str, List[Any]] = {
     "one at a time": [[it] for it in IN_TURN],
     "each taken out and put in": [TAKEN_OUT],
     "each taken out and put in, one at a time": [[it] for it in TAKEN_OUT],
-    "as one range": [[{"range": extent("1:4-2:21"), "text": "tot: INTEGER;\nBEGIN tot := 1; Write(tot"}]],
+    "as one range": [[ONE_RANGE]],
     "as lines": [[{"range": extent("1:0-3:0"), "text": RENAMED.partition("\n")[2].rpartition("END")[0]}]],
     "with what is typed next": [[*IN_TURN, *(inserted(place(0, at), it) for at, it in enumerate("(* new *)\n"))]],
 }
@@ -132,7 +136,7 @@ def clean() -> None:
     other = notice("$/setTrace", {"value": "off"})
     for how, notifications in TOLD.items():
         for count in (0, 1):
-            talk = Talk()
+            talk = Talk(workspace={} if count else EDITS["workspace"])  # (with the document's version in the answer, or without)
             talk.is_answered(replacements("tot"))
             for changes in notifications:
                 talk.changes(changes)
@@ -190,6 +194,11 @@ def lower(edits: Edits) -> Edits:
     return found
 
 
+def late_in_cr_lf(changes: Edits) -> Fault:
+    """Returns a fault: these changes tell a late layout in a text with CR LF."""
+    return lambda talk: (talk.changes(TEXT.replace("\n", "\r\n")), late(talk, changes, FORMAT, ENDED))
+
+
 def reopened(talk: Talk, text: str, changes: Edits, *between: harness.Content) -> None:
     """Asks for a rename, sends the messages `between`, and opens the document again with this text. Then gives the
     answer, and sends the changes."""
@@ -217,20 +226,41 @@ def renamed(*changes: Any) -> Fault:
     return lambda talk: (talk.is_answered(replacements("tot")), changed(*changes)(talk))
 
 
-def inlined(text: str) -> Fault:
-    """Returns a fault in which an inlining of a constant after an emoji is answered and the editor then sends this
-    text."""
+def answered(text: str, edits: Any, *changes: Any, method: str = RENAME) -> Fault:
+    """Returns a fault: in this text a request is answered with these edits, and then the editor sends these changes."""
 
     def fault(talk: Talk) -> None:
-        talk.changes(EMOJI)
-        talk.is_answered([replacements("7", ["2:21-2:22"])], ACTION)
         talk.changes(text)
+        talk.is_answered(edits, method)
+        changed(*changes)(talk)
 
     return fault
 
 
+def inlined(text: str) -> Fault:
+    """Returns a fault: an inlining of a constant after an emoji is answered, and then the editor sends this text."""
+    return answered(EMOJI, [replacements("7", ["2:21-2:22"])], text, method=ACTION)
+
+
+def broken(column: int, text: str) -> Fault:
+    """Returns a fault: a layout that breaks the line after an emoji in this column is answered, and then the editor
+    sends this text."""
+    return answered(SPACED, [inserted(place(2, column), "\n")], text, method=FORMAT)
+
+
+def commented(change: Callable[[str], str]) -> Fault:
+    """Returns a fault: a rename in a text with a comment is answered, and then the editor sends the renamed text with
+    this change."""
+    text, places = TEXT.replace("BEGIN", "(* a\n(* b *)\n*) BEGIN"), ["1:4-1:5", "4:9-4:10", "4:23-4:24"]
+    return answered(text, replacements("tot", places), change(harness.edited(text, places, "tot")))
+
+
 EMOJI = "MODULE M;\nCONST k = 7;\nBEGIN (* \U0001f600 *) Write(k) END M.\n"
+SPACED = EMOJI.replace("*) ", "*)  ")
 TYPED = [inserted(place(0, 0), " ")]
+INDENTED = [inserted(place(line, 0), "  ") for line in (1, 2)]
+BROKEN_UP = [{"range": extent("1:3-1:4"), "text": "\n  "}]
+ENDED = [{"range": extent("1:15-2:0"), "text": "\n"}, *BROKEN_UP]
 # faults in a conversation, each with the rule that it breaks
 BROKEN: Dict[str, Tuple[str, Fault]] = {
     "a late edit at its old places": ("late-edit", lambda talk: late(talk, IN_TURN)),
@@ -243,7 +273,10 @@ BROKEN: Dict[str, Tuple[str, Fault]] = {
     ),
     "a late layout": ("late-edit", lambda talk: late(talk, [inserted(place(2, 0), "  ")], FORMAT, [inserted(place(1, 0), "  ")])),
     "a late inlining": ("late-edit", lambda talk: late(talk, lower(IN_TURN[:1]), ACTION, [IN_TURN, IN_TURN[:1]])),
-    "an edit that is made with what was typed before it": ("late-edit", renamed([*TYPED, *IN_TURN])),
+    "a late layout with CR LF": ("late-edit", late_in_cr_lf([{**lower(BROKEN_UP)[0], "text": "\r\n  "}])),
+    "a late layout with LF in a text with CR LF": ("late-edit", late_in_cr_lf(lower(ENDED))),
+    "a layout after a blank was typed": ("late-edit", answered(TEXT, INDENTED, TYPED, INDENTED, method=FORMAT)),
+    "an edit that is made with what was typed before it": ("late-edit", renamed([inserted(place(0, 0), "x"), *IN_TURN])),
     "an edit after a reopen with another text": ("late-edit", lambda talk: reopened(talk, "\n" + TEXT, lower(IN_TURN), did_close())),
     "an edit after a reopen, at its old places": ("late-edit", lambda talk: reopened(talk, "\n" + TEXT, IN_TURN, did_close())),
     "an edit after an open document was opened again": ("late-edit", lambda talk: reopened(talk, "\n" + TEXT, lower(IN_TURN))),
@@ -256,6 +289,11 @@ BROKEN: Dict[str, Tuple[str, Fault]] = {
     "half an edit as the whole text": ("half-edit", renamed(harness.edited(TEXT, PLACES[1:], "tot"), *[TYPED] * 3)),
     "half an edit at the end": ("half-edit", renamed(IN_TURN[:2])),
     "half an edit, and a close": ("half-edit", lambda talk: (renamed(IN_TURN[:2])(talk), talk.sends(did_close(), did_open("")))),
+    "a line that is broken inside a word": ("wrong-places", broken(16, SPACED.replace("Write", "W\nrite"))),
+    "an edit with a blank inside a word": ("same-tokens", renamed(harness.edited(TEXT, PLACES, "to t"))),
+    "an edit with two words joined": ("same-tokens", renamed(RENAMED.replace("VAR ", "VAR"))),
+    "an edit with a no-break space": ("same-tokens", renamed(RENAMED.replace("VAR ", "VAR\u00a0"))),
+    "an edit with a comment that loses its end": ("same-tokens", commented(lambda it: it.replace("*)", "* )", 1))),
     "an edit at columns counted in bytes": ("wrong-places", inlined(EMOJI.replace("Write", "Writ7"))),
     "an edit at columns counted in characters": ("wrong-places", inlined(EMOJI.replace("(k)", "(k7"))),
     "a range inside a character": ("ranges", changed(EMOJI, [inserted(place(2, 10), "x")])),
@@ -315,6 +353,24 @@ NOTED: Dict[str, Tuple[str, Fault]] = {
     "an id that a question had": ("ids", lambda talk: (talk.sends(HOVER), talk.answers("h", None), made_as("h")(talk))),
     "a question with the id of an edit": ("ids", lambda talk: (made_as("h")(talk), talk.sends(HOVER))),
 }
+# edits that are made with other white space or comments
+SAME_TOKENS: Dict[str, Fault] = {
+    "a blank typed before an edit, in one notification": renamed([*TYPED, *IN_TURN]),
+    "an edit with CR LF, as one text": renamed(RENAMED.replace("\n", "\r\n")),
+    "an edit with CR for some LF, as one text": renamed(RENAMED.replace(";\n", ";\r")),
+    "an edit without the end of the last line": renamed(RENAMED.rstrip("\n")),
+    "an edit with two ends of the last line": renamed(RENAMED + "\n"),
+    "an edit with blanks trimmed and others added": renamed(RENAMED.replace(" := ", ":=").replace("\n", "\t\n")),
+    "an edit with a comment typed next, as one text": renamed(RENAMED + "(* new (* (*) *) *) *)"),
+    "an edit with other line ends in a comment": commented(lambda it: it.replace("b *)\n", "b *)\r")),
+    "an inlining with blanks added": inlined(EMOJI.replace("(k)", " ( 7 )")),
+    "a line that is broken at another blank": broken(14, SPACED.replace("  Write", " \n Write")),
+    "a layout with blanks trimmed": answered("A \nB", INDENTED[:1], "A\n  B", method=FORMAT),
+    "a layout with CR LF and an end of the last line": answered("A\nB", INDENTED[:1], "A\r\n  B\r\n", method=FORMAT),
+    "a layout with CR LF for some LF": answered("A B", [{"range": extent("0:1-0:2"), "text": "\n\n"}], "A\r\n\nB", method=FORMAT),
+    "half a layout, and what is typed next": answered(TEXT, INDENTED, INDENTED[:1], *[TYPED] * 9, method=FORMAT),
+    "half a layout, and a close": lambda talk: (answered(TEXT, INDENTED, INDENTED[1:], method=FORMAT)(talk), talk.sends(did_close())),
+}
 # conversations that the rules allow
 ALLOWED: Dict[str, Fault] = {
     "versions that fall, come again, are negative and large": lambda talk: [talk.changes(TYPED, it) for it in (5, 4, 4, 0, -1, 2**63 - 1)],
@@ -329,6 +385,8 @@ ALLOWED: Dict[str, Fault] = {
     "the same after another change": lambda talk: (
         talk.is_answered(replacements("tot")).changes([inserted(place(0, 0), "\n")]).sends(did_close(), did_open("\n" + RENAMED)),
     ),
+    "an edit and what is typed next, as one text": renamed(RENAMED.replace(")", " + 2)")),
+    "an edit and what is typed next, as one range": renamed([{**ONE_RANGE, "text": f"{ONE_RANGE['text']} + 2"}]),
     "a close of what isn't open": told(did_close("file:///other")),
     "a question about what isn't open": told(did_close(), HOVER),
     "a rename of what isn't open": lambda talk: talk.sends(did_close()).asks(),
@@ -361,26 +419,44 @@ def planted() -> None:
         same((found(fault, True), found(fault, False)), (set(), set()), f"the broken rules and the notes of {what}")
 
 
-NO_EDITS: Message = {"workspace": {}, "textDocument": {}}
-# each row: what a client announces, the request whose edit it makes, and whether that is noted
-ANNOUNCED: List[Tuple[Message, str, bool]] = [
-    *((EDITS, it, False) for it in (RENAME, ACTION, FORMAT)),
-    *(({**NO_EDITS, "workspace": EDITS["workspace"]}, it, it == ACTION) for it in (RENAME, ACTION, FORMAT)),
-    *(({**NO_EDITS, "textDocument": LITERALS}, it, False) for it in (RENAME, ACTION, FORMAT)),
-    *((NO_EDITS, it, it == ACTION) for it in (RENAME, ACTION, FORMAT)),
-]
+@test("watch: an edit that is made with other white space is counted and not reported if its tokens are the answer's")
+def other_white_space() -> None:
+    for what, fault in SAME_TOKENS.items():
+        talk = Talk()
+        fault(talk)
+        same((talk.found(True), talk.found(False)), (set(), set()), f"the broken rules and the notes of {what}")
+        same([talk.watcher.watched[it] for it in ("same-tokens", "half-edit")], [1, 1], f"the counts of {what}")
+    talk = Talk()
+    renamed(TYPED, RENAMED.replace(" := ", ":="))(talk)
+    same((talk.found(True), talk.watcher.watched["half-edit"]), (set(), 0), "after a notification that typed a blank")
 
 
-@test("watch: ob0-watch notes an applied edit if the client doesn't announce a capability that the edit needs")
-def capabilities() -> None:
-    for client, method, is_noted in ANNOUNCED:
-        talk = Talk(**client)
-        edits = replacements("tot")
-        talk.is_answered([edits] if method == ACTION else edits, method)
-        same(talk.found(False), set(), f"{method}, by a client that announces {client} and drops the answer")
-        talk.changes(IN_TURN)
-        notes = {"capabilities"} if is_noted else set()
-        same((talk.found(True), talk.found(False)), (set(), notes), f"{method}, by a client that announces {client}")
+@test("watch: the tokens by which edits are compared are those that the reference finds")
+def compared_tokens() -> None:
+    compared = 0
+    for seed in range(400):
+        chance = random.Random(seed)
+        marks = "".join(chance.choice("(**) a\n:=<>.") for _ in range(chance.randrange(20)))
+        for text in (marks, random_texts.changed_module(seed, False) if seed < 20 else ""):
+            lexemes, faults = scan(text)
+            found = WATCH.tokens_of(text)
+            same(found[-1:] == ["(*"], any(it[0] == "OpenComment" for it in faults), f"an open comment in {text!r}")
+            if not faults:
+                same(found, [it.text for it in lexemes if it.kind != "comment"], f"the tokens of {text!r}")
+                compared += len(found) > 5
+    holds(compared > 50, f"{compared} texts with many tokens were compared")
+
+
+@test("watch: an edit with other white space may make a text of 1,048,576 bytes, and one more is reported")
+def too_long() -> None:
+    head = "MODULE M; VAR n: INTEGER; END M. (* \u00e9"
+    text = head + "x" * ((1 << 20) - len(head.encode()) - 3) + " *)"
+    edits = [{"range": extent("0:9-0:10"), "text": "\n"}]
+    for more, written, rules in (("", "\n", set()), ("x", "\n", set()), ("", "\r", set()), ("", "\r\n", {"same-tokens"})):
+        talk = Talk()
+        answered(text + more, edits, [{**edits[0], "text": written}], method=FORMAT)(talk)
+        same(talk.found(True), rules, f"the broken rules with {written!r} and {more!r}")
+        same(talk.watcher.watched["same-tokens"], 1, "the count")
 
 
 @test("watch: a didOpen before `initialize` is reported, and one before the answer to `initialize` is noted")
@@ -403,29 +479,17 @@ def counted_units() -> None:
     same((talk.found(True), talk.watcher.watched["wrong-places"]), (set(), 1), "by bytes")
 
 
-# each row: the line ending of a text, the line ending that an editor writes for each LF of an edit, and whether that is
-# noted
-LINE_ENDS = [
-    ("\n", "\n", False),
-    ("\r\n", "\n", False),
-    ("\r\n", "\r\n", False),
-    ("\r", "\r", False),
-    ("\n", "\r\n", True),
-    ("\r\n", "\r", True),
-]
-
-
-@test("watch: an edit may use the text's own line ending for each LF, and any other line ending is noted")
+@test("watch: an edit may use any line ending for each LF, whatever the text's own one is")
 def line_ends() -> None:
-    for end, written, is_noted in LINE_ENDS:
+    for end, written in itertools.product(("\n", "\r\n", "\r"), repeat=2):
         text = "MODULE M;\nVAR n: INTEGER;\nEND M.\n".replace("\n", end)
         talk = Talk(text)
-        edits = [{"range": extent("1:3-1:4"), "text": "\n  "}, {"range": extent("1:6-1:7"), "text": "  "}]
+        edits = [*BROKEN_UP, {"range": extent("1:6-1:7"), "text": "  "}, {"range": extent("1:15-2:0"), "text": "\n"}]
         talk.is_answered(edits, FORMAT)
-        talk.changes(text.replace("VAR ", f"VAR{written}  ").replace(": ", ":  "))
+        talk.changes(text.replace("VAR ", f"VAR{written}  ").replace(": ", ":  ").replace(f";{end}END", f";{written}END"))
         what = f"an edit with {written!r} in a text with {end!r}"
-        same((talk.found(True), talk.found(False)), (set(), {"line-ends"} if is_noted else set()), what)
-        same([talk.watcher.watched[it] for it in ("line-ends", "half-edit")], [1, 1], f"how often {what} is counted")
+        same((talk.found(True), talk.found(False)), (set(), set()), what)
+        same([talk.watcher.watched[it] for it in ("same-tokens", "half-edit")], [1, 1], f"the counts of {what}")
 
 
 @test("watch: a change is reported as lost if a written file has a text that the editor didn't send")
@@ -458,7 +522,7 @@ def many_line_ends() -> None:
         for it in reversed(edits):
             talk.changes([{**it, "text": it["text"].replace("\n", end)}])
         same((talk.found(True), talk.found(False)), (set(), set()), f"the layout of a text with {end!r}")
-        same(talk.watcher.watched["half-edit"], 1, "how often it is counted")
+        same(talk.watcher.watched["half-edit"], 1, "the count")
 
 
 def put(path: str, text: str) -> None:

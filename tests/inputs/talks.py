@@ -1,5 +1,5 @@
-"""Conversations of an editor with a server behind ob0-watch, as steps, and what the report says of each: 28 in which
-the editor breaks a rule, or does what no rule is about, and 22 that keep all rules in unusual ways.
+"""Conversations of an editor with a server behind ob0-watch, as steps, and what the report says of each: 29 in which
+the editor breaks a rule, or does what no rule is about, and 25 that keep all rules in unusual ways.
 
 A step is a word and what belongs to it:
 
@@ -42,6 +42,7 @@ class Made(NamedTuple):
     is_reversed: bool = True  # whether from the last place to the first
     only: Optional[int] = None  # how many of its replacements, or all of them
     is_apart: bool = False  # whether each replacement has a notification
+    end: str = "\n"  # what it writes for each LF
     more: List[Message] = []  # changes that come after it in the same notification
 
 
@@ -107,6 +108,11 @@ FAULTS = [
     Talk(
         "a late layout",
         [("open", ON_A_LINE), ("layout",), ("change", [ABOVE]), ("make", Made(lower=1))],
+        "late-edit",
+    ),
+    Talk(
+        "a late layout with CR LF",
+        [("open", ON_A_LINE), ("layout",), ("change", [ABOVE]), ("make", Made(lower=1, end="\r\n"))],
         "late-edit",
     ),
     Talk(
@@ -195,7 +201,7 @@ FAULTS = [
         "readable",
     ),
     Talk("a change after `shutdown`", [*OPENED, ("tell", SHUTDOWN, did_change([BLANK], URI), EXIT), ("exit",)], "end"),
-    Talk("half of a layout", [("open", ON_A_LINE), ("layout",), ("make", Made(only=1)), *TYPED, *TYPED], "half-edit"),
+    Talk("a rename with a blank inside a word", [*ASKED, ("change", RENAMED.replace("total", "to tal"))], "same-tokens"),
     Talk(
         "an edit after a reopen with a shorter text, at its old places",
         [*ASKED, ("close",), ("open", TEXT.replace("Write(n)", "Write(2+n)")), ("make",), *TYPED],
@@ -220,7 +226,7 @@ FAULTS = [
     ),
     Talk(
         "a late edit that is told in one whole text with what was typed",
-        [*ASKED, ("change", "(* new *)\n" + RENAMED + "(* after *)\n"), *TYPED],
+        [*ASKED, ("change", "(* new *)\n" + RENAMED.replace("INTEGER", "BOOLEAN")), *TYPED],
         manual="An edit that is told in one change together with other typing isn't recognized",
     ),
 ]
@@ -433,6 +439,15 @@ KEPT = [
         place=(2, 4),
     ),
     Talk("an edit in several notifications", [*ASKED, ("make", Made(is_apart=True))]),
+    Talk(
+        "an edit with CR LF, trimmed blanks, a comment and one more line",
+        [*ASKED, ("change", RENAMED.replace(" := ", ":=").replace("\n", "\r\n") + "(* new *)\n"), *TYPED],
+    ),
+    Talk(
+        "a layout with CR LF in several notifications",
+        [("open", ON_A_LINE), ("layout",), ("make", Made(is_apart=True, end="\r\n")), ("rename",)],
+    ),
+    Talk("half of a layout", [("open", ON_A_LINE), ("layout",), ("make", Made(only=1)), *TYPED, *TYPED]),
     Talk(
         "requests that the server doesn't know",
         [*OPENED, *(("ask", it, of(range=extent("0:0-0:0"))) for it in UNKNOWN), *MADE],
