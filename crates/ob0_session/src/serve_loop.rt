@@ -13,7 +13,8 @@
 //!
 //! `NeverReadsOwing` states that no answer is owed when a read begins: each message that was read is
 //! answered, and the answers are written and flushed. It needs a stream that records its calls in
-//! order. A reader and a writer record no common order, so `serve` can't state it.
+//! order. A reader and a writer record no common order, so `serve` can't state it. `answer_piece`
+//! does what one piece requires: its clause `prompt` states that no answer is owed for that piece.
 
 ghost use Rattle.std.specs.Prelude.{◌≡◌, ◌≢◌, ◌++◌, List, ℕ, [], true, false, IfOk, OnOk, OnErr, length, map, MatchResult};
 ghost use Rattle.std.specs.Io.KnownBytes.{Appends, Consumes, IsAtEnd};

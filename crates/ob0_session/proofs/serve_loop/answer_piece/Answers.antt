@@ -58,7 +58,7 @@ returns-in-Err-clause-answers g c =
       more = a.0;
       writes = writes_no_more (state c.args.stream.now) (state c.answer_waiting_messages.new.stream) (state c.flush_after_fault.new.stream) a.0 a.1 c.flush_after_fault.ensures.bytes;
       serves = λ taken put h.
-          interrupted c.in-Err.fault c.flush_after_fault.result (taken ++ c.args.piece.now) _ _ c.feed_piece.new.framer.rest c.args.session.now put a.0 _ _ _ _ _
+          interrupted c.in-Err.fault c.flush_after_fault.result (taken ++ c.args.piece.now) _ c.answer_waiting_messages.new.framer.waiting c.feed_piece.new.framer.rest c.args.session.now put a.0 c.answer_waiting_messages.new.session _ _ _ _
           (fed g (goal.at.returns-in-Err-clause-answers g c).In-Ok taken put h) a.2 c.flush_after_fault.ensures.fault (λ flushed _. flushed);
     }
 
