@@ -1,5 +1,4 @@
--- States that no answer is owed when a read begins, and that none is owed for a piece (the bytes
--- that one read returns).
+-- States that no answer is owed when a read begins, or for a piece (the bytes that one read returns).
 -- Rule: docs/PROTOCOL.md, Framing 7.
 use Rattle.std.specs.Prelude.{◌≡◌, ℕ, List, [], ◌∷◌, ◌++◌, true}
 use Rattle.std.specs.List.{flat_map}

@@ -166,10 +166,10 @@ ServesAfterPiece (Ok Continue) taken put failed flushed = failed ≡ false
 ServesAfterPiece (Ok (End status)) taken put failed flushed = Serves (Ok status) taken put ⊥ ⊥ false failed flushed
 ServesAfterPiece (Err fault) taken put failed flushed = Serves (Err fault) taken put ⊥ ⊥ false failed flushed
 
--- States that a call for this piece, with this result, writes the bytes `more`. If the bytes `taken`
--- were read before the piece, and the bytes `put` answer all contents in them, `ServesAfterPiece`
--- holds for all the bytes, including the piece and `more`. `framer` and `before` are the states of
--- the framer and the session before the piece.
+-- States that a call for this piece, with this result, writes the bytes `more`. Suppose that the
+-- bytes `put` answer all contents in the bytes `taken`, which were read before the piece. Then
+-- `ServesAfterPiece` holds for all the bytes, including the piece and `more`. `framer` and `before`
+-- are the states of the framer and the session before the piece.
 pub record AnswersPiece (framer : FramerState) (before : ServerState) (piece : List ℕ)
     (result : Result Next ServeFault) (old new : StreamState) : Type 0 where
   pub more : List ℕ

@@ -144,8 +144,8 @@ pub fn serve_stream<S: Stream>(alloc: Global, stream: &mut S) -> Result<u8, Serv
 // Answers the message contents that a piece completes, one after another, and flushes the answers.
 // Returns `Continue` if the next piece can be read: then no answer is owed (`prompt`). Returns `End`
 // with the exit status if the conversation ends. Returns `BadHead` if no message can begin with the
-// bytes after the last content, `Memory` if an allocation fails, and `Write` if a write or a flush
-// fails.
+// bytes after the last content. Returns `Memory` if an allocation fails, and `Write` if a write or a
+// flush fails.
 fn answer_piece<S: Stream>(
     alloc: Global,
     framer: &mut Framer,

@@ -1,9 +1,7 @@
 use Rattle.std.proofs.Common.{◌≡◌, ◌∙◌, ◌++◌, List, ℕ, [], false, Ok, inl, refl, sym, ap, subst, append-nil}
-use Rattle.std.specs.List.{flat_map}
-use Rattle.ob0_frame.specs.Frames.{frame}
-use Rattle.ob0_frame.specs.FramerState.{FramerState, StreamRest, PieceAdvancesStream, Open}
+use Rattle.ob0_frame.specs.FramerState.{FramerState, StreamRest, PieceAdvancesStream}
 use Rattle.ob0_session.specs.ServeSteps.{AnswersAllButRemaining, AnswersWaitingMessages, WritesAndFlushes}
-use Rattle.ob0_session.specs.ServeResults.{AnswersAllButWaiting, AnswersAllContents}
+use Rattle.ob0_session.specs.ServeResults.{AnswersAllButWaiting}
 use Rattle.ob0_session.specs.StreamSteps.{flush_fails}
 use Rattle.ob0_session_server.specs.declared.session.Next.{Next}
 use Rattle.ob0_session.proofs.ServedLaws.{Texts, served_fed, served_answered, front_of_refused, open_bytes}
@@ -111,6 +109,8 @@ returns-then-not-can_continue-clause-answers g c =
 
 pub returns-clause-prompt : goal.returns-clause-prompt
 returns-clause-prompt g c =
+    let state = g.S.Stream.state in
+    let e = c.in-Ok-flush.ensures in
     let a = c.in-Ok-answer_waiting_messages.ensures.answers in
     let P : Next → Type 0 = λ n. AnswersWaitingMessages c.feed_piece.new.framer.waiting c.args.session.now c.answer_waiting_messages.new.framer.waiting c.answer_waiting_messages.new.session a.0 (Ok n) (g.S.Stream.state c.answer_waiting_messages.new.stream).output.has_failed in
     let all = subst P c.in-Continue.is a.2 in
@@ -118,7 +118,7 @@ returns-clause-prompt g c =
     let left = open_bytes c.feed_piece.new.framer.rest (c.in-Ok.ensures.can_continue c.if-not-can_continue.false) in
     let none = ap (λ (f : FramerState). f.waiting) c.requires.between.1 in
     let contents : takes.contents ≡ all.answered.answered =
-        sym (ap (λ (xs : Texts). xs ++ takes.contents) none) ∙ sym takes.appended ∙ all.answered.cut ∙ ap (λ (xs : Texts). all.answered.answered ++ xs) all.none_left ∙ append-nil all.answered.answered in
+    sym (ap (λ (xs : Texts). xs ++ takes.contents) none) ∙ sym takes.appended ∙ all.answered.cut ∙ ap (λ (xs : Texts). all.answered.answered ++ xs) all.none_left ∙ append-nil all.answered.answered in
     let Q : Texts → StreamRest → Type 0 = λ contents rest. PieceAdvancesStream c.args.framer.now.rest c.args.piece.now contents rest in
     record {
       contents = all.answered.answered;
@@ -127,7 +127,8 @@ returns-clause-prompt g c =
       completes = subst (Q all.answered.answered) left.1 (subst (λ xs. Q xs c.feed_piece.new.framer.rest) contents takes.feeds);
       conversation = all.answered.conversation;
       not_ended = all.not_ended;
-      written = subst (WritesAndFlushes (g.S.Stream.state c.args.stream.now) (g.S.Stream.state c.flush.new.self)) all.answered.framed (flushed g (goal.at.returns-clause-prompt g c).In-Ok-flush);
+      written = subst (WritesAndFlushes (state c.args.stream.now) (state c.flush.new.self)) all.answered.framed
+          (writes_flushed (state c.args.stream.now) (state c.answer_waiting_messages.new.stream) (state c.flush.new.self) a.0 a.1 e.bytes e.input e.references e.steps e.flushed);
       framer = λ i. record { waiting = all.none_left i; rest = (c.in-Ok-answer_waiting_messages.ensures.same ∙ left.1) i };
     }
 

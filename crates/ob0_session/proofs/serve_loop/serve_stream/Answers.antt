@@ -1,10 +1,7 @@
-use Rattle.std.proofs.Common.{◌≡◌, ◌∙◌, ◌+◌, List, ℕ, [], Result, Ok, Err, take, refl, ap, subst, arith}
+use Rattle.std.proofs.Common.{◌≡◌, ◌∙◌, ◌+◌, ℕ, [], Result, Err, take, refl, ap, arith}
 use Rattle.std.proofs.lemmas.List.{length-take-le}
-use Rattle.ob0_frame.specs.FramerState.{FramerState}
 use Rattle.ob0_session.specs.declared.serve_loop.ServeFault.{ServeFault}
 use Rattle.ob0_session.specs.declared.serve_loop.ServeFault.TheVariants.{Read}
-use Rattle.ob0_session_server.specs.declared.session.Next.{Next}
-use Rattle.ob0_session_server.specs.declared.session.Next.TheVariants.{End}
 use Rattle.ob0_session.proofs.ServedLaws.{served_start}
 use Rattle.ob0_session.proofs.Turns.{IsResultAtEnd, MayReturn, PieceRead, since_start, flushed_start, failed_read, read_most, piece_read, input_ended, stopped, exited, piece_answered, served_of, prompt_of}
 use Rattle.ob0_session.proofs.serve_loop.serve_stream.Given as given
