@@ -1,13 +1,14 @@
 -- Proves facts about the record of a stream's calls: how it grows, and that no answer is owed when a
 -- read begins.
-use Rattle.std.proofs.Common.{◌≡◌, ◌≢◌, ◌∙◌, ℕ, List, [], ◌∷◌, ◌++◌, true, Option, None, Some, ◌⊎◌, inl, inr, refl, sym, subst, append_assoc, append-nil}
+use Rattle.std.proofs.Common.{◌≡◌, ◌≢◌, ◌∙◌, ℕ, List, [], ◌∷◌, ◌++◌, Bool, true, Option, None, Some, ◌⊎◌, inl, inr, refl, sym, ap, subst, append_assoc, append-nil}
+use Rattle.std.specs.List.{fold}
 use Rattle.std.proofs.lemmas.List.Sums.{fold-append}
 use Rattle.std.proofs.lemmas.Grind.{flat_map-append}
 use Rattle.std.proofs.KnownBytes.{Appends-nil, Appends-trans, Appends-kept}
 use Rattle.std.specs.Io.KnownBytes.{Appends, Keeps}
 use Rattle.ob0_frame.specs.FramerState.{Open}
 use Rattle.ob0_session.specs.ServeResults.{AnswersAllContents}
-use Rattle.ob0_session.specs.ServeSteps.{IsOutputStep, AreOutputSteps, WritesToStream}
+use Rattle.ob0_session.specs.ServeSteps.{IsOutputStep, AreOutputSteps, WritesAndFlushes, WritesToStream}
 use Rattle.ob0_session.specs.StreamSteps.{StreamStep, read_begins, read_gives, read_fails, writes, write_fails, flushes, flush_fails, StreamState, Records, bytes_given_by, bytes_written_by, is_flushed_after, bytes_given, bytes_written, is_all_flushed}
 use Rattle.ob0_session.specs.OwedAnswers.{OwesNothing, NeverReadsOwing}
 
@@ -27,7 +28,7 @@ lost : (a : Option Steps) (xs : Steps) → Records a None xs
 lost None xs = refl
 lost (Some x) xs = tt
 
-records_more : (a b c : Option Steps) (xs ys : Steps) → Records a b xs → Records b c ys → Records a c (xs ++ ys)
+pub records_more : (a b c : Option Steps) (xs ys : Steps) → Records a b xs → Records b c ys → Records a c (xs ++ ys)
 records_more a None c xs ys p q = subst (λ (o : Option Steps). Records a o (xs ++ ys)) (sym q) (lost a (xs ++ ys))
 records_more a (Some y) None xs ys p q = lost a (xs ++ ys)
 records_more None (Some y) (Some z) xs ys p q = absurd (known y p)
@@ -85,7 +86,31 @@ other_writes a b step output none kept input references recorded = record {
   written = append-nil (bytes_written_by step) ∙ none;
 }
 
-nothing_given : (steps : Steps) → AreOutputSteps steps → bytes_given steps ≡ []
+pub flushed_more : (xs ys : Steps) → is_all_flushed xs ≡ true → is_all_flushed ys ≡ true → is_all_flushed (xs ++ ys) ≡ true
+flushed_more xs ys h k = fold-append is_flushed_after true xs ys ∙ ap (λ (b : Bool). fold is_flushed_after b ys) h ∙ k
+
+-- Nothing more is written: a flush.
+pub writes_no_more : (a b c : StreamState) (bytes : List ℕ) → WritesToStream a b bytes → WritesToStream b c [] → WritesToStream a c bytes
+writes_no_more a b c bytes p q = subst (λ (xs : List ℕ). WritesToStream a c xs) (append-nil bytes) (writes_more a b c bytes [] p q)
+
+-- After writes, a flush succeeds.
+pub writes_flushed : (a b c : StreamState) (bytes : List ℕ) → WritesToStream a b bytes → Keeps b.output.contents c.output.contents → c.input ≡ b.input → c.references ≡ b.references → Records b.steps c.steps (flushes ∷ [])
+    → c.output.is_flushed ≡ true → WritesAndFlushes a c bytes
+writes_flushed a b c bytes w kept input references recorded flushed = record {
+  writes = record {
+    appends = Appends-kept a.output.contents b.output.contents c.output.contents bytes w.appends kept;
+    input = input ∙ w.input;
+    references = references ∙ w.references;
+    steps = w.steps ++ flushes ∷ [];
+    recorded = records_more a.steps b.steps c.steps w.steps (flushes ∷ []) w.recorded recorded;
+    only_output = output_then w.steps (flushes ∷ []) w.only_output (tt, tt);
+    written = flat_map-append bytes_written_by w.steps (flushes ∷ []) ∙ append-nil (bytes_written w.steps) ∙ w.written;
+  };
+  flushed = fold-append is_flushed_after true w.steps (flushes ∷ []);
+  is_flushed = flushed;
+}
+
+pub nothing_given : (steps : Steps) → AreOutputSteps steps → bytes_given steps ≡ []
 nothing_given [] h = refl
 nothing_given (read_begins ∷ steps) h = absurd h.0
 nothing_given (read_gives bytes ∷ steps) h = absurd h.0
@@ -114,14 +139,14 @@ place (x ∷ xs) ys (z ∷ zs) w ws e =
       | inr (mid, is, rest) ↦ inr (mid, (λ i. sym (first_of e) i ∷ is i), rest)
     ]
 
-never_then : (steps more : Steps) → NeverReadsOwing steps → ((mid after : Steps) → more ≡ mid ++ read_begins ∷ after → OwesNothing (steps ++ mid)) → NeverReadsOwing (steps ++ more)
+pub never_then : (steps more : Steps) → NeverReadsOwing steps → ((mid after : Steps) → more ≡ mid ++ read_begins ∷ after → OwesNothing (steps ++ mid)) → NeverReadsOwing (steps ++ more)
 never_then steps more never at before after e =
     elim (place steps more before read_begins after e) [
       | inl (mid, is) ↦ never before mid is
       | inr (mid, is, rest) ↦ subst OwesNothing (sym is) (at mid after rest)
     ]
 
-no_read : (mid after : Steps) → AreOutputSteps (mid ++ read_begins ∷ after) → ⊥
+pub no_read : (mid after : Steps) → AreOutputSteps (mid ++ read_begins ∷ after) → ⊥
 no_read [] after h = h.0
 no_read (x ∷ mid) after h = no_read mid after h.1
 
@@ -176,16 +201,19 @@ owes_nothing call now taken put left h all = record {
 
 -- A read gives a piece.
 pub read_recorded : (call now new : StreamState) (taken put left piece : List ℕ) → RecordedAndFlushed call now taken put → AnswersAllContents taken (Open left) put
-    → Records now.steps new.steps (read_begins ∷ read_gives piece ∷ []) → new.references ≡ now.references → Recorded call new (taken ++ piece) put
+    → Records now.steps new.steps (read_begins ∷ read_gives piece ∷ []) → new.references ≡ now.references → RecordedAndFlushed call new (taken ++ piece) put
 read_recorded call now new taken put left piece h all recorded references =
     let s = h.so_far in
     let more : Steps = read_begins ∷ read_gives piece ∷ [] in record {
-      steps = s.steps ++ more;
-      recorded = records_more call.steps now.steps new.steps s.steps more s.recorded recorded;
-      given = flat_map-append bytes_given_by s.steps more ∙ (λ i. s.given i ++ append-nil piece i);
-      written = flat_map-append bytes_written_by s.steps more ∙ append-nil (bytes_written s.steps) ∙ s.written;
-      never = never_then s.steps more s.never (one_read s.steps (read_gives piece) (λ e. cc) (owes_nothing call now taken put left h all));
-      references = references ∙ s.references;
+      so_far = record {
+        steps = s.steps ++ more;
+        recorded = records_more call.steps now.steps new.steps s.steps more s.recorded recorded;
+        given = flat_map-append bytes_given_by s.steps more ∙ (λ i. s.given i ++ append-nil piece i);
+        written = flat_map-append bytes_written_by s.steps more ∙ append-nil (bytes_written s.steps) ∙ s.written;
+        never = never_then s.steps more s.never (one_read s.steps (read_gives piece) (λ e. cc) (owes_nothing call now taken put left h all));
+        references = references ∙ s.references;
+      };
+      flushed = flushed_more s.steps more h.flushed refl;
     }
 
 -- A read fails.
@@ -202,31 +230,13 @@ failed_read_recorded call now new taken put left h all recorded references =
       references = references ∙ s.references;
     }
 
--- Only writes and flushes are made.
-abbrev more_recorded : (call now new : StreamState) (taken put all : List ℕ) (more : Steps) → Recorded call now taken put → Records now.steps new.steps more → AreOutputSteps more → put ++ bytes_written more ≡ all
-    → new.references ≡ now.references → Recorded call new taken all
-more_recorded call now new taken put all more s recorded only_output is references = record {
-  steps = s.steps ++ more;
-  recorded = records_more call.steps now.steps new.steps s.steps more s.recorded recorded;
-  given = flat_map-append bytes_given_by s.steps more ∙ (λ i. s.given i ++ nothing_given more only_output i) ∙ append-nil taken;
-  written = flat_map-append bytes_written_by s.steps more ∙ (λ i. s.written i ++ bytes_written more) ∙ is;
-  never = never_then s.steps more s.never (λ mid after found. absurd (no_read mid after (subst AreOutputSteps found only_output)));
-  references = references ∙ s.references;
-}
-
 -- Bytes are written.
-pub writes_recorded : (call now new : StreamState) (taken put more : List ℕ) → Recorded call now taken put → WritesToStream now new more → Recorded call new taken (put ++ more)
-writes_recorded call now new taken put more s w =
-    more_recorded call now new taken put (put ++ more) w.steps s w.recorded w.only_output (λ i. put ++ w.written i) w.references
-
--- A flush succeeds.
-pub flush_recorded : (call now new : StreamState) (taken put : List ℕ) → Recorded call now taken put → Records now.steps new.steps (flushes ∷ []) → new.references ≡ now.references → RecordedAndFlushed call new taken put
-flush_recorded call now new taken put s recorded references = record {
-  so_far = more_recorded call now new taken put put (flushes ∷ []) s recorded (tt, tt) (append-nil put) references;
-  flushed = fold-append is_flushed_after true s.steps (flushes ∷ []);
+abbrev pub writes_recorded : (call now new : StreamState) (taken put more : List ℕ) → Recorded call now taken put → WritesToStream now new more → Recorded call new taken (put ++ more)
+writes_recorded call now new taken put more s w = record {
+  steps = s.steps ++ w.steps;
+  recorded = records_more call.steps now.steps new.steps s.steps w.steps s.recorded w.recorded;
+  given = flat_map-append bytes_given_by s.steps w.steps ∙ (λ i. s.given i ++ nothing_given w.steps w.only_output i) ∙ append-nil taken;
+  written = flat_map-append bytes_written_by s.steps w.steps ∙ (λ i. s.written i ++ w.written i);
+  never = never_then s.steps w.steps s.never (λ mid after found. absurd (no_read mid after (subst AreOutputSteps found w.only_output)));
+  references = w.references ∙ s.references;
 }
-
--- A flush fails.
-pub failed_flush_recorded : (call now new : StreamState) (taken put : List ℕ) → Recorded call now taken put → Records now.steps new.steps (flush_fails ∷ []) → new.references ≡ now.references → Recorded call new taken put
-failed_flush_recorded call now new taken put s recorded references =
-    more_recorded call now new taken put put (flush_fails ∷ []) s recorded (tt, tt) (append-nil put) references

@@ -1,11 +1,13 @@
 -- States which bytes the parts of `serve_stream` write to the stream. The parts are: sending
--- messages, answering the message contents that wait in the framer, and flushing after a fault. A
--- frame is one message as bytes, a head followed by its content.
+-- messages, answering the message contents that wait in the framer, answering a piece (the bytes
+-- that one read returns), and flushing after a fault. A frame is one message as bytes, a head
+-- followed by its content.
 -- Rule: none; used in the contracts of the private functions that `serve_stream` calls.
 use Rattle.std.specs.Prelude.{◌≡◌, ℕ, List, [], ◌∷◌, ◌++◌, ◌⊎◌, Bool, true, false, Result, Ok, Err, ⊤}
 use Rattle.std.specs.Io.KnownBytes.{Appends}
 use Rattle.std.specs.List.{flat_map}
 use Rattle.ob0_frame.specs.Frames.{frame}
+use Rattle.ob0_frame.specs.FramerState.{FramerState}
 use Rattle.ob0_session_server.specs.Answers.{ServerState, IsConversation}
 use Rattle.ob0_session_server.specs.Steps.{HasNotEnded}
 use Rattle.ob0_session_server.specs.declared.session.Phase.TheVariants.{Ended}
@@ -13,7 +15,8 @@ use Rattle.ob0_session.specs.declared.serve_loop.ServeFault.{ServeFault}
 use Rattle.ob0_session.specs.declared.serve_loop.ServeFault.TheVariants.{Write, Memory}
 use Rattle.ob0_session_server.specs.declared.session.Next.{Next}
 use Rattle.ob0_session_server.specs.declared.session.Next.TheVariants.{Continue, End}
-use Rattle.ob0_session.specs.StreamSteps.{StreamState, StreamStep, read_begins, read_gives, read_fails, Records, bytes_written}
+use Rattle.ob0_session.specs.ServeResults.{AnswersAllButWaiting, LeavesWriterFlushed, Serves}
+use Rattle.ob0_session.specs.StreamSteps.{StreamState, StreamStep, read_begins, read_gives, read_fails, Records, bytes_written, is_all_flushed}
 
 -- States that a step belongs to a write or a flush.
 abbrev pub IsOutputStep : StreamStep → Type 0
@@ -37,6 +40,12 @@ pub record WritesToStream (old new : StreamState) (bytes : List ℕ) : Type 0 wh
   pub recorded : Records old.steps new.steps steps
   pub only_output : AreOutputSteps steps
   pub written : bytes_written steps ≡ bytes
+
+-- States that also everything written is flushed, by the record of the calls and by the device.
+pub record WritesAndFlushes (old new : StreamState) (bytes : List ℕ) : Type 0 where
+  pub writes : WritesToStream old new bytes
+  pub flushed : is_all_flushed writes.steps ≡ true
+  pub is_flushed : new.output.is_flushed ≡ true
 
 -- States that writes and flushes lead from the state `old` of a stream to the state `new`, and that
 -- they write a prefix of `bytes`.
@@ -140,3 +149,31 @@ abbrev pub IsFaultAfterFlush : ServeFault → Bool → ServeFault → Bool → B
 IsFaultAfterFlush fault failed_before result failed flushed =
     ((result ≡ fault) × (failed ≡ failed_before) × (flushed ≡ true))
     ⊎ ((result ≡ Write) × (failed ≡ true))
+
+-- States the condition if the result is `Continue`. States nothing about other results.
+abbrev pub IfContinues : Result Next ServeFault → Type 0 → Type 0
+IfContinues (Ok Continue) condition = condition
+IfContinues result condition = ⊤
+
+-- States that `serve` may return this result after the bytes `taken` were read and the bytes `put`
+-- written (`Serves`). A piece leads to no result that is about the end of the input, about the
+-- number of reads, or about a failed read. If the result is `Continue`, only states that the writer
+-- hasn't failed.
+abbrev pub ServesAfterPiece : Result Next ServeFault
+    → (taken put : List ℕ) (writer_failed : Bool) (flushed : Type 0)
+    → Type 0
+ServesAfterPiece (Ok Continue) taken put failed flushed = failed ≡ false
+ServesAfterPiece (Ok (End status)) taken put failed flushed = Serves (Ok status) taken put ⊥ ⊥ false failed flushed
+ServesAfterPiece (Err fault) taken put failed flushed = Serves (Err fault) taken put ⊥ ⊥ false failed flushed
+
+-- States that a call for this piece, with this result, writes the bytes `more`. Suppose that the
+-- bytes `put` answer all contents in the bytes `taken`, which were read before the piece. Then
+-- `ServesAfterPiece` holds for all the bytes, including the piece and `more`. `framer` and `before`
+-- are the states of the framer and the session before the piece.
+pub record AnswersPiece (framer : FramerState) (before : ServerState) (piece : List ℕ)
+    (result : Result Next ServeFault) (old new : StreamState) : Type 0 where
+  pub more : List ℕ
+  pub writes : WritesToStream old new more
+  pub serves : (taken put : List ℕ) → AnswersAllButWaiting taken [] framer.rest before put
+      → ServesAfterPiece result (taken ++ piece) (put ++ more) new.output.has_failed
+      (LeavesWriterFlushed old.output.is_flushed new.output.is_flushed more)

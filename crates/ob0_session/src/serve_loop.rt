@@ -13,7 +13,8 @@
 //!
 //! `NeverReadsOwing` states that no answer is owed when a read begins: each message that was read is
 //! answered, and the answers are written and flushed. It needs a stream that records its calls in
-//! order. A reader and a writer record no common order, so `serve` can't state it.
+//! order. A reader and a writer record no common order, so `serve` can't state it. `answer_piece`
+//! does what one piece requires: its clause `prompt` states that no answer is owed for that piece.
 
 ghost use Rattle.std.specs.Prelude.{◌≡◌, ◌≢◌, ◌++◌, List, ℕ, [], true, false, IfOk, OnOk, OnErr, length, map, MatchResult};
 ghost use Rattle.std.specs.Io.KnownBytes.{Appends, Consumes, IsAtEnd};
@@ -23,8 +24,8 @@ ghost use Rattle.ob0_frame.specs.FramerState.{Open, Broken, PieceAdvancesFramer}
 ghost use Rattle.ob0_session_server.specs.Steps.{HasNotEnded};
 ghost use Rattle.ob0_session.specs.ServeResults.{UsesAllReads, LeavesWriterFlushed, IsReadInPieces, Serves};
 ghost use Rattle.ob0_session.specs.Statuses.{status_of};
-ghost use Rattle.ob0_session.specs.ServeSteps.{AnswersWaitingMessages, IsFaultAfterFlush, SendsFrames, WritesPrefixToStream, WritesToStream};
-ghost use Rattle.ob0_session.specs.OwedAnswers.{NeverReadsOwing};
+ghost use Rattle.ob0_session.specs.ServeSteps.{AnswersPiece, AnswersWaitingMessages, IfContinues, IsFaultAfterFlush, SendsFrames, WritesPrefixToStream, WritesToStream};
+ghost use Rattle.ob0_session.specs.OwedAnswers.{NeverReadsOwing, OwesNothingForPiece};
 ghost use Rattle.ob0_session.specs.StreamSteps.{Records, StreamStep};
 
 use crate::complete_writes::write_all_bytes;
@@ -128,26 +129,57 @@ pub fn serve_stream<S: Stream>(alloc: Global, stream: &mut S) -> Result<u8, Serv
         if count == 0 {
             return result_at_end_of_input(&framer);
         }
-        let Ok(can_continue) = feed_piece(&mut framer, &piece[..count]) else {
-            return Err(ServeFault::Memory);
-        };
-        let next = match answer_waiting_messages(alloc, &mut framer, &mut session, stream) {
+        let next = match answer_piece(alloc, &mut framer, &mut session, &piece[..count], stream) {
             Ok(next) => next,
-            Err(fault) => return Err(flush_after_fault(fault, stream)),
+            Err(fault) => return Err(fault),
         };
-        match stream.flush() {
-            Ok(()) => {}
-            Err(DeviceFault) => return Err(ServeFault::Write),
-        }
         match next {
             Next::Continue => {}
             Next::End(status) => return Ok(status),
         }
-        if !can_continue {
-            return Err(ServeFault::BadHead);
-        }
     }
     Err(ServeFault::TooManyReads)
+}
+
+// Answers the message contents that a piece completes, one after another, and flushes the answers.
+// Returns `Continue` if the next piece can be read: then no answer is owed (`prompt`). Returns `End`
+// with the exit status if the conversation ends. Returns `BadHead` if no message can begin with the
+// bytes after the last content. Returns `Memory` if an allocation fails, and `Write` if a write or a
+// flush fails.
+fn answer_piece<S: Stream>(
+    alloc: Global,
+    framer: &mut Framer,
+    session: &mut Session<Lines>,
+    piece: &[u8],
+    stream: &mut S,
+) -> Result<Next, ServeFault>
+    requires between { (left : List ℕ) × (framer.old ≡ record { waiting = []; rest = Open left }) }
+    requires serves { HasNotEnded session.old.phase }
+    requires writes { (S.state stream.old).output.has_failed ≡ false }
+    ensures prompt { IfContinues result (OwesNothingForPiece framer.old session.old
+        (S.state stream.old) piece.now framer.new session.new (S.state stream.new)) }
+    ensures answers { AnswersPiece framer.old session.old piece.now result (S.state stream.old)
+        (S.state stream.new) }
+{
+    let Ok(can_continue) = feed_piece(framer, piece) else {
+        return Err(ServeFault::Memory);
+    };
+    let next = match answer_waiting_messages(alloc, framer, session, stream) {
+        Ok(next) => next,
+        Err(fault) => return Err(flush_after_fault(fault, stream)),
+    };
+    match stream.flush() {
+        Ok(()) => {}
+        Err(DeviceFault) => return Err(ServeFault::Write),
+    }
+    match next {
+        Next::Continue => {}
+        Next::End(status) => return Ok(Next::End(status)),
+    }
+    if !can_continue {
+        return Err(ServeFault::BadHead);
+    }
+    Ok(Next::Continue)
 }
 
 // Flushes everything that was written before a fault, and returns the fault to report: `fault`, or
