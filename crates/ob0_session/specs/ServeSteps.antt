@@ -41,7 +41,8 @@ pub record WritesToStream (old new : StreamState) (bytes : List ℕ) : Type 0 wh
   pub only_output : AreOutputSteps steps
   pub written : bytes_written steps ≡ bytes
 
--- States that also everything written is flushed, by the record of the calls and by the device.
+-- States `WritesToStream`, and that everything written is flushed, according to the record of the
+-- calls and to the device.
 pub record WritesAndFlushes (old new : StreamState) (bytes : List ℕ) : Type 0 where
   pub writes : WritesToStream old new bytes
   pub flushed : is_all_flushed writes.steps ≡ true
