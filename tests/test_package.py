@@ -216,7 +216,7 @@ def laboratory() -> None:
         status, said = run_plainly(words, {**at_home, "HOME": student}, room)
         version = match_of("ob0 ([0-9.]+)", text_of("share", "ob0.1"))[1]
         page = os.path.join(teacher, "lab", "share", "man", "man1", "ob0.1.gz")
-        same((status, said.split()), (0, ["ob0", version, page, "2"]), "what the student finds")
+        same((status, said.split()), (0, ["ob0", version, page, "2"]), "the output of the student's commands")
 
 
 def modes_in(room: str) -> dict[str, int]:
