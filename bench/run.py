@@ -5,8 +5,8 @@
 
 The peak memory of docs/ROBUSTNESS.md is written to tools/figures.txt; a test compares it with that page.
 
-If the variable OTHER_OB0 is the path of another program with the same commands, runs, keys, questions,
-readings of files, memory and the largest messages are also measured with that one."""
+If the variable OTHER_OB0 is the path of another program with the same commands, some measurements are also made with
+that one: runs, keys, `check` of large modules, memory, changes at both ends of a text, and the largest messages."""
 from __future__ import annotations
 
 import ctypes
@@ -379,8 +379,8 @@ def checked() -> None:
 
 @measure("check: whole modules, and 40,000 names with one ending: instructions, and time on a processor")
 def read_beside() -> None:
-    """Measures how `check` reads large modules. If OTHER_OB0 is set, its milliseconds and instructions are printed
-    after ours."""
+    """Measures how `check` reads large modules. If OTHER_OB0 specifies another program, its milliseconds and
+    instructions are printed after bin/ob0's."""
     texts = {f"a module of {size:,} bytes": corpus.module(size) for size in (10_000, 100_000, MIB - 1000)}
     texts["40,000 names in one declaration"] = corpus.many(40_000, "one")
     texts["40,000 names with one ending in one declaration"] = corpus.many(40_000, "ending")
@@ -394,8 +394,8 @@ def read_beside() -> None:
 
 @measure("memory: texts of nearly 1 MiB that take most of it")
 def memory_beside() -> None:
-    """Prints the peak memory of `check`, of `serve` with one document, and what a second document adds. If OTHER_OB0 is
-    set, its peaks are printed after ours."""
+    """Prints the peak memory of `check`, of `serve` with one document, and what a second document adds. If OTHER_OB0
+    specifies another program, its peaks are printed after bin/ob0's."""
     texts = {
         "890 types of records, 90 deep": corpus.nested_records(890, 90),
         "a record with 48,000 fields of records": corpus.records("fields", 48_000),
@@ -706,7 +706,7 @@ def changed_on_each_line() -> None:
 @measure("serve: changes that alternate between the first line and the last in one notification, compared with half of both")
 def changed_at_both_ends() -> None:
     """Measures changes that alternate between the first and the last line. Each moves the starts of all lines between
-    them. If OTHER_OB0 is set, its time is printed also."""
+    them. If OTHER_OB0 specifies another program, its time is also printed."""
 
     def cost(changes: int, lines: int, program: str = BINARY) -> Cost:
         return cost_of_changes(changes, lines, lambda at: at % 2 * (lines - 1), program)
@@ -736,8 +736,8 @@ def replaced_in_one_line() -> None:
 
 @measure("serve: one message of 16 MiB, compared with one of 8")
 def largest_message() -> None:
-    """Measures the largest messages that the server reads. If OTHER_OB0 is set, its time and peak memory are printed
-    also."""
+    """Measures the largest messages that the server reads. If OTHER_OB0 specifies another program, its time and peak
+    memory are also printed."""
 
     def each(one: bytes, size: int, program: str = BINARY) -> Cost:
         content = b"[" + (one + b",") * ((size - 3) // (len(one) + 1)) + b"0]"
@@ -824,20 +824,20 @@ def laid_out() -> None:
 
 
 def programs_compared() -> list[str]:
-    """Returns the path of our program, followed by the path in OTHER_OB0 if that is set."""
+    """Returns the path of the measured program, followed by the path in OTHER_OB0 if that is set."""
     return [it for it in (BINARY, os.environ.get("OTHER_OB0")) if it]
 
 
 def side_by_side(values: list[float], form: str, unit: str) -> str:
-    """Formats the values of our program and of the other one, and their ratio if there are two."""
+    """Formats the values of the measured program and of the other one, and their ratio if there are two."""
     line = "".join(format(it, form) for it in values) + unit
     return line + (f" (ratio {values[0] / values[1]:.2f})" if values[1:] else "")
 
 
 @measure("keys: what an editor does while one types: instructions, and time on a processor")
 def keys_typed() -> None:
-    """Measures what each keystroke and request of bench/keys.py costs. If OTHER_OB0 is set, its milliseconds and
-    instructions are printed after ours."""
+    """Measures what each keystroke and request of bench/keys.py costs. If OTHER_OB0 specifies another program, its
+    milliseconds and instructions are printed after bin/ob0's."""
     counts = lacks("valgrind") is None
     if not counts:
         said("instructions", f"not counted: {lacks('valgrind')}")
