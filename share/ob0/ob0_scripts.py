@@ -1,5 +1,5 @@
-"""Functions that the scripts ob0-check, ob0-format, ob0-rename and ob0-trace share: they read and replace modules, ask
-the server, and print lines."""
+"""Contains functions that the scripts ob0-check, ob0-format, ob0-rename and ob0-trace share: they read and replace
+modules, ask the server, and print lines."""
 from __future__ import annotations
 
 import argparse
