@@ -1,4 +1,5 @@
-"""Functions that all scripts share: paths, what to do if something is missing, checksums of the sources, and times."""
+"""Contains functions that all scripts share: paths, what to do if something is missing, checksums of the sources, and
+times."""
 from __future__ import annotations
 
 import contextlib
