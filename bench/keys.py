@@ -1,5 +1,5 @@
-"""Conversations that imitate an editor while its user types. They come in pairs: the second one does something `n` more
-times than the first. So the difference of their costs, divided by `n`, is what it costs once."""
+"""Makes conversations that imitate an editor while its user types. They come in pairs: the second one does something
+`n` more times than the first. So the difference of their costs, divided by `n`, is the cost of doing it once."""
 from __future__ import annotations
 
 import random
@@ -36,8 +36,8 @@ def replaced(line: int, column: int, end: int, new: str, version: int) -> Messag
 
 
 def in_and_out(text: str, pattern: str, new: str) -> Longer:
-    """Returns a pair of conversations that insert `new` after the first match in the text's second half and remove it
-    again. The first makes 2 such changes, the second 6."""
+    """Returns a pair of conversations that insert `new` after the first match of `pattern` in the text's second half
+    and remove it again. The first makes 2 such changes, the second 6."""
     line, column = place_after(text, pattern)
 
     def changes(count: int) -> list[Message]:

@@ -5,8 +5,8 @@
 
 The peak memory of docs/ROBUSTNESS.md is written to tools/figures.txt; a test compares it with that page.
 
-If the variable OTHER_OB0 is the path of another program with the same commands, runs, keys, questions,
-readings of files, memory and the largest messages are also measured with that one."""
+If the variable OTHER_OB0 is the path of another program with the same commands, some measurements are also made with
+that one: runs, keys, `check` of large modules, memory, changes at both ends of a text, and the largest messages."""
 from __future__ import annotations
 
 import ctypes
@@ -95,7 +95,7 @@ def trace(what: int, pid: int = 0, given: int = 0) -> None:
 
 def peak_of(words: list[str], given: IO[bytes], cwd: str | None) -> int:
     """Returns the peak memory of a run. The process is traced and stopped just before it exits, and its peak is read
-    then, because polling would miss so short a run. Returns 0 if the system doesn't permit tracing."""
+    then, because polling would miss a short run. Returns 0 if the system doesn't permit tracing."""
     given.seek(0)
     how: dict[str, Any] = {"stdin": given, "stdout": subprocess.DEVNULL, "stderr": subprocess.DEVNULL, "cwd": cwd}
     process = subprocess.Popen(words, preexec_fn=lambda: trace(TRACE_ME), **how)
@@ -164,8 +164,8 @@ def letter_at(text: str, version: int) -> Message:
 
 
 def letters_at(text: str, count: int) -> Message:
-    """Returns a didChange with `count` changes, which insert a blank in the middle of a text and remove it again by
-    turns."""
+    """Returns a didChange with `count` changes, which alternately insert a blank in the middle of a text and remove it
+    again."""
     line, column = place_in_the_middle(text)
     put = {"range": extent(f"{line}:{column}-{line}:{column}"), "text": " "}
     take = {"range": extent(f"{line}:{column}-{line}:{column + 1}"), "text": ""}
@@ -233,7 +233,7 @@ def growing() -> None:
 
 
 def changed(text: str, times: int) -> Cost:
-    """Returns the CPU time of changing one letter, averaged over `times` changes after the text is opened, and the peak
+    """Returns the CPU time of inserting one blank, averaged over `times` changes after the text is opened, and the peak
     memory."""
     changes = [letter_at(text, version) for version in range(2, 2 + times)]
     start = [initialize(), did_open(text)]
@@ -248,7 +248,7 @@ def changing() -> None:
 
 @measure("serve: 100 faults at the end of a module, from 10 KB to 1 MiB")
 def faulty() -> None:
-    """Measures how a module with 100 errors is opened. Each error assigns a BOOLEAN to an INTEGER variable."""
+    """Measures the cost of opening a module with 100 errors. Each error assigns a BOOLEAN to an INTEGER variable."""
 
     def make(size: int) -> str:
         faults = ["x:=TRUE"] * 100
@@ -379,8 +379,8 @@ def checked() -> None:
 
 @measure("check: whole modules, and 40,000 names with one ending: instructions, and time on a processor")
 def read_beside() -> None:
-    """Measures how `check` reads large modules. If OTHER_OB0 is set, its milliseconds and instructions are printed
-    after ours."""
+    """Measures how `check` reads large modules. If OTHER_OB0 specifies another program, its milliseconds and
+    instructions are printed after bin/ob0's."""
     texts = {f"a module of {size:,} bytes": corpus.module(size) for size in (10_000, 100_000, MIB - 1000)}
     texts["40,000 names in one declaration"] = corpus.many(40_000, "one")
     texts["40,000 names with one ending in one declaration"] = corpus.many(40_000, "ending")
@@ -394,8 +394,8 @@ def read_beside() -> None:
 
 @measure("memory: texts of nearly 1 MiB that take most of it")
 def memory_beside() -> None:
-    """Prints the peak memory of `check`, of `serve` with one document, and what a second document adds. If OTHER_OB0 is
-    set, its peaks are printed after ours."""
+    """Prints the peak memory of `check`, of `serve` with one document, and what a second document adds. If OTHER_OB0
+    specifies another program, its peaks are printed after bin/ob0's."""
     texts = {
         "890 types of records, 90 deep": corpus.nested_records(890, 90),
         "a record with 48,000 fields of records": corpus.records("fields", 48_000),
@@ -430,8 +430,8 @@ def large_block() -> None:
 
 
 def cost_of_query(text: str, method: str, params: Message, expected: bytes, count: int, **capabilities: Any) -> Cost:
-    """Returns the CPU time of a request, without opening the document, and the peak memory. Prints a note unless the
-    output contains `expected` exactly `count` times."""
+    """Returns the CPU time of a request (the time for opening the document is subtracted), and the peak memory. Prints
+    a note unless the output contains `expected` exactly `count` times."""
     question = request(5, f"textDocument/{method}", {"textDocument": {"uri": "file:///m"}, **params})
     start = [initialize(**capabilities), did_open(text)]
     without, found = conversed(start), conversed([*start, question])
@@ -481,8 +481,8 @@ def middle_name(text: str) -> int:
 
 
 def questions_at(text: str) -> dict[str, tuple[str, Message]]:
-    """Returns the requests that an editor makes about a name in the middle of a text, by name, and a hover between two
-    tokens."""
+    """Returns, by their names, the requests that an editor makes about an identifier in the middle of a text, and a
+    hover between two tokens."""
     at = middle_name(text)
     known, here = {"textDocument": {"uri": "file:///m"}}, place_of(text, at)
     between = place_of(text, text.index(":=", at) + 1)
@@ -554,8 +554,8 @@ def typed() -> None:
 
 @measure("typing: changes that leave a text ill-typed, compared with changes that don't")
 def left_ill_typed() -> None:
-    """Inserts `TRUE & ` before a number and removes it again, so that the text is ill-typed every other time. Does the
-    same with `1 * `, which keeps it well-typed."""
+    """Inserts `TRUE & ` before an integer expression and removes it again, ten times, so that the text is ill-typed
+    after every other change. Does the same with `1 * `, which keeps it well-typed, and prints both times."""
     for size in (10_000, 100_000, MIB - 1000):
         text = corpus.module(size)
         at = text.index(" := ", middle_name(text)) + 4
@@ -670,8 +670,9 @@ def renamed() -> None:
 
 
 def halves(what: str, cost: Callable[[int, int], Cost], first: int, second: int) -> None:
-    """Prints what a pair of sizes costs, and the ratio of this cost to twice the cost when one size is halved. The
-    ratio is 1 for a size to which the cost is proportional, and 0.5 for one on which it doesn't depend."""
+    """Prints the cost of a pair of sizes and, for each of the two sizes, the ratio of this cost to twice the cost with
+    that size halved. The ratio is 1 for a size to which the cost is proportional, and 0.5 for one on which it doesn't
+    depend."""
     whole, memory = cost(first, second)
     by_first, by_second = cost(first // 2, second)[0], cost(first, second // 2)[0]
     said(f"{what}, {first:,} and {second:,}", f"{whole:7.3f} s, ratios {whole / by_first / 2:.2f} and {whole / by_second / 2:.2f}; {megabytes(memory)}")
@@ -687,8 +688,8 @@ def renamed_to_a_long_name() -> None:
 
 
 def cost_of_changes(changes: int, lines: int, line_of: Callable[[int], int], program: str = BINARY) -> Cost:
-    """Returns the CPU time of one notification with `changes` changes, without opening the document, and the peak
-    memory. Change number `at` is in line `line_of(at)` of `lines` lines."""
+    """Returns the CPU time of one notification with `changes` changes (the time for opening the document is
+    subtracted), and the peak memory. Change number `at` is in line `line_of(at)` of the `lines` statements."""
     text = "MODULE M; VAR x: INTEGER; BEGIN\n" + "x:=x+1;\n" * lines + "END M.\n"
     replaced = [{"range": extent(f"{1 + line_of(at)}:0-{1 + line_of(at)}:1"), "text": "x"} for at in range(changes)]
     start = [initialize(), did_open(text)]
@@ -705,7 +706,7 @@ def changed_on_each_line() -> None:
 @measure("serve: changes that alternate between the first line and the last in one notification, compared with half of both")
 def changed_at_both_ends() -> None:
     """Measures changes that alternate between the first and the last line. Each moves the starts of all lines between
-    them. If OTHER_OB0 is set, its time is printed also."""
+    them. If OTHER_OB0 specifies another program, its time is also printed."""
 
     def cost(changes: int, lines: int, program: str = BINARY) -> Cost:
         return cost_of_changes(changes, lines, lambda at: at % 2 * (lines - 1), program)
@@ -735,8 +736,8 @@ def replaced_in_one_line() -> None:
 
 @measure("serve: one message of 16 MiB, compared with one of 8")
 def largest_message() -> None:
-    """Measures the largest messages that the server reads. If OTHER_OB0 is set, its time and peak memory are printed
-    also."""
+    """Measures the largest messages that the server reads. If OTHER_OB0 specifies another program, its time and peak
+    memory are also printed."""
 
     def each(one: bytes, size: int, program: str = BINARY) -> Cost:
         content = b"[" + (one + b",") * ((size - 3) // (len(one) + 1)) + b"0]"
@@ -823,20 +824,20 @@ def laid_out() -> None:
 
 
 def programs_compared() -> list[str]:
-    """Returns the path of our program, followed by the path in OTHER_OB0 if that is set."""
+    """Returns the path of the measured program, followed by the path in OTHER_OB0 if that is set."""
     return [it for it in (BINARY, os.environ.get("OTHER_OB0")) if it]
 
 
 def side_by_side(values: list[float], form: str, unit: str) -> str:
-    """Formats the values of our program and of the other one, and their ratio if there are two."""
+    """Formats the values of the measured program and of the other one, and their ratio if there are two."""
     line = "".join(format(it, form) for it in values) + unit
     return line + (f" (ratio {values[0] / values[1]:.2f})" if values[1:] else "")
 
 
 @measure("keys: what an editor does while one types: instructions, and time on a processor")
 def keys_typed() -> None:
-    """Measures what each keystroke and request of bench/keys.py costs. If OTHER_OB0 is set, its milliseconds and
-    instructions are printed after ours."""
+    """Measures what each keystroke and request of bench/keys.py costs. If OTHER_OB0 specifies another program, its
+    milliseconds and instructions are printed after bin/ob0's."""
     counts = lacks("valgrind") is None
     if not counts:
         said("instructions", f"not counted: {lacks('valgrind')}")

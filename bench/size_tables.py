@@ -1,6 +1,7 @@
-"""The tables of bench/sizes.py: things that are defined more than once, the code that only serves to keep an analysis
-over a change, and the functions that search for a procedure's body. `CRATE/src: FILE..` in a table means whole files,
-and `CRATE/src/FILE: NAME..` functions (in `specs` and `proofs` definitions and lemmas). Lines and names are sorted."""
+"""Contains the tables of bench/sizes.py: things that are defined more than once, the code that only serves to keep an
+analysis over a change, and the functions that search for a procedure's body. `CRATE/src: FILE..` in a table means whole
+files, and `CRATE/src/FILE: NAME..` functions (in `specs` and `proofs` definitions and lemmas). Lines and names are
+sorted."""
 from __future__ import annotations
 
 # Things that are defined more than once, each with the names of its definitions or functions. A name that doesn't exist isn't

@@ -316,8 +316,9 @@ def print_kept(table: str, missing: list[str]) -> None:
 
 
 def print_reached(tables: dict[str, Any], listed: dict[str, list[str]], missing: list[str]) -> None:
-    """Prints how many functions a didChange can reach. Does the same for two special changes, with their calls that
-    search for the changed body, unless a name in their tables is missing."""
+    """Prints how many functions a didChange can reach. Does the same for two special changes, and prints which calls in
+    the reached functions search for the changed body. Leaves a special change out if a name in its table, or in the
+    table of searches, is missing."""
     calls = Calls(listed)
     start = {it for it in source(SERVER).functions if "did_change" in it.words}
     missing += [] if start else [f"a function of crates/{SERVER} that calls did_change"]

@@ -59,7 +59,8 @@ def gone(path: str, name: str) -> None:
 
 @contextlib.contextmanager
 def whole(is_whole: bool) -> Iterator[None]:
-    """Sets OB0_WHOLE, as `make test` does, or removes it. OB0_MAY_LACK is removed in both cases."""
+    """Sets OB0_WHOLE, as `make test` does, or removes it, during a `with` block. OB0_MAY_LACK is removed in both
+    cases."""
     with mock.patch.dict(os.environ):
         for name in ("OB0_WHOLE", "OB0_MAY_LACK"):
             os.environ.pop(name, None)

@@ -120,8 +120,8 @@ def changed(text: str, *changes: tuple[str | None, str], encodings: list[Any] | 
 
 
 def at_end(text: str, *changes: tuple[str | None, str], encodings: list[Any] | str | None = None) -> Message:
-    """Returns the position of the end of the changed text in the server. A bad character is inserted there, and its
-    diagnostic shows the position."""
+    """Applies the changes, and returns the position at which the server then has the text's end: a bad character is
+    appended, and its diagnostic shows the position."""
     end = ("18446744073709551615:0-18446744073709551615:0", "$")
     found = changed(text, *changes, end, encodings=encodings)
     start: Message = found[-1]["range"]["start"]
@@ -184,8 +184,8 @@ def behind_utf8() -> None:
 
 
 def all_at_once(text: str, *changes: tuple[str, str]) -> list[str]:
-    """Returns the publications for a text when it is opened, and after one notification with these changes of a
-    range."""
+    """Returns the diagnostics that are published for a text: when it is opened, and after one notification with these
+    changes (each a range and a new text)."""
     given = [{"range": extent(where), "text": new} for where, new in changes]
     return serve([initialize(), did_open(text), did_change(given, version=2)]).contents()[1:]
 

@@ -19,8 +19,8 @@ def of(text: str, **named: Any) -> list[Message]:
 
 
 def talk(*contents: Content) -> list[str]:
-    """Sends `initialize` and these messages, and ends the input. Returns the server's messages after its first
-    answer."""
+    """Sends `initialize` and these messages, and ends the input without `exit`. Requires status 1, and returns the
+    server's messages after its first answer."""
     found = serve([initialize(), *contents])
     same((found.err, found.status), (b"", 1), "the end")
     same(found.contents()[0], FIRST, "the first answer")

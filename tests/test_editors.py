@@ -655,7 +655,7 @@ CLIENTS: List[Tuple[str, Client, Steps]] = [
 
 
 def in_each(what: str, clients: list[tuple[str, Client, Steps]], function: Callable[..., None], *more: object) -> None:
-    """Registers a test with this name for each of these clients."""
+    """Registers a test 'CLIENT: WHAT' for each of these clients."""
     for name, editor, end in clients:
         test(f"{name}: {what}")(functools.partial(function, editor, end, *more))
 

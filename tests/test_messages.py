@@ -119,7 +119,8 @@ def reported(text: str) -> list[tuple[str, str, str]]:
 
 
 def first(snippet: str, module: str | None) -> tuple[str, str, str]:
-    """Returns the first error that `check` reports in a snippet, put in a module if one is given."""
+    """Returns the first error that `check` reports in a snippet, put in a module if one is given. If there is no error,
+    its message is 'nothing'."""
     text = filled(module, snippet) if module else snippet
     return (reported(text) or [("", "nothing", "")])[0]
 

@@ -80,7 +80,7 @@ def packed(folder: str) -> list[str]:
 
 
 def in_bin() -> dict[str, float]:
-    """Returns the modification time of each package in bin/."""
+    """Returns the modification time of each package in bin/, and of SHA256SUMS and TESTED there."""
     folder = os.path.join(TOP, "bin")
     names = [it for it in os.listdir(folder) if it.startswith(("ob0_", "ob0-", "SHA", "TESTED"))]
     return {it: os.stat(os.path.join(folder, it)).st_mtime for it in names}
@@ -443,7 +443,8 @@ for each in SHELLS:
 
 
 def seen_by_vim(words: list[str], environment: dict[str, str], work: str, name: str) -> None:
-    """Tests that Vim or Neovim recognizes a new file once it is saved, and each example."""
+    """Tests that Vim or Neovim recognizes a new file once it is saved, and each example, and that it has :Ob0Run and
+    the help page."""
     report = os.path.join(work, "report")
     opened = [[f"edit {os.path.join(TOP, it)}", "call add(r, &filetype)"] for it in examples()]
     steps = [

@@ -38,8 +38,8 @@ def mutants_explained() -> None:
 
 
 def has_clauses(claim: edits.Claim, function: reading.Function) -> bool:
-    """Returns whether a function has the clauses that a mutant's first line names. A trait's method always counts: its
-    clauses are at the trait."""
+    """Returns whether a function has the clauses that a mutant's first line names. Clauses of loops and invariants
+    aren't checked. A trait's method always counts: its clauses are at the trait."""
     rows = text_of(os.path.join("crates", function.crate, function.file)).split("\n")[function.first - 1 : function.last]
     names = set(re.findall(r"\bensures\s+(\w*)\s*\{", "\n".join(rows)))
     wanted = {"" if it == "the clause" else it for it in claim.clauses if it not in ("the loop", "the invariant", "the one goal")}

@@ -75,8 +75,9 @@ PROMISED: Dict[str, str] = {
 
 
 def unnamed_clauses(source: reading.Source, calls: Sequence[str]) -> List[str]:
-    """Returns the clauses of these calls that no mutant's first line cites, as 'crate::path, clause'. For a trait's
-    method it is enough that a mutant cites the clause for one type with the trait."""
+    """Returns the `ensures` clauses of the functions named in `calls` that no mutant's first line cites, as
+    'crate::path, clause'. A clause of a trait's method counts as cited if a mutant cites it for any type that
+    implements the trait."""
     claims, unnamed = [it.claim for it in edits.edits_of(source.crate, source) if it.claim], []
     for call in calls:
         [function] = [it for it in source.functions if "::".join(filter(None, (it.owner, it.name))) == call and not it.is_test]

@@ -329,7 +329,7 @@ END B.
 
 
 def by_vim(editor: str, words: list[str], name: str) -> None:
-    """Tests file types, colours, :make and indentation in Vim or Neovim."""
+    """Tests file types, colours, indentation, :make and :Ob0Run in Vim or Neovim."""
     need_program()
     with temporary() as room:
         own = at_home(room, editor)

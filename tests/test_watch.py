@@ -109,7 +109,8 @@ class Talk:
         return {"documentChanges": [{"textDocument": document, "edits": made}]} if self.has_versions else {"changes": {self.uri: made}}
 
     def found(self, is_broken: bool) -> set[str]:
-        """Ends the conversation. Returns the rules that were reported as broken, or those with notes."""
+        """Ends the conversation. Returns the rules that were reported as broken if `is_broken`, otherwise the rules
+        with notes."""
         self.watcher.end(self.now)
         return {it.rule for it in self.watcher.findings if it.is_broken == is_broken}
 

@@ -47,7 +47,7 @@ def processors() -> int:
 
 def lanes() -> int:
     """Returns how many crates to prove at the same time: one for each processor, but at most one for each 3.5 GB of
-    free memory. (A check takes 1 to 3 GB.)"""
+    free memory, and at least one. (A check takes 1 to 3 GB.)"""
     free = os.sysconf("SC_PAGE_SIZE") * os.sysconf("SC_PHYS_PAGES")
     try:
         with open("/proc/meminfo", encoding="ascii") as file:
@@ -67,7 +67,8 @@ def link(old: str, new: str) -> None:
 
 
 def chain(name: str, named: dict[str, list[str]]) -> int:
-    """Returns the length of the longest chain of crates that depend on this one."""
+    """Returns the length of the longest chain of crates above this one, in which each crate depends on the one before
+    it."""
     return max((1 + chain(it, named) for it in named if name in named[it]), default=0)
 
 
@@ -88,8 +89,9 @@ def furnish(room: str, name: str, named: dict[str, list[str]]) -> None:
 
 
 def link_tree(old: str, new: str, without: list[str]) -> None:
-    """Creates a folder of hard links to the files of another folder, leaving out some names. (`rt` follows no symbolic
-    links. A library contains about 300 files, so this has to be fast.)"""
+    """Creates the folder `new` with hard links to all files of the folder `old`, except the files and folders directly
+    in `old` whose names are in `without`. (`rt` follows no symbolic links. A library contains about 300 files, so this
+    has to be fast.)"""
     os.makedirs(new)
     for it in os.scandir(old):
         if it.name in without:
@@ -101,8 +103,8 @@ def link_tree(old: str, new: str, without: list[str]) -> None:
 
 
 def command(name: str, named: dict[str, list[str]], is_check: bool) -> list[str]:
-    """Returns the command that proves a crate. The command also builds the library that other crates need, or the
-    program."""
+    """Returns the command that proves a crate. The command also builds the crate's library if other crates need it, and
+    for `ob0` the program, unless `is_check`."""
     if name == "ob0" and not is_check:
         return ["rt", "run", "--", "--help"]
     if any(name in below for below in named.values()):
@@ -111,8 +113,9 @@ def command(name: str, named: dict[str, list[str]], is_check: bool) -> list[str]
 
 
 class Sums:
-    """Computes checksums of everything that a crate's proof depends on: its sources, its line of crates.txt, the
-    toolchain, and either all sources of the crates that it depends on or the parts that its proofs have read."""
+    """Computes checksums of everything that a crate's proof depends on: the toolchain, HANDLES, the crate's sources,
+    the lines of crates.txt for the crate and for the crates that it depends on, and either all sources of these crates
+    or the parts of them that its proofs have read."""
 
     def __init__(self, named: dict[str, list[str]]) -> None:
         self.named, self.lines, self.kit = named, common.listed(), common.kit()
@@ -143,15 +146,15 @@ class Sums:
         return self.sum_over(name, lambda it: self.own[it] if it == name else self.shown_to(it, of_crate.get(it, [])))
 
     def shown_to(self, name: str, seen: list[str]) -> tuple[str, list[tuple[str, str]]]:
-        """Returns checksums of these modules of a crate and of its interface, for the proofs of another crate that read
-        them."""
+        """Returns what a proof in another crate depends on: the checksum of this crate's interface, and the checksums
+        of those of its modules (`seen`) that the proof reads."""
         shown = self.shown[name]
         return (shown.face, [(it, shown.contents.get(it, "")) for it in seen]) if shown else ("", [])
 
 
 def marks(names: list[str]) -> list[tuple[str, int, int]]:
-    """Returns the modification times and sizes of the sources of these crates. If they differ after a proof, somebody
-    edited the sources while it ran."""
+    """Returns the path, the modification time and the size of each source of these crates. If they differ after a
+    proof, somebody edited the sources while it ran."""
     stats = [(it, os.stat(it)) for it in common.sources(names)]
     return [(it, found.st_mtime_ns, found.st_size) for it, found in stats]
 
@@ -339,8 +342,8 @@ class Work:
             return file.read()
 
     def modules(self) -> Modules:
-        """Returns how many of the crate's modules were loaded and proved again. Both are 0 if its library is up to
-        date."""
+        """Returns how many of the crate's modules were loaded, and how many were proved again. Both are 0 if its
+        library is up to date."""
         return modules_of(self.name, self.said())
 
     def errors(self) -> str:
@@ -398,8 +401,9 @@ def carry_out(plan: Plan) -> int:
 
 
 class Plan:
-    """Which crates are done and which are left. Crates are left to be proved, or have a library to be built again
-    because another crate needs it. An exact plan rebuilds every library that isn't made from the present sources."""
+    """Records which crates are done and which are left. A crate is left if it has to be proved, or if its library has
+    to be built again because another crate needs it. An exact plan rebuilds every library that isn't made from the
+    present sources."""
 
     def __init__(self, is_check: bool, tops: Iterable[str] = (), is_exact: bool = False) -> None:
         self.named, self.is_check, self.is_exact, self.timer = common.libraries(), is_check, is_exact, common.Timer()
@@ -419,8 +423,8 @@ class Plan:
         return command(name, self.named, self.is_check)
 
     def is_kept(self, name: str) -> bool:
-        """Returns whether a crate needn't be proved again, provided that the crates it depends on are done. (Only `rt`
-        knows whether the program's executable is up to date.)"""
+        """Returns whether a crate needn't be proved again, provided that the crates it depends on are done, and records
+        the answer in `built`, `alike` or `open`. (Only `rt` knows whether the program's executable is up to date.)"""
         kept = self.kept[name]
         if name not in self.open and kept.words[1] != "run":
             if kept.is_current():
@@ -433,8 +437,9 @@ class Plan:
         return False
 
     def ready(self, running: Iterable[str]) -> list[str]:
-        """Returns the crates that can be proved, or whose library can be built again, now. Those on which the longest
-        chain of crates depends come first."""
+        """Returns the crates that can be proved, or whose library can be built again, now. The crates on which the
+        longest chain of crates depends come first. Also records the crates that needn't be proved as done, and the
+        libraries that have to be built again before a crate can be proved."""
         found = []
         for name in self.all:
             if name in running or name in self.done and name not in self.again:

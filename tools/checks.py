@@ -97,7 +97,9 @@ class Said:
         return found
 
     def why(self, symbol: str, proof: str) -> str:
-        """Returns the goals because of which a function is refused, or an error in its proof if there are none."""
+        """Returns the goals because of which a function is refused. If there are none, returns an error in its proof,
+        or else the check's verdict on the function; if the proof's only errors are names that no longer exist, returns
+        a sentence that says so."""
         goals, errors = self.refusing(symbol, proof), self.proof_errors(symbol, proof)
         if goals:
             return "; ".join(goals)[:300]

@@ -1,4 +1,5 @@
-"""Functions that all scripts share: paths, what to do if something is missing, checksums of the sources, and times."""
+"""Contains functions that all scripts share: paths, what to do if something is missing, checksums of the sources, and
+times."""
 from __future__ import annotations
 
 import contextlib
@@ -236,7 +237,7 @@ def commit() -> str:
 
 def stamp() -> dict[str, str]:
     """Reads bin/ob0.stamp: the toolchain that proved bin/ob0, checksums of its sources and of the program, and the last
-    line of `make test` if that has tested the program."""
+    line of `make test` if that has tested the program. Returns an empty dict if the file doesn't exist."""
     try:
         with open(STAMP, encoding="utf-8") as file:
             return dict(line.rstrip("\n").split(" ", 1) for line in file if " " in line)

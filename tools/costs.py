@@ -54,7 +54,9 @@ class Module(NamedTuple):
 
 
 def modules_of(crate: str) -> List[Module]:
-    """Returns the modules of a crate in the order in which they were proved."""
+    """Returns the modules of a crate in the order in which they were proved, each with the time since the previous
+    module's file. Leaves out the first one, and each module whose file was written PAUSE seconds or more after the
+    previous one."""
     kept = os.path.join(common.TOP, "crates", crate, "out", "incremental", "*", f"Rattle-{crate}[-.]*.oantt")
     files = sorted((os.stat(it).st_mtime, it) for it in glob.glob(kept))
     found = []

@@ -89,8 +89,8 @@ class File:
                 self.passed_on[new or was] = (module, was)
 
     def cut(self, text: list[str]) -> None:
-        """Divides the text into blocks. A comment belongs to the block below it, unless a line of dashes follows as the
-        head of a section."""
+        """Divides the text into blocks. A comment belongs to the block below it, unless the head of a section (a line
+        of dashes) comes between them."""
         comment: list[str] = []
         code: list[str] = []
 
@@ -203,7 +203,8 @@ class Sources:
 
     def resolve(self, module: str, name: str | None) -> Item | None:
         """Returns the block or the declared type that a name of a module refers to. Returns None for a name of the
-        standard library, after noting it."""
+        standard library, after noting it, and for a whole module or one without definitions. Ends the script if the
+        module doesn't have the name."""
         parts = module.split(".")
         if parts[0] != "Rattle" or not parts[1].startswith("ob0_"):
             if name:
@@ -293,8 +294,8 @@ class Sources:
 
 
 def words_of(code: list[str]) -> Iterator[str]:
-    """Yields the names in some lines, without comments and strings. An operator also stands for the name by which it is
-    defined, such as `◌+◌`."""
+    """Yields the names in lines of definitions, without comments and strings. After an operator, yields the name by
+    which it is defined, such as `◌+◌`."""
     for line in code:
         line = re.sub(r'"[^"]*"', '""', re.sub(r"--.*$", "", line))
         yield from WORD.findall(line)

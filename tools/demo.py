@@ -79,8 +79,8 @@ class Live:
 
 
 class Recorded:
-    """The answers of a program that `rt try` compiled, which gets all messages at once. They are returned one after
-    another."""
+    """The answers of a program that `rt try` compiled. The program gets all messages at once; `answer` returns one
+    answer after another."""
 
     def __init__(self) -> None:
         found = tried([it for _, it in steps()])

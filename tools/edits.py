@@ -41,7 +41,7 @@ class Claim(NamedTuple):
         return f"::{function.path}".endswith(f"::{self.function}")
 
     def is_goal(self, goal: str) -> bool:
-        """Returns whether a goal belongs to one of these clauses. `goal` is the prover's name for it."""
+        """Returns whether a goal belongs to one of the claim's clauses. `goal` is the prover's name for it."""
         return "-requires" not in goal and any(is_goal_of(it, goal) for it in self.clauses)
 
 
@@ -149,8 +149,8 @@ class Edit:
         return [(it.path, it.old, it.right if self.is_right and it.right is not None else it.new) for it in self.pairs]
 
     def find_turned(self, source: reading.Source) -> None:
-        """Finds the functions that this mutant changes, and stores them in `turned`. Stores None if a line is outside
-        functions, for example in a type."""
+        """Finds the functions that this mutant changes, including the users of a changed constant, and stores them in
+        `turned`. Stores None if it changes a line of anything else, such as a type."""
         self.turned = turned_by(source, self.lines)
 
 
@@ -165,8 +165,8 @@ def added(pairs: Iterable[Pair], pattern: str, of_right: bool = False) -> int:
 
 
 def why_no_right_form(pairs: Iterable[Pair]) -> Optional[str]:
-    """Returns why the correct texts show nothing: they don't contain as many branches, returns and closures as the new
-    texts. Returns None if they do."""
+    """Returns why the correct texts show nothing: they are the old or the new texts, or contain fewer branches,
+    returns, functions or closures than the new ones. Returns None if they do show something."""
     pairs = list(pairs)
     rights = [it.new if it.right is None else it.right for it in pairs]
     if all(right.split() == it.old.split() for right, it in zip(rights, pairs)):
@@ -183,7 +183,8 @@ def has(crate: str, place: str) -> bool:
 
 
 def forms_of(crate: str, source: reading.Source | None = None) -> list[Edit]:
-    """Returns a crate's mutants from both folders, each followed by its correct variant if it has one."""
+    """Returns a crate's mutants from both folders, each followed by its correct variant if it has one. With `source`,
+    also finds the functions that each of them changes."""
     found = [form for it in edits_of(crate) for form in (it, right_form(it)) if form]
     if source:
         for edit in found:
@@ -198,7 +199,8 @@ def right_form(edit: Edit) -> Optional[Edit]:
 
 
 def edits_of(crate: str, source: reading.Source | None = None) -> list[Edit]:
-    """Returns a crate's mutants from both folders."""
+    """Returns a crate's mutants from both folders. With `source`, also finds the functions that each of them
+    changes."""
     found = []
     for place in PLACES:
         folder = os.path.join(common.TOP, "crates", crate, place)

@@ -1,16 +1,18 @@
 #!/usr/bin/env python3
 """Runs the tests that take longer than the end-to-end tests may: each allocation fails, one at a time, in longer
 conversations and commands, and in the tests of the crates that are made for it (`a_refused_..`); one long conversation;
-many random changes of documents; many random modules, run by the program and by the reference; one long conversation
-about several documents, each answer compared with a new server's; many changes by keys in editors.
+many random changes of documents; many random texts, checked by the program and by the reference; many random modules,
+run by both; one long conversation about several documents, each answer compared with a new server's; many changes by
+keys in editors.
 
   tools/faults.py [WORD..]   only the tests whose name contains one of these words
 
 It runs bin/ob0 (or the program in the variable OB0) and the programs of tests that `make test` or `rt test` left in
-crates/NAME/out. Four variables set how much is tried:
+crates/NAME/out. Five variables set how much is tried:
 
   OB0_LONG     messages of each long conversation (100,000)
   OB0_CHANGES  random changes (20,000)
+  OB0_TEXTS    random texts (20,000)
   OB0_RUNS     random modules (20,000)
   OB0_WALK     about how many allocations of one test fail (10,000); if there are more, each second, third and so on
 

@@ -32,8 +32,8 @@ def summed(lines: list[str]) -> str:
 
 
 def keep(found: dict[str, str], program: str) -> None:
-    """Writes the phrases of these cases to the list, and prints which have changed. Only prints them if the program
-    isn't the proved one."""
+    """Writes the phrases of these cases to the list, and prints the ones that have changed. Ignores cases that the list
+    doesn't contain. Writes nothing if the program isn't the proved one."""
     known = rows()
     new = {name: phrases for name, phrases in found.items() if name in known and known[name] != phrases}
     if not new:

@@ -20,7 +20,8 @@ def plain(text: str) -> str:
 
 
 def inline(text: str) -> str:
-    """Converts part of a Markdown paragraph to roff. Code and strong words become bold, and a link becomes its text."""
+    """Converts part of a Markdown paragraph to roff. Code and emphasized words become bold, and a link becomes its
+    text."""
     text = re.sub(r"\[([^\]]*)\]\([^)]*\)", r"\1", text)
     parts = re.split(r"`([^`]*)`|\*\*([^*]+)\*\*|\*([^*]+)\*", text)
     found = ""

@@ -109,7 +109,8 @@ class Libraries(checks.Libraries):
 
 
 def judge(edit: Edit, said: Said, source: reading.Source, alone: bool) -> Optional[Verdict]:
-    """Returns a check's verdict on one mutant, or None if it has to be tried again."""
+    """Returns a check's verdict on one mutant, or None if it has to be tried again. If `alone`, the check tried no
+    other mutant, and the result is always a verdict."""
     error = checks.unreadable(said, edit)
     if error:
         return Verdict(NOT_JUDGED, f"it can't be read, so no contract was tried: {error}")
@@ -135,7 +136,7 @@ def judge(edit: Edit, said: Said, source: reading.Source, alone: bool) -> Option
 
 def judge_right(said: Said, symbols: Dict[str, str], alone: bool) -> Optional[Verdict]:
     """Returns a check's verdict on a right form, or None if it has to be tried again, because it may call another form
-    that isn't proved."""
+    that isn't proved. If `alone`, the check tried no other form, and the result is always a verdict."""
     if symbols and all(said.verdicts[it].startswith("proved") for it in symbols) and (said.ended or not alone):
         return Verdict(RIGHT, "proved")
     if not alone:
@@ -239,9 +240,9 @@ class Crate:
 
 
 def check(crate: str, chosen: List[Edit], libraries: checks.Libraries, keeps: str) -> Said:
-    """Checks the functions that some mutants of a crate change, over hard links to the kept proofs. (A check writes
-    only new files, so the kept ones don't change.) A run of `try_some` keeps the proofs of its first check of a
-    crate."""
+    """Applies the mutants `chosen` to a copy of a crate, and checks the functions that they change over hard links to
+    the kept proofs. (A check writes only new files, so the kept ones don't change.) A run of `try_some` keeps the
+    proofs of its first check of a crate."""
     asked: List[List[str]] = [sorted({name for edit in chosen for name in edit.checked_as}), []]
     said, kept = Said("a library that it rests on is missing", 2), keeps.format(crate)
     for only in asked:
@@ -289,7 +290,7 @@ class Run:
         self.running: Dict[Future[Said], Tuple[Crate, Group]] = {}
 
     def try_all(self, libraries: checks.Libraries, keeps: str) -> None:
-        """Tries the mutants of all crates, and begins with the crates that take longest."""
+        """Tries the mutants of all crates, and begins with the crates that are likely to take longest."""
         os.makedirs(build.ROOMS, exist_ok=True)
         with ThreadPoolExecutor(self.lanes) as pool:
 
@@ -345,7 +346,7 @@ class Run:
 
 
 def crates_of(chosen: Iterable[Edit], parts: sums.Parts, most: int = MOST) -> List[Crate]:
-    """Returns the crates of these mutants, each with its mutants and with at most so many in one check."""
+    """Groups these mutants by crate. Each crate tries at most `most` of them in one check."""
     found: Dict[str, List[Edit]] = {}
     for edit in chosen:
         found.setdefault(edit.crate, []).append(edit)

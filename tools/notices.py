@@ -40,8 +40,8 @@ def linked(folder: str) -> list[str]:
 
 
 def texts_in(folder: str) -> dict[str, str]:
-    """Returns the notices in a crate's folder. If the crate may be used under either the MIT or the Apache licence,
-    only the MIT notice is returned."""
+    """Returns the notices in a crate's folder. The Apache licence is left out if the crate may also be used under the
+    MIT licence."""
     names = [it for it in sorted(os.listdir(folder)) if it.startswith(("LICENSE", "NOTICE", "COPYING"))]
     found = {}
     for name in names:
@@ -58,13 +58,13 @@ def collected() -> Notices:
 
 
 def head() -> dict[str, str | None]:
-    """Returns the toolchain and the sources of the built program. Kept notices with a different head belong to another
-    program."""
+    """Returns the toolchain's version and the checksum of the sources, from the built program's stamp. Kept notices
+    with a different head belong to another program."""
     return {it: common.stamp().get(it) for it in ("kit", "sources")}
 
 
 def keep() -> Notices:
-    """Collects the notices and writes them next to the program."""
+    """Collects the notices, writes them next to the program, and returns them."""
     found = collected()
     with open(KEPT + ".new", "w", encoding="utf-8") as file:
         json.dump({**head(), "crates": found}, file, indent=1)
@@ -73,7 +73,8 @@ def keep() -> Notices:
 
 
 def of_program() -> Notices:
-    """Returns the notices that are kept next to the program, or else the notices of the installed toolchain."""
+    """Returns the notices that are kept next to the program. If no notices of this program are kept, collects and keeps
+    the installed toolchain's, or ends the script if no toolchain is installed."""
     try:
         with open(KEPT, encoding="utf-8") as file:
             kept = json.load(file)

@@ -134,9 +134,9 @@ def version() -> str:
 
 
 def build_version() -> str:
-    """Returns the version of the packages: BUILD_VERSION, or the program's if the commit has its tag. The version of
-    any other commit grows with the commit's time, so a later build replaces an earlier one. It is below the program's
-    version before its release, and above it afterwards."""
+    """Returns the version of the packages: BUILD_VERSION, or the program's if the commit has its tag and no file is
+    changed. The version of any other build grows with the commit's time, so a later build replaces an earlier one. It
+    is below the program's version before its release, and above it afterwards."""
     number, given = version(), os.environ.get("BUILD_VERSION", "")
     if given:
         if not re.fullmatch(rf"{re.escape(number)}[A-Za-z0-9.+~]*", given):
@@ -185,7 +185,7 @@ def names_below(source: str) -> list[str]:
 
 def files_of(source: str) -> list[tuple[str, str]]:
     """Returns the files below a folder of the repository: for each its path relative to the folder, and its path.
-    Leaves out the pages about editors, because editors read these folders."""
+    Leaves out pages, unless the folder is installed for readers: editors read the other folders."""
     keeps_pages = COPIED[source].startswith((DOC, EXERCISES))
     return [(os.path.relpath(it, source), it) for it in names_below(source) if keeps_pages or not it.endswith(".md")]
 
@@ -246,8 +246,8 @@ def versions() -> list[Version]:
 
 
 def known_versions() -> list[Version]:
-    """Returns the versions of CHANGELOG.md, latest first. The first one is the program's version. It has a day only if
-    it is packed as a release."""
+    """Returns the versions of CHANGELOG.md, latest first. Ends the script if the first one isn't the program's version,
+    or if it has no day although it is packed as a release."""
     found, number = versions(), version()
     if not found or found[0].number != number:
         common.stop(f"the first heading of CHANGELOG.md isn't of {number}, which is the program's version")
@@ -529,7 +529,8 @@ def package(folder: str) -> None:
 
 
 def listed(room: str) -> tuple[list[str], list[str]]:
-    """Returns the files and the folders in the list that an earlier installation left."""
+    """Returns the files and the folders in the list that an earlier installation left, or two empty lists if there is
+    no such list."""
     try:
         with open(os.path.join(room, LIST), encoding="utf-8") as file:
             lines = file.read().splitlines()

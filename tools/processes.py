@@ -39,7 +39,7 @@ def descendants(top: int) -> List[int]:
 
 
 def end_descendants(top: int) -> None:
-    """Kills all descendants of a process, and waits until they have ended."""
+    """Kills all descendants of a process, and waits until they have ended, for at most SECONDS."""
     end = time.monotonic() + SECONDS
     while (left := descendants(top)) and time.monotonic() < end:
         for it in left:

@@ -96,7 +96,8 @@ VERBS = re.compile(r"\b(is|isn't|are|aren't|was|were|has|have|had|does|do|can|ma
 
 
 class Counts(NamedTuple):
-    """How many phrases a file contains, and how many comments that begin with What, Whether or How and have no verb."""
+    """The number of phrases in a file, and the number of its comments that begin with What, Whether or How and have no
+    verb."""
 
     phrases: int
     headless: int
@@ -162,7 +163,7 @@ def comments_of(path: str) -> list[str]:
 
 
 def strings_of(tree: ast.AST) -> Iterator[str]:
-    """Yields the strings in a part of a Python program that contain a blank. A word replaces each value in an
+    """Yields the strings that contain a blank in a part of a Python program. A word replaces each value in an
     f-string."""
     if isinstance(tree, ast.JoinedStr):
         text = "".join(str(it.value) if isinstance(it, ast.Constant) else "`code`" for it in tree.values)

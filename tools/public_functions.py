@@ -55,7 +55,7 @@ class Row:
         self.path = f"{function.crate}::{function.path}"
 
     def lacks(self, known: "dict[str, str]") -> bool:
-        """Returns whether the function needs a mutant and has none."""
+        """Returns whether the function needs a mutant, and has neither a mutant nor a reason for having none."""
         return self.function.gives and not self.turning and self.path not in known
 
     def turned_by(self, known: "dict[str, str]") -> str:

@@ -228,7 +228,8 @@ def sources(crate: str) -> list[str]:
 
 
 def after(words: list[Word], at: int) -> int:
-    """Returns the index after a word, or after the bracket that closes it if the word opens one."""
+    """Returns the index after a word, or, if the word is an opening bracket, the index after the bracket that closes
+    it."""
     depth = 0
     while at < len(words):
         depth += (words[at].text in ("(", "[", "{")) - (words[at].text in (")", "]", "}"))
@@ -385,7 +386,7 @@ class Source:
         return self.all_words(*self.models[owner]) if owner in self.models else []
 
     def is_public(self, module: Module, name: str) -> bool:
-        """Returns whether other crates can use an item of a module."""
+        """Returns whether other crates can use an item of a module, provided that the item is marked `pub`."""
         if module in self.public_modules:
             return True
         return any(brings(words, at, module, name) for at, words in self.brought_out if at in self.public_modules)

@@ -73,7 +73,7 @@ class Refusals:
 
 def goal_of(said: str) -> Optional[Tuple[str, str]]:
     """Returns the place and the name of the goal that the kit prints. The place is a line of a source, or the folder of
-    a proof."""
+    a proof. Returns None if the kit prints no goal, or an answer that failed because a name no longer exists."""
     goal = GOAL.match(said)
     if goal:
         return f"{goal[1]}:{goal[2]}", goal[3]

@@ -62,7 +62,7 @@ def pairs_of(old: List[sums.Part], new: List[sums.Part]) -> Optional[Pairs]:
 
 
 def torn(pairs: Pairs) -> Pairs:
-    """Returns the pairs in which a name has two new names, or two old ones."""
+    """Returns the pairs whose old name has more than one new name, or whose new name has more than one old name."""
     news: Dict[str, Set[str]] = {}
     olds: Dict[str, Set[str]] = {}
     for was, now in pairs:

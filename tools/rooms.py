@@ -75,7 +75,7 @@ def rooms_below(rooms: list[Room]) -> dict[str, list[str]]:
 
 def draw() -> str:
     """Returns the picture of the rooms as text. It has a line for each room except the tests', highest first, with the
-    nearest rooms on which it rests."""
+    rooms on which it rests directly."""
     rooms = read_rooms()
     arrows = nearest(rooms_below(rooms))
     shown = [room for room in reversed(rooms) if room.name != "tests"]
@@ -97,8 +97,8 @@ def halves(text: str) -> list[str]:
 
 
 def picture_of_rooms() -> str:
-    """Draws the rooms as boxes, each with an arrow to the nearest rooms on which it rests. Returns the picture as
-    SVG."""
+    """Draws the rooms as boxes, with an arrow from each room to every room that it rests on directly. Returns the
+    picture as SVG."""
     rooms = [room for room in read_rooms() if room.name != "tests"]
     arrows = {name: lower for name, lower in nearest(rooms_below(read_rooms())).items() if name != "tests"}
     places = layers.placed(arrows)

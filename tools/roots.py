@@ -58,7 +58,8 @@ def content_of(path: str, mode: int) -> str | None:
 
 
 def state(root: str) -> State:
-    """Returns each path of a root with its mode, its owner, its group and its content."""
+    """Returns each path of a root with its mode, its owner, its group and its content, except the paths below the
+    folders in LEFT_OUT."""
     found: State = {}
     for at, folders, files in os.walk(root):
         if at == root:
@@ -164,8 +165,8 @@ def readme_lines() -> tuple[str, str]:
 
 
 def try_archive(root: str, releases: dict[str, list[str]]) -> None:
-    """Tries the archives in /usr/local, in which some folders have unusual modes and owners. Unpacks the first release
-    and then the second over it, and removes that in both ways."""
+    """Tries the archives in /usr/local, in which some folders have unusual modes and owners. For each of the two ways
+    to remove an installation, unpacks each release, runs its program and scripts, and removes it again."""
     unpack, take_away = readme_lines()
     inside(root, "chgrp staff /usr/local/bin /usr/local/share; chmod 2775 /usr/local/bin /usr/local/share; mkdir -p /usr/local/share/doc/other")
     before, local = state(root), os.path.join(root, "usr", "local")

@@ -213,7 +213,7 @@ def version() -> str:
 
 
 def played() -> list[str]:
-    """Plays each scene in a new editor, and returns their last screens."""
+    """Plays each scene in a new editor, and returns the last screen of each."""
     screens = []
     for scene in SCENES:
         with tempfile.TemporaryDirectory() as room:

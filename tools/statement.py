@@ -78,7 +78,7 @@ class Template:
         self.tables = {name: rows_of(rows) for name, rows in re.findall(r"^<!-- table (\w+) -->\n((?:.*\n)*?)(?=^<!-- table|\Z)", tables, re.M)}
 
     def keys(self, parts: Iterable[Part]) -> list[Key]:
-        """Returns the definitions that some sections show, in order."""
+        """Returns the keys of the definitions that these sections show, in order."""
         found: list[Key] = []
         for line in (line for part in parts for line in part.lines):
             at = DIRECTIVE.match(line)
@@ -87,7 +87,7 @@ class Template:
         return found
 
     def contracts(self, parts: Iterable[Part]) -> list[Key]:
-        """Returns the contracts that some sections show, in order."""
+        """Returns the keys of the contracts that these sections show, in order."""
         found = [CONTRACT.match(line) for part in parts for line in part.lines]
         return [(at[1], at[2], at[3]) for at in found if at]
 
@@ -176,8 +176,8 @@ class Group:
         return f"{self.rule()}: {name}" if by_rule and self.rule() else name
 
     def section(self) -> int:
-        """Returns the position of the group's section of docs/LANGUAGE.md. Groups without a section come first, and
-        types of the code last."""
+        """Returns the sort key of the group: the index in SECTIONS of its section of docs/LANGUAGE.md. Groups without a
+        section come first, and types of the code last."""
         if self.file is None:
             return len(SECTIONS)
         if not self.crate.startswith(("ob0_language", "ob0_scan", "ob0_tree")):
@@ -340,7 +340,8 @@ class Page:
         return word
 
     def imported(self, module: str, name: str, word: str) -> str:
-        """Returns a module's name in the form in which the page shows it."""
+        """Returns the name `name` of a module in the form in which the page shows it, or `word` if the pages give it no
+        other name."""
         item = self.sources.resolve(module, name) if ".declared." in module else self.sources.resolve(module, name.split(".")[0])
         if isinstance(item, Declared):
             shown = self.names.get((item, item.name), item.name)
@@ -439,8 +440,8 @@ class Page:
         return lines + (noted("//", self.notes.get(key[2], [])) if on_first else [])
 
     def elsewhere(self, items: Iterable[Block], heading: str, named: Iterable[Item] = ()) -> list[str]:
-        """Returns a line of links to the items in `named` and to those that these definitions use, unless an item is
-        under the same heading."""
+        """Returns a line of links to the items in `named` and to the items that these definitions use, except the items
+        under the same heading. Returns no line if there are none."""
         needs = [need for item in items for need in self.needs(item)]
         found = {need: 0 for need in [*named, *needs] if self.homes.get(need, heading) != heading}
         links = []
@@ -451,7 +452,7 @@ class Page:
         return [*wrapped("Elsewhere: " + ", ".join(links) + "."), ""] if links else []
 
     def needs(self, block: Block) -> list[Item]:
-        """Returns the items that a definition uses, without its own fields."""
+        """Returns the items that a definition uses. The names of a record's own fields don't count as uses."""
         if not re.match(r"^(?:pub )?record ", block.code[0]):
             return self.sources.needs(block)
         code = [re.sub(r"^\s+(?:pub )?[\w-]+(?= :)", "", line) for line in block.code]

@@ -71,7 +71,8 @@ class Parts:
         return found + [names.of_edit(edit)] + [(it.names[0], words_of_block(it)) for it in blocks]
 
     def words(self, source: reading.Source, function: reading.Function) -> List[str]:
-        """Returns the words of a function, of its contract, and of the model of its type."""
+        """Returns the words of a function, of its contract (also the contract in its trait), and of the model of its
+        type."""
         found = [*source.head_of_block(function), *source.words_of(function), *source.model_of(function.owner)]
         if function.trait and function.trait != function.owner:
             for crate in reversed(common.below(function.crate)):
@@ -140,7 +141,7 @@ class Names:
         return found
 
     def of_edit(self, edit: Edit) -> Part:
-        """Returns the words of a form's old and new texts."""
+        """Returns the words of a form's old and new texts, with each local variable replaced by its number."""
         texts = [EDIT_WORD.findall(text) for _, *both in edit.replacements() for text in both]
         self.take(name for it in texts for name in binders(it))
         return "", [word for it in texts for word in [*self.numbered(it), ";"]]

@@ -37,7 +37,8 @@ class Picture:
         self.parts: list[str] = []
 
     def add(self, tag: str, content: str | None = None, **given: object) -> None:
-        """Adds an element. A `-` in an attribute's name is written as `_`."""
+        """Adds an element with these attributes. In an attribute's name, `_` stands for `-`, except at its end:
+        `class_` stands for `class`."""
         pairs = [(name.rstrip("_").replace("_", "-"), value) for name, value in given.items()]
         said = "".join(f' {name}="{number(it) if isinstance(it, (int, float)) else escape(str(it))}"' for name, it in pairs)
         self.parts.append(f"<{tag}{said}/>" if content is None else f"<{tag}{said}>{content}</{tag}>")

@@ -173,7 +173,8 @@ class Heard(io.StringIO):
 
 
 def environment(**named: str) -> dict[str, str]:
-    """Returns the environment without the variables that leave tests out or change the kit's mode."""
+    """Returns the environment without the variables that leave tests out or change the kit's mode, and with the
+    variables in `named`."""
     own = {key: it for key, it in os.environ.items() if not re.match("OB0|RT_", key) or key in KEPT_VARIABLES}
     return {**own, **named}
 
@@ -186,8 +187,8 @@ def as_first_in_group() -> None:
 
 
 def stream(words: list[str], show: Callable[[str], str], **named: str) -> Counts:
-    """Runs a command, prints what `show` returns for each line, and returns the counts of its last verdict line. A run
-    of no test has failed."""
+    """Runs a command, prints what `show` returns for each line, and returns the counts of its last verdict line. Adds a
+    failure if no test passed, or if the command failed and counted no failed test."""
     counts = Counts(0, 0)
     how: dict[str, Any] = {"cwd": TOP, "stdin": subprocess.DEVNULL, "stdout": subprocess.PIPE, "stderr": subprocess.STDOUT}
     with subprocess.Popen(words, env=environment(**named), preexec_fn=as_first_in_group, **how) as process:
@@ -205,8 +206,8 @@ def stream(words: list[str], show: Callable[[str], str], **named: str) -> Counts
 
 def jobs() -> dict[str, str]:
     """Returns RT_JOBS for the gate, the number of checks that run at the same time. (By default `rt ci` reserves up to
-    5 GB for a check.) With more than four processors it is unset, because `rt ci` then gives idle processors to the
-    running checks."""
+    5 GB for a check.) Returns nothing if the user has set RT_JOBS, or if there are more than four processors, because
+    `rt ci` then gives idle processors to the running checks."""
     if "RT_JOBS" in os.environ or build.processors() > 4:
         return {}
     return {"RT_JOBS": str(build.lanes())}
@@ -234,8 +235,8 @@ def gate(flags: list[str]) -> Counts:
 
 
 def of_mutants(taken: Gate) -> Counts:
-    """Tries mutants. Returns their counts, and as failures the edits that the kit didn't refuse by the clause in their
-    first lines."""
+    """Tries mutants, and returns their counts. Each edit that the kit didn't refuse by the clause in its first line
+    also counts as a failure."""
     RUN.at = "the mutants"
     said = Heard()
     with contextlib.redirect_stdout(said):

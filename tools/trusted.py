@@ -22,7 +22,8 @@ class Trusted:
         self.said: List[str] = []
 
     def take(self, line: str) -> None:
-        """Stores a line of `rt ci`'s output if it belongs to these lines."""
+        """Handles a line of `rt ci`'s output. Collects the lines with assumptions, and keeps them if the line `rt: ob0
+        proved` follows."""
         line = line.strip()
         if line.startswith("axioms "):
             self.lines.append(line)
@@ -34,7 +35,8 @@ class Trusted:
             self.lines = []
 
     def difference(self) -> List[str]:
-        """Returns the gate's lines unless they agree with the page; otherwise an empty list."""
+        """Returns the gate's lines if they differ from the page's. Returns an empty list if they agree, or if the gate
+        printed none."""
         return [] if not self.said or listed() == self.said else self.said
 
 

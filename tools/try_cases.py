@@ -83,7 +83,7 @@ class Cases:
         self, words: Sequence[str], given: bytes = b"", stack: int | None = None, cwd: str | None = None
     ) -> harness.Ended:
         """Replaces `harness.run`. While cases are noted, records the words, the input and the files that the words
-        mention; afterwards returns the result of the case."""
+        mention; afterwards returns the result of the case. Raises Unknown if `rt try` can't run the case."""
         plain, text, wants_help = list(words), None, {"-h", "--help"} & {*words}
         if words[:1] and words[0] in COMMANDS and not wants_help:
             at = next((at for at, it in enumerate(words) if at and os.path.isfile(os.path.join(cwd or ".", it))), None)
@@ -151,7 +151,7 @@ class Cases:
             self.found[case] = printed[at] if printed[at].status else renamed((case.text or b"").decode(), answers[f"rename {at}"])
 
     def write(self, room: str, lanes: int) -> tuple[dict[str, Case], list[list[str]]]:
-        """Writes the cases as files for `rt try` into this many folders. Returns the names of the cases, and for each
+        """Writes the cases as files for `rt try` into `lanes` folders. Returns the names of the cases, and for each
         folder the flags that pass its modules. `rt try` copies each module for each case, so a module is only one file;
         if a case reads no input, that file is the module itself."""
         names: dict[str, Case] = {}
@@ -192,7 +192,7 @@ class Cases:
 
 
 def is_text(content: bytes) -> bool:
-    """Returns whether an editor can open a file with this content."""
+    """Returns whether a content is UTF-8, and short enough to be opened in the conversation."""
     try:
         content.decode()
     except UnicodeDecodeError:
@@ -265,7 +265,8 @@ class Try:
 
 
 def play(function: harness.Test) -> Exception | None:
-    """Runs a test. Returns None if it passes, otherwise the exception that it raised."""
+    """Runs a test. Returns None if it passes, otherwise the exception that it raised, or Unknown if it needs the built
+    program."""
     try:
         function()
     except FileNotFoundError as why:

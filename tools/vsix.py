@@ -76,7 +76,7 @@ def files_of(folder: str) -> Files:
 
 
 def package_with(found: Modules, path: str) -> str | None:
-    """Returns the Debian package that contains a file, according to dpkg's lists."""
+    """Returns the Debian package that contains a file, according to dpkg's lists, or None if no package does."""
     lists, wanted = os.path.join(found.root, "var", "lib", "dpkg", "info"), "/" + os.path.relpath(path, found.root)
     for name in sorted(os.listdir(lists)) if os.path.isdir(lists) else []:
         if name.endswith(".list") and wanted in read(os.path.join(lists, name)).decode().splitlines():
@@ -85,7 +85,8 @@ def package_with(found: Modules, path: str) -> str | None:
 
 
 def notice_of(found: Modules, name: str) -> str:
-    """Returns the licence notice of a module: its own file, or the page of its Debian package."""
+    """Returns the licence notice of a module: its own file, or the page of its Debian package. Ends the script if it
+    has neither."""
     folder = found.folder_of(name) or ""
     own = sorted(it for it in os.listdir(folder) if re.match("licen[cs]e", it, re.I))
     if own:

@@ -76,7 +76,8 @@ class Hints:
             depth -= it[0] == b"*)" and depth > 0
 
     def facts(self, offset: int) -> Dict[str, str]:
-        """Returns the facts about the token at an offset that conditions test and hints cite, by name."""
+        """Returns, by name, the facts about the token at an offset, the tokens around it and their line. Conditions
+        test these facts, and hints cite them."""
         index = next((index for index, it in enumerate(self.tokens) if index > 1 and it.start >= offset), len(self.tokens))
         before2, before, at, following = [*self.tokens, *[Token("", offset, 0)] * 2][index - 2 : index + 2]
         line, opened = at.line or before.line, [""]

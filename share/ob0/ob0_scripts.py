@@ -1,5 +1,5 @@
-"""Functions that the scripts ob0-check, ob0-format, ob0-rename and ob0-trace share: they read and replace modules, ask
-the server, and print lines."""
+"""Contains functions that the scripts ob0-check, ob0-format, ob0-rename and ob0-trace share: they read and replace
+modules, ask the server, and print lines."""
 from __future__ import annotations
 
 import argparse
@@ -169,7 +169,7 @@ def bytes_of(path: str) -> bytes:
 
 def text_of(path: str) -> bytes:
     """Reads a module's file. Raises Refused if it isn't UTF-8. A text that is too long is cut after one byte too many,
-    and isn't examined."""
+    and whether it is UTF-8 isn't checked."""
     text = bytes_of(path)
     try:
         text[: 0 if len(text) > LONGEST else None].decode()

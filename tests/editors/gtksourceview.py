@@ -1,5 +1,5 @@
-"""The styles that GtkSourceView 4 gives the words of a file, as JSON: run by the system's Python, which has its bindings. No screen
-is needed."""
+"""Prints, as JSON, the styles that GtkSourceView 4 gives the words of a file. The system's Python runs this script,
+because it has the bindings of GtkSourceView. No screen is needed."""
 from __future__ import annotations
 
 import json

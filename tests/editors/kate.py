@@ -1,5 +1,5 @@
 #!/usr/bin/env python3
-"""Drives Kate by its keys, on a screen that nobody sees: run by xvfb-run and dbus-run-session.
+"""Drives Kate by its keys, on a virtual screen. xvfb-run and dbus-run-session run this script.
 
 Variables: OB0_FILE (the file to edit), OB0_REPORT (the file for the findings, a line of JSON each), OB0_STEPS (the name of a list
 of steps below), OB0_GIVEN (a place in the file, as JSON), OB0_WIRE (the folder of tests/lib/holding.py, which is between Kate and
@@ -45,7 +45,8 @@ def saved() -> str:
 
 
 def waited(what: str, value: Callable[[], Any], seconds: float = 120) -> Any:
-    """Waits until something has a value that counts as true, and gives that."""
+    """Waits until `value` returns something that counts as true, and returns that. Raises RuntimeError if the time runs
+    out."""
     end = time.monotonic() + seconds
     while time.monotonic() < end:
         found = value()
@@ -64,33 +65,35 @@ def typed(text: str) -> None:
 
 
 def told(*words: str) -> list[str]:
-    """The words that xdotool prints."""
+    """Runs xdotool with these words, and returns the words that it prints."""
     how: dict[str, Any] = {"stdout": subprocess.PIPE, "stderr": subprocess.DEVNULL}
     return str(subprocess.run(["xdotool", *words], check=False, **how).stdout.decode()).split()
 
 
 def is_shown(name: str) -> bool:
-    """Returns whether a window of this name exists."""
+    """Returns whether a visible window has this name."""
     return bool(told("search", "--onlyvisible", "--name", name))
 
 
 def windows() -> set[str]:
-    """Returns the present windows. (Lists of commands and menus have no name.)"""
+    """Returns Kate's visible windows. (They are found by their class, because lists of commands and menus have no
+    name.)"""
     return {*told("search", "--onlyvisible", "--class", "kate")}
 
 
 def new_window(before: set[str]) -> set[str]:
-    """Returns the windows except these."""
+    """Returns the visible windows that aren't in `before`."""
     return windows() - before
 
 
 def takes_keys(name: str) -> bool:
-    """Returns whether the window that takes the keys has this name."""
+    """Returns whether the active window, which gets the keys, has this name."""
     return bool({*told("getactivewindow")} & {*told("search", "--onlyvisible", "--name", name)})
 
 
 def command(name: str, comes: Callable[[], Any]) -> Any:
-    """Chooses a command by its name, as often as it takes to be taken."""
+    """Chooses a command by its name, again if necessary, until `comes` returns something that counts as true, and
+    returns that. Raises RuntimeError after four attempts."""
     # (Kate 25 lists a switch whose name begins alike above one of them; chosen twice, it is unchanged)
     for below in 0, 0, 1, 1:
         try:
@@ -106,7 +109,7 @@ def command(name: str, comes: Callable[[], Any]) -> Any:
 
 
 def name_asked(name: str) -> None:
-    """Asks for a rename, up to the key that ends the new name."""
+    """Asks for a rename and types the new name, without the key that confirms it."""
     keys("F2")
     waited("the question for a name", lambda: takes_keys(DIALOG))
     keys("ctrl+a")
@@ -114,13 +117,14 @@ def name_asked(name: str) -> None:
 
 
 def is_answered() -> bool:
-    """Returns whether the last text that was sent has its diagnostics."""
+    """Returns whether the server has published diagnostics for the last version that was sent."""
     sent = WIRE.sent("textDocument/didOpen", "textDocument/didChange")
     return bool(WIRE.published()[-1]["version"] == sent[-1]["params"]["textDocument"]["version"])
 
 
 def is_quiet() -> bool:
-    """Returns whether that is so, and for a second nothing more was sent: the edits of one answer can be several changes."""
+    """Returns whether the last version has its diagnostics, and nothing more was sent for a second. (The edits of one
+    answer can be several changes.)"""
     before = len(WIRE.events())
     time.sleep(1)
     return is_answered() and len(WIRE.events()) == before
@@ -131,7 +135,7 @@ def codes() -> list[str]:
 
 
 def after(what: str, change: Callable[[], object]) -> list[str]:
-    """Makes a change and gives the codes of the diagnostics that come for it."""
+    """Makes a change, waits for its last diagnostics, and returns their codes."""
     before = len(published())
     change()
     waited(f"diagnostics, {what}", lambda: len(published()) > before)
@@ -140,7 +144,7 @@ def after(what: str, change: Callable[[], object]) -> list[str]:
 
 
 def saving() -> str:
-    """Saves, and gives the text."""
+    """Saves the file, and returns its text."""
     before = os.stat(FILE).st_mtime_ns
     waited("the window with the text", lambda: takes_keys(TEXT) and not is_shown(DIALOG))
     keys("ctrl+s")
@@ -180,7 +184,8 @@ RENAME, LAYOUT = "textDocument/rename", "textDocument/formatting"
 
 
 def formatted() -> None:
-    """A layout, the file that is saved then, and the edits of a second layout."""
+    """Formats the text, saves the file, and formats the text again. Reports the diagnostics, the text, the file's
+    content, and the edits of the second answer."""
     say("formatted", after("formatted", lambda: command("Format", lambda: answers(LAYOUT))))
     say("text", saving())
     with open(FILE, encoding="utf-8", newline="") as file:
@@ -211,7 +216,7 @@ def has_other_text(text: str) -> bool:
 
 
 def late() -> None:
-    """An answer is held while a line is typed above."""
+    """Holds the answer to a rename, and then to a formatting, while a line is typed above the text."""
     asks: list[tuple[str, str, Callable[[], object]]] = [
         ("renamed", RENAME, lambda: rename("tot")),
         ("laid out", LAYOUT, lambda: command("Format", WIRE.is_held)),

@@ -1,4 +1,5 @@
-"""Conversations and commands that are run with failing allocations and devices, each with its input and file."""
+"""Contains conversations and commands that are run with failing allocations and devices, each with its input and
+file."""
 from __future__ import annotations
 
 from typing import Any, NamedTuple

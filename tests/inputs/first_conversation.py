@@ -1,4 +1,5 @@
-"""The first conversation: its input and output. The lengths in the headers are written out rather than computed."""
+"""Contains the first conversation: its input and output. The lengths in the headers are written out rather than
+computed."""
 from __future__ import annotations
 
 from collections.abc import Iterable

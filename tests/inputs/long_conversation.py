@@ -32,7 +32,8 @@ class Talk:
         self.text = self.good = ""
 
     def begin(self) -> tuple[str, list[Message]]:
-        """Opens a valid module. The open document is sometimes closed first, and otherwise simply opened again."""
+        """Opens a valid module, and returns its text and its diagnostics. The open document is sometimes closed first,
+        and otherwise simply opened again."""
         if self.version and self.chance.random() < 0.3:
             self.server.notify(did_close(URI))
         self.text = self.good = corpus.module(self.chance.choice([300, 900, 2000]), self.chance.randrange(1000))
@@ -40,8 +41,8 @@ class Talk:
         return self.text, self.server.notify(did_open(self.text, URI, self.version))
 
     def change(self) -> tuple[str, list[Message]]:
-        """Makes one to four changes in one notification. A change replaces a random range, or restores the last valid
-        text."""
+        """Makes one to four changes in one notification, and returns the new text and its diagnostics. A change
+        replaces a random range, or restores the last valid text."""
         changes: list[Message] = []
         for _ in range(self.chance.choice([1, 1, 2, 3])):
             if self.text != self.good and self.chance.random() < 0.4:
@@ -94,8 +95,8 @@ def resident(server: Server) -> int:
 
 
 def converse(count: int, seed: int = 0) -> str:
-    """Holds a conversation of `count` messages, and fails if the server's memory keeps growing. Returns a line of
-    statistics."""
+    """Holds a conversation of `count` messages. Fails if the published diagnostics differ from `check`'s, or if the
+    server's memory keeps growing. Returns a line of statistics."""
     chance = random.Random(seed)
     published, empty, early = 0, 0, 0
     with Server(capabilities=LITERALS) as server, concurrent.futures.ThreadPoolExecutor(failing.PROCESSORS) as pool:

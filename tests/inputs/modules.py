@@ -1,4 +1,4 @@
-"""Modules that more than one file of tests uses."""
+"""Contains modules that more than one file of tests uses."""
 
 # a global that a procedure within a procedure writes
 WRITES_A_GLOBAL = """MODULE M;

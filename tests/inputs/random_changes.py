@@ -83,7 +83,8 @@ def blank_at(text: str, chance: random.Random) -> tuple[int, int, str]:
 
 def word_at(text: str, chance: random.Random) -> tuple[int, int, str]:
     """Returns a replacement (start, end, new text) that puts another name or number in place of one: one from the text,
-    an undeclared one, or the same with one digit more. The kinds of the tokens stay the same."""
+    an undeclared one, or the same with one digit more. The kinds of the tokens stay the same. If the text has neither
+    names nor numbers, returns a replacement like `blank_at`'s."""
     found = [it for it in LEXEME.finditer(text) if it[0].isdigit() or (it[0][0].isalpha() and not it[0].isupper())]
     if not found:
         return blank_at(text, chance)
@@ -94,7 +95,8 @@ def word_at(text: str, chance: random.Random) -> tuple[int, int, str]:
 
 def statement_at(text: str, chance: random.Random) -> tuple[int, int, str]:
     """Returns a replacement (start, end, new text) that inserts a statement before a semicolon or END. It uses names of
-    the text, or an undeclared one."""
+    the text, or an undeclared one. If the text has no names, or no place for a statement, returns a replacement like
+    `blank_at`'s."""
     found = list(LEXEME.finditer(text))
     begin = next((it.start() for it in found if it[0] == "BEGIN"), 0)
     places = [it.start() for it in found if it[0] in (";", "END") and it.start() > begin]

@@ -1,5 +1,5 @@
-"""Conversations of an editor with a server behind ob0-watch, as steps, and what the report says of each: 29 in which
-the editor breaks a rule, or does what no rule is about, and 25 that keep all rules in unusual ways.
+"""Contains conversations of an editor with a server behind ob0-watch, as steps, and what the report says of each: 29 in
+which the editor breaks a rule, or does what no rule is about, and 25 that keep all rules in unusual ways.
 
 A step is a word and what belongs to it:
 

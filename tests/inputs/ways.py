@@ -61,8 +61,8 @@ def is_module(text: str) -> bool:
 
 
 def changed_body(old: Lexed, new: Lexed) -> tuple[str, Optional[Body]]:
-    """Returns which parts can be reused if all tokens have the same kinds as before, and the changed body of the new
-    text (None if the change isn't in one body)."""
+    """Returns the kind of a change after which all tokens have the same kinds as before (REFUSED, BODY or
+    DECLARATIONS), and the changed body of the new text if the kind is BODY, otherwise None."""
     tree = tree_of(new)
     if tree is None:
         return REFUSED, None
@@ -115,8 +115,8 @@ def last_module(module: Optional[Lexed], new: Optional[Lexed]) -> Optional[Lexed
 
 
 def way_of(old: Optional[Lexed], new: Optional[Lexed], module: Optional[Lexed]) -> tuple[str, Optional[Body]]:
-    """Returns which parts of the last analysis with lexemes can be reused, given the last text that was a module, and
-    the body that contains the change (None if it isn't in one body)."""
+    """Returns the kind of a change (one of the constants above), and the changed body of the new text if the kind is
+    BODY, otherwise None. `old` is the last text without lexical faults, and `module` the last one that was a module."""
     if old is None or new is None:
         return LEXEMES, None
     if [it.kind for it in old.tokens] != [it.kind for it in new.tokens]:

@@ -98,8 +98,8 @@ def run_of(make: Callable[[int], random_texts.Program], seed: int) -> str:
 
 
 def end_of(text: str, given: List[int], calls: int, turns: int, seed: int) -> str:
-    """Compares our run of a module with the reference's, on this input and with these limits. Returns how it ended, or
-    LONG if the reference gave up."""
+    """Compares the program's run of a module with the reference's, on the input `given` and with these limits. Returns
+    how the run ended, or LONG if the reference gave up."""
     found = Short(text, given, calls, turns)
     if found.end == LONG:
         return LONG

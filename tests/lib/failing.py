@@ -62,8 +62,9 @@ class Walked(harness.Ended):
 def walked(
     words: list[str], given: bytes, cwd: str | None, kind: str, numbers: range, ending: str, **fails: object
 ) -> list[Walked]:
-    """Runs a program once for each of these numbers, and makes the call of this `kind` with that number fail. One
-    process forks for all runs. `fails` lists other failures, as failing.c reads them. Returns the results in order."""
+    """Runs a program once for each number in `numbers`, and makes the call of this `kind` with that number fail; if
+    `ending` is "..", all later calls fail as well. One process forks for all runs. `fails` lists other failures, as
+    failing.c reads them. Returns the results in order."""
     with tempfile.TemporaryFile() as stdin, tempfile.TemporaryFile() as reports:
         stdin.write(given)
         stdin.flush()

@@ -400,7 +400,8 @@ def want(*names: str) -> None:
 
 
 def want_proved() -> None:
-    """Skips this test unless the program is bin/ob0 and was proved from the present sources."""
+    """Skips this test unless the program is bin/ob0 and was proved from the present sources. In `make test` it fails
+    instead."""
     need_program()
     if os.path.abspath(BINARY) != common.BINARY or not common.is_current():
         leave_out("bin/ob0 is not the proved program of these sources")

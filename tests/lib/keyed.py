@@ -132,7 +132,7 @@ endfunction
 
 
 def vim_change(chance: random.Random, letters: str) -> str:
-    """Returns the keys of a random change in Vim, which begins and ends in normal mode."""
+    """Returns the keys of a random change in Vim. They are typed in normal mode, and lead back to it."""
     word = chance.choice(["x", "yy", "n := 1;", "\t", *letters, f"(* {letters} *)"])
     line = f":{chance.randint(1, 12)}\r"
     old, new = chance.choice(["n", "x", ";", letters[-1], "$"]), chance.choice(["nn", "", letters[-1], "\\r"])

@@ -26,7 +26,7 @@ def starts() -> List[int]:
 
 
 def seeds(count: int) -> List[int]:
-    """Returns at least `count` seeds, and prints the first ones."""
+    """Returns at least `count` seeds, and prints the numbers at which they begin."""
     found = starts()
     print(f"    seeds begin at {' and '.join(map(str, found))}", flush=True)
     size = -(-count // len(found))

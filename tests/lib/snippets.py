@@ -17,5 +17,5 @@ def fenced(page: str) -> list[tuple[str, str]]:
 
 
 def snippets(editor: str, language: str) -> list[str]:
-    """Returns the code blocks of an editor's page that are in this language."""
+    """Returns the code blocks in this language on an editor's page."""
     return [text for name, text in fenced(os.path.join("editors", editor, "README.md")) if name == language]

@@ -97,7 +97,7 @@ def reports(room: str) -> list[Report]:
 
 def expect(room: str) -> None:
     """Fails unless the editors in a folder kept all rules, except the ones listed in the file `breaks`, which they must
-    break."""
+    break. Also fails if ob0-watch stopped watching."""
     breaks: set[str] = set()
     if os.path.exists(os.path.join(room, "breaks")):
         with open(os.path.join(room, "breaks"), encoding="utf-8") as file:

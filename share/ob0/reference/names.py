@@ -51,7 +51,8 @@ class Scopes:
         self.faults.add((token.start, token.end, code))
 
     def declare(self, kind: str, token: Token, node: Node | None = None) -> Declared:
-        """Declares a name in the innermost block."""
+        """Declares a name in the innermost block, and returns the declaration. Reports Duplicate if the block already
+        declares the name."""
         declared, block = Declared(kind, token.text, node=node), self.blocks[-1]
         if token.text in block:
             self.report("Duplicate", token)
