@@ -87,13 +87,13 @@ def failing_printer() -> None:
                 ended(found, plain.out[:number], 4, b"fault: Write\n", f"{name}: {number} bytes taken")
 
 
-@test("devices: each failing read or write ends the program with a fault, after a prefix of its usual output")
+@test("devices: if any read or write fails, the program ends with a fault after a prefix of its usual output")
 def failing_calls() -> None:
     counts = [failing.broken(name, *it[:3]) for name, it in {**conversations.SHORT, **conversations.LONG}.items()]
     holds(all(counts), f"nothing was read or written: {counts}")
 
 
-@test("devices: a read or write that moves only one byte changes nothing about the output and the status")
+@test("devices: if any read or write moves only one byte, the program's output and status are unchanged")
 def short_calls() -> None:
     counts = [failing.shortened(name, *it[:3]) for name, it in {**conversations.SHORT, **conversations.LONG}.items()]
     holds(any(counts), "nothing of several bytes was read or written")
@@ -142,7 +142,7 @@ def writer() -> None:
     same((ran.stderr, ran.returncode), (b"fault: Write\n", 4))
 
 
-@test("devices: SIGXFSZ ends `serve` at the limit on file sizes, and `fault: Write` does if SIGXFSZ is ignored")
+@test("devices: the limit on file sizes ends `serve` by SIGXFSZ, or by `fault: Write` if SIGXFSZ is ignored")
 def limit_of_files() -> None:
     for handler, wanted in ((signal.SIG_DFL, (b"", -signal.SIGXFSZ)), (signal.SIG_IGN, (b"fault: Write\n", 4))):
 

@@ -800,14 +800,14 @@ def in_vscode_by(*kind: str, folder: str = vsix.FOLDER) -> None:
     same({version for it in renamed if "result" in it for change in it["result"]["documentChanges"] for version in [change["textDocument"]["version"]]}, {1, 2}, "the versions")
 
 
-@test("VS Code: the extension starts the server, drops late answers, checks and runs, with a stand-in for the editor")
+@test("VS Code: with a stand-in for the editor, the extension starts the server, drops late answers, checks and runs")
 def vscode() -> None:
     want("Node")
     harness.need_program()
     in_vscode_by()
 
 
-@test("VS Code: the extension behaves the same with the real vscode-languageclient and a stand-in editor")
+@test("VS Code: the extension also starts the server, drops late answers, checks and runs with the real client")
 def vscode_client() -> None:
     # (`npm install` in editors/vscode gets the client, and `make editors RELEASE=trixie` makes it in its root)
     want("Node", vsix.CLIENT)
@@ -815,7 +815,7 @@ def vscode_client() -> None:
     in_vscode_by("real")
 
 
-@test("VS Code: the packed extension behaves the same with the real vscode-languageclient and a stand-in editor")
+@test("VS Code: the packed extension starts the server, drops late answers, checks and runs with the real client")
 def vscode_packed() -> None:
     want("Node", vsix.CLIENT)
     harness.need_program()

@@ -152,7 +152,7 @@ def almost_a_bad_head() -> None:
     ended(serve(b"a" * 4095), b"", 3, b"fault: Truncated\n")
 
 
-@test("stream: a message with a content of 16,777,216 bytes is accepted")
+@test("stream: a content of 16,777,216 bytes is read to its end")
 def largest_content() -> None:
     content = b"[" + b" " * (16777216 - 2) + b"]"
     ended(serve(b"Content-Length: 16777216\r\n\r\n" + content), NO_MESSAGE, 1)

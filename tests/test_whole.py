@@ -292,7 +292,7 @@ def no_other_user() -> None:
     same([it for it in found.called if it.startswith(("rt ci", "tests"))], [], "what is run")
 
 
-@test("whole: skipped tests count as run, except that only a few may be skipped if OB0_MAY_LACK is set")
+@test("whole: skipped tests count as run, but if OB0_MAY_LACK is set, many skipped tests are a failure")
 def floor() -> None:
     many, few = "500 passed, 0 failed, 100 skipped", "5000 passed, 0 failed, 4 skipped"
     same([whole(rest=it).status for it in (many, few)], [0, 0], "by hand")
@@ -359,7 +359,7 @@ def verdict() -> None:
             same(called.splitlines(), wanted_calls, "what is run")
 
 
-@test("whole: a signal to .ci/run ends the test that it runs, and the last line reports a failure")
+@test("whole: a signal to .ci/run ends the `make test` that it runs, and the last line reports a failure")
 def ci_ended() -> None:
     with temporary() as room:
         # (a signal in its first moment would end `timeout` without its child)
@@ -378,7 +378,7 @@ def ci_ended() -> None:
         holds(not harness.is_running(number), "the test still runs")
 
 
-@test("whole: each tool that .ci/run allows to be missing is used by the tests, and Debian 12 lacks it")
+@test("whole: each tool that .ci/run allows to be missing is listed in tools/editors.py, without a Debian package")
 def may_lack_there() -> None:
     for name in LACKING.split(","):
         holds(name in editors.TOOLS and not editors.TOOLS[name][1], name)
