@@ -193,7 +193,7 @@ def leaves_a_child(path: str) -> None:
     time.sleep(600)
 
 
-@test("again: a test over its time limit is killed with its child processes, and no test starts after the total time")
+@test("again: a test over its time limit is killed with its child processes, and no test starts after the run's limit")
 def ended_in_time() -> None:
     with tempfile.TemporaryDirectory() as room:
         path = os.path.join(room, "child")

@@ -76,7 +76,7 @@ def failing_writer() -> None:
 
 @test("devices: if a write fails after any byte of a command's output, the command ends with `fault: Write`")
 def failing_printer() -> None:
-    for name, status in (("check a text with two faults", 1), ("run a module", 0), ("rename a variable", 0)):
+    for name, status in (("a check of a text with two errors", 1), ("a run of a module", 0), ("a rename of a variable", 0)):
         words, given, text, _ = conversations.SHORT[name]
         with failing.folder_with_module(text) as room:
             command = [harness.BINARY, *words]
@@ -108,7 +108,7 @@ def pieces() -> None:
 
 @test("devices: `run` ends with `fault: Input` if a read of its input fails at any byte")
 def failing_input() -> None:
-    words, _, text, _ = conversations.SHORT["run a module"]
+    words, _, text, _ = conversations.SHORT["a run of a module"]
     with failing.folder_with_module(text) as room:
         for found in failing.walk([harness.BINARY, *words], b"1 2", room, "reads", range(1, 5)):
             ended(found, b"", 4, b"fault: Input\n", f"call {found.numbers[0]} fails")

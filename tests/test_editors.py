@@ -152,7 +152,7 @@ def items_of(folder: str, rows: list[tuple[str, str]]) -> list[str]:
     return found
 
 
-@test("editors: README and each editor's page give the same verdict on the guarantee as the table in editors/README.md")
+@test("editors: README and each editor's page state ob0's guarantee as the table in editors/README.md does")
 def held_here() -> None:
     rows = verdicts("editors/README.md")
     shared = " ".join(text_of("editors/README.md").split())
@@ -1033,7 +1033,7 @@ KEYED: Dict[str, Any] = {
     "Emacs by lsp-mode": (keyed.LspMode, "Emacs", "lsp-mode"),
 }
 for name, which in KEYED.items():
-    test(f"{name}: a late answer changes no other text than the one that it was requested for")(functools.partial(late_answers, *which))
+    test(f"{name}: a late answer changes only the text for which it was requested")(functools.partial(late_answers, *which))
 
 
 CHANGED = LATE.replace("VAR", "VAR (* N and n *)").rstrip("\n").replace("\n", "\r\n")  # (with CR LF, except after the last line)

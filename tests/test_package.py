@@ -397,7 +397,7 @@ def by_tab(shell: str) -> None:
 
 
 for each in SHELLS:
-    test(f"package: Tab completes a command, an option and a file's name in {each} with an empty home directory")(functools.partial(by_tab, each))
+    test(f"package: with an empty home directory, Tab in {each} completes a command, an option and a file's name")(functools.partial(by_tab, each))
 
 
 def seen_by_vim(words: list[str], environment: dict[str, str], work: str, name: str) -> None:

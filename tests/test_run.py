@@ -48,7 +48,7 @@ def four_runs(text: str | bytes) -> None:
     ran(text, "\n\n 0", "", "2", 1, 3)
 
 
-@test("run: two modules have the expected outputs and ends for given inputs and bounds of turns and calls")
+@test("run: two modules have the expected outputs and ends for given inputs and bounds on turns and calls")
 def bounds() -> None:
     four_runs(COUNTS)
     ran(CALLS, " 2 1", "", "", 3)
@@ -56,7 +56,7 @@ def bounds() -> None:
     ran(CALLS, " 2 1")
 
 
-@test("run: a module with a WHILE has the same outputs and ends after one of its variables was renamed")
+@test("run: renaming a variable doesn't change the outputs and ends of a module with a WHILE")
 def renamed_runs() -> None:
     found = on_file("rename", COUNTS, "1", "4", "k")
     ends(found, edited(COUNTS, ["1:4-1:5", "2:25-2:26", "3:11-3:12", "3:21-3:22", "3:30-3:31", "3:35-3:36"], "k"), 0)
