@@ -152,7 +152,7 @@ def items_of(folder: str, rows: list[tuple[str, str]]) -> list[str]:
     return found
 
 
-@test("editors: README and each editor's page state ob0's guarantee as the table in editors/README.md does")
+@test("editors: README, editors/README.md and each editor's page agree whether the guarantee holds in an editor")
 def held_here() -> None:
     rows = verdicts("editors/README.md")
     shared = " ".join(text_of("editors/README.md").split())

@@ -63,7 +63,7 @@ def renamed_runs() -> None:
     four_runs(found.out)
 
 
-@test("run: equal field names in two records, constants below 0 and a redeclared TRUE have the expected results")
+@test("run: modules with equal field names, constants below 0 or a redeclared name have the expected outputs")
 def before_edits() -> None:
     ran(RECORDS, " 3")
     ran(LEAST, " -2147483648")
@@ -118,7 +118,7 @@ def statements() -> None:
     ran(body("WHILE x <= 100000 DO x := x + 1 END; Write(x)"), "", "TurnBound")
 
 
-@test("run: REPEAT runs its body at least once, and its repetitions count towards the bound of turns")
+@test("run: REPEAT runs its body at least once, and its repetitions count towards the bound on turns")
 def repeated() -> None:
     ran(REPEATED, " 0", "", "0", None, 0)
     ran(REPEATED, " 2", "TurnBound", "2", None, 0)
@@ -144,7 +144,7 @@ def begin_again() -> None:
     ran("MODULE M; PROCEDURE P; VAR x: INTEGER; b: BOOLEAN; BEGIN IF b THEN Write(9) END; x := x + 1; b := TRUE; Write(x) END P; BEGIN P; P END M.", " 1 1")
 
 
-@test("run: Read accepts whole numbers between white space, and any other input ends a run with the fault Input")
+@test("run: `ob0 run` reads whole numbers between white space, and refuses any other input with `fault: Input`")
 def inputs() -> None:
     text = body("Read(x); Read(y); Write(x + y)")
     ran(text, " 3", "", "1 2")

@@ -59,7 +59,7 @@ def by_chance() -> None:
     fail_shortly(TEXT, check)
 
 
-@test("seeds: a result that differs from the reference's is shown with a shortened text and the text's number")
+@test("seeds: a result that differs from the reference's is shown with a shortened text and its seed")
 def against_another() -> None:
     need_program()
     diagnostics, run = against_reference.diagnostics_of, against_reference.Short

@@ -449,13 +449,13 @@ def by_pathogen(editor: str) -> str:
     return found
 
 
-@test("syntax files: Pathogen loads ob0's files in Vim after the commands on the page of Vim")
+@test("syntax files: Pathogen loads ob0's files in Vim after the commands on Vim's page")
 def pathogen_in_vim() -> None:
     want("Vim", "Pathogen")
     managed(["vim.nox"], "Vim", ["vim"], PATHOGEN, by_pathogen("vim"), "Helptags")
 
 
-@test("syntax files: Pathogen loads ob0's files in Neovim after the commands on the page of Neovim")
+@test("syntax files: Pathogen loads ob0's files in Neovim after the commands on Vim's page")
 def pathogen_in_neovim() -> None:
     want("Neovim", "Pathogen")
     managed(["nvim"], "Neovim", ["vim", "neovim"], PATHOGEN, by_pathogen("neovim"), "Helptags")
