@@ -152,7 +152,7 @@ def left_out() -> None:
             same([it for it in lacks if editors.may_lack(it)], lacking, f"what may lack with {listed!r}")
 
 
-@test("again: `--first` omits the tests that need the program, and `--rest` runs the tests without a result")
+@test("again: `--first` omits the tests that need the program, and `--rest` runs the tests without a result so far")
 def first_and_rest() -> None:
     def runs() -> None:
         with mock.patch.object(harness, "BINARY", "/no/such/program"):

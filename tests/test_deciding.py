@@ -113,7 +113,7 @@ esac
 """
 
 
-@test("deciding: `make editors RELEASE=..` prints editors' versions, and fails if a test fails or debootstrap fails")
+@test("deciding: `make editors RELEASE=..` prints editors' versions, and fails if a test or debootstrap fails")
 def editors_of_release() -> None:
     editors_of = tool("editors_of")
     for made, python, tests, status in ((0, 0, 0, 0), (0, 0, 1, 1), (0, 1, 0, 1), (1, 0, 0, 1)):

@@ -258,7 +258,7 @@ def linked() -> None:
     holds("carla:\n  Clock.mod   right\n" in said and "bob/Clock.mod:\n  Clock.mod   right\n" in said, said)
 
 
-@test("exercises: mark.py counts right modules per folder, and ends with 0 if each folder has only right modules")
+@test("exercises: mark.py counts right modules per folder, and ends with 0 if each folder has some and all are right")
 def folders() -> None:
     right_one, wrong_one = answer("Clock"), answer("Clock").replace("DIV", "MOD", 1)
     files = {"anna/Clock.mod": right_one, "anna/Leap.ob0": answer("Leap"), "ben/Clock.mod": wrong_one, "carl/x.txt": "", "-xaver/Clock.Mod": right_one}

@@ -94,7 +94,7 @@ def runs() -> None:
     print("    " + counted(run_of(random_texts.program, seed) for seed in seeds(COUNT)))
 
 
-@test("random: modules with assigned and passed arrays and records have the reference interpreter's output and end")
+@test("random: modules that copy and pass arrays and records have the output and end of the reference interpreter")
 def aliased_runs() -> None:
     print("    " + counted(run_of(random_texts.aliased, seed) for seed in seeds(COUNT)))
 

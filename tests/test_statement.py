@@ -254,7 +254,7 @@ def sources() -> str:
     return "\n".join(text_of(os.path.relpath(path, TOP)) for path in paths)
 
 
-@test("statement: the laws and tests that support the explanations exist, as do all laws that the pages mention")
+@test("statement: each law that STATEMENT.md or DEFINITIONS.md mentions exists, and each test that supports it")
 def spoken_for() -> None:
     written = sources()
     said = re.findall(r"For that speak (.*?)\n\n", second(), re.S)

@@ -267,7 +267,7 @@ def begun(room: str, said: str) -> "subprocess.Popen[bytes]":
         return subprocess.Popen(words, stdout=out, stderr=subprocess.STDOUT, env=environment(room, SLEEPS="1"))
 
 
-@test("whole: a signal makes a run print its progress and end with its child processes, and a second run waits")
+@test("whole: after a signal `make test` prints its progress and ends its child processes, and a second run waits")
 def ended() -> None:
     for number in (signal.SIGTERM, signal.SIGINT, signal.SIGHUP):
         with temporary() as room:
@@ -285,7 +285,7 @@ def ended() -> None:
             same(os.listdir(os.path.join(room, "tmp")), [], "the remaining temporary files")
 
 
-@test("whole: a run ends at once, with the reason, if root can't switch to another user, as the gate needs")
+@test("whole: `make test` ends at once, and says why, if root can't switch to another user")
 def no_other_user() -> None:
     found = whole(LACKS="1")
     same((found.status, "root can't become another user here" in found.said, "be another" in found.last), (2, True, True), found.said)
@@ -326,7 +326,7 @@ exec "$@"
 """
 
 
-@test("whole: .ci/run ends with the verdict in bin/results, fails without one, and sets limits and the tools to skip")
+@test("whole: .ci/run ends with the verdict in bin/results, and sets time limits and the tools that may be missing")
 def verdict() -> None:
     lines, none = "ok\t0.1 s\ta test\n7 passed, 0 failed\tof this name\n", "0 passed, 1 failed"
     for results, status, wanted in (
@@ -384,7 +384,7 @@ def may_lack_there() -> None:
         holds(name in editors.TOOLS and not editors.TOOLS[name][1], name)
 
 
-@test("whole: a package states if its program is tested, not tested or failed, and the screen repeats it unless tested")
+@test("whole: a package states whether its program is tested, and the screen repeats FAILED or NOT TESTED")
 def said_by_package() -> None:
     not_tested = "NOT TESTED: each function of this program is proved, and `make test` has not ended on it"
     failed = "FAILED: 10 passed, 10 failed, by `make test` on this program, each of whose functions is proved"
