@@ -153,7 +153,7 @@ def left_out() -> None:
             same([it for it in lacks if editors.may_lack(it)], lacking, f"what may lack with {listed!r}")
 
 
-@test("again: `--first` omits the tests that need the program, and `--rest` runs the tests without a result")
+@test("again: `--first` omits the tests that need the program, and `--rest` runs the tests without a result so far")
 def first_and_rest() -> None:
     def runs() -> None:
         with mock.patch.object(harness, "BINARY", "/no/such/program"):
@@ -194,7 +194,7 @@ def leaves_a_child(path: str) -> None:
     time.sleep(600)
 
 
-@test("again: a test over its time limit is killed with its child processes, and no test starts after the total time")
+@test("again: a test over its time limit is killed with its child processes, and no test starts after the run's limit")
 def ended_in_time() -> None:
     with tempfile.TemporaryDirectory() as room:
         path = os.path.join(room, "child")

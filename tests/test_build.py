@@ -82,7 +82,7 @@ echo "crate $name: modules loaded=0 checked=1"
 """
 
 
-@test("build: if a proof fails, `make check` proves all crates that don't depend on it, and a build stops")
+@test("build: after a failed proof, `make check` proves the crates that don't depend on it, and `make build` stops")
 def others_are_proved() -> None:
     with temporary() as room:
         own = furnish(room, "bad:\nlow:\nmiddle: low\nover: bad\nob0: over middle\n", JUDGE)

@@ -204,7 +204,7 @@ def one_notification() -> None:
     same(all_at_once("$", ("0:0-0:0", "\r\n"), ("1:0-1:0", "\r"))[1], published(bad("2:0-2:1"), version=2), "two changes")
 
 
-@test("changes: each range refers to the text after the previous change, and after a bad range a full text is needed")
+@test("changes: a range refers to the text after the previous change, and a malformed one requires a full text")
 def one_after_another() -> None:
     module = "MODULE M; END M."
     given = [

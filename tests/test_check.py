@@ -179,7 +179,7 @@ def well_typed() -> None:
         ends(on_file("check", text), "", 0)
 
 
-@test("check: `check` reports open comments, too large numbers and bad characters at their positions")
+@test("check: `check` reports unclosed comments, too large numbers and bad characters at their positions")
 def scanning() -> None:
     ends(on_file("check", "12ab $"), "0:0: NumberJoinsLetter: letter after number\n0:5: BadChar: bad character\n", 1)
     ends(on_file("check", "MODULE M;\n(* 😀 *) $"), "1:9: BadChar: bad character\n", 1)

@@ -77,7 +77,7 @@ def tries_judged() -> None:
         same("left out long: it needs a long file" in said, long in chosen, "the name of the test that is left out")
 
 
-@test("deciding: `make try` assigns each part of `rt try`'s output to its case, and gives a stopped case no status")
+@test("deciding: `make try` assigns each part of `rt try`'s output to its case, and a stopped case has no status")
 def tries_taken() -> None:
     try_cases = tool("try_cases")
     cases = try_cases.Cases()
@@ -113,7 +113,7 @@ esac
 """
 
 
-@test("deciding: `make editors RELEASE=..` fails if a test fails or no root can be made, and prints editors' versions")
+@test("deciding: `make editors RELEASE=..` prints editors' versions, and fails if a test or debootstrap fails")
 def editors_of_release() -> None:
     editors_of = tool("editors_of")
     for made, python, tests, status in ((0, 0, 0, 0), (0, 0, 1, 1), (0, 1, 0, 1), (1, 0, 0, 1)):
@@ -132,7 +132,7 @@ def editors_of_release() -> None:
         same(printed(lambda: editors_of.main("sid"))[0], 2, "the status for a user who isn't root")
 
 
-@test("deciding: the trial of packages fails if a path, mode, link or byte of the root has changed, except in logs")
+@test("deciding: tools/roots.py reports each changed path, mode, link or byte of a root, except below /var")
 def roots_compared() -> None:
     roots = tool("roots")
     changes: Dict[str, Tuple[Callable[[str], object], bool]] = {

@@ -76,7 +76,7 @@ def failing_writer() -> None:
 
 @test("devices: if a write fails after any byte of a command's output, the command ends with `fault: Write`")
 def failing_printer() -> None:
-    for name, status in (("check a text with two faults", 1), ("run a module", 0), ("rename a variable", 0)):
+    for name, status in (("a check of a text with two errors", 1), ("a run of a module", 0), ("a rename of a variable", 0)):
         words, given, text, _ = conversations.SHORT[name]
         with failing.folder_with_module(text) as room:
             command = [harness.BINARY, *words]
@@ -87,13 +87,13 @@ def failing_printer() -> None:
                 ended(found, plain.out[:number], 4, b"fault: Write\n", f"{name}: {number} bytes taken")
 
 
-@test("devices: each failing read or write ends the program with a fault, after a prefix of its usual output")
+@test("devices: if any read or write fails, the program ends with a fault after a prefix of its usual output")
 def failing_calls() -> None:
     counts = [failing.broken(name, *it[:3]) for name, it in {**conversations.SHORT, **conversations.LONG}.items()]
     holds(all(counts), f"nothing was read or written: {counts}")
 
 
-@test("devices: a read or write that moves only one byte changes nothing about the output and the status")
+@test("devices: if any read or write moves only one byte, the program's output and status are unchanged")
 def short_calls() -> None:
     counts = [failing.shortened(name, *it[:3]) for name, it in {**conversations.SHORT, **conversations.LONG}.items()]
     holds(any(counts), "nothing of several bytes was read or written")
@@ -108,7 +108,7 @@ def pieces() -> None:
 
 @test("devices: `run` ends with `fault: Input` if a read of its input fails at any byte")
 def failing_input() -> None:
-    words, _, text, _ = conversations.SHORT["run a module"]
+    words, _, text, _ = conversations.SHORT["a run of a module"]
     with failing.folder_with_module(text) as room:
         for found in failing.walk([harness.BINARY, *words], b"1 2", room, "reads", range(1, 5)):
             ended(found, b"", 4, b"fault: Input\n", f"call {found.numbers[0]} fails")
@@ -142,7 +142,7 @@ def writer() -> None:
     same((ran.stderr, ran.returncode), (b"fault: Write\n", 4))
 
 
-@test("devices: SIGXFSZ ends `serve` at the limit on file sizes, and `fault: Write` does if SIGXFSZ is ignored")
+@test("devices: the limit on file sizes ends `serve` by SIGXFSZ, or by `fault: Write` if SIGXFSZ is ignored")
 def limit_of_files() -> None:
     for handler, wanted in ((signal.SIG_DFL, (b"", -signal.SIGXFSZ)), (signal.SIG_IGN, (b"fault: Write\n", 4))):
 

@@ -171,7 +171,7 @@ def nothing() -> None:
 AT_START = {"position": place(0, 0), "textDocument": {"uri": "file:///m"}}
 
 
-@test("documents: hover is refused as `out of step` after a malformed change, and the next full text is published")
+@test("documents: after a malformed change hover is refused as `out of step`, and the next full text gets diagnostics")
 def hover_out_of_step() -> None:
     broken = notice("textDocument/didChange", {"textDocument": {"uri": "file:///m", "version": 2}})
     hover = request(3, "textDocument/hover", AT_START)

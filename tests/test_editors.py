@@ -152,7 +152,7 @@ def items_of(folder: str, rows: list[tuple[str, str]]) -> list[str]:
     return found
 
 
-@test("editors: README and each editor's page give the same verdict on the guarantee as the table in editors/README.md")
+@test("editors: README, editors/README.md and each editor's page agree whether the guarantee holds in an editor")
 def held_here() -> None:
     rows = verdicts("editors/README.md")
     shared = " ".join(text_of("editors/README.md").split())
@@ -814,14 +814,14 @@ def in_vscode_by(*kind: str, folder: str = vsix.FOLDER) -> None:
     same({version for it in renamed if "result" in it for change in it["result"]["documentChanges"] for version in [change["textDocument"]["version"]]}, {1, 2}, "the versions")
 
 
-@test("VS Code: the extension starts the server, drops late answers, checks and runs, with a stand-in for the editor")
+@test("VS Code: with a stand-in for the editor, the extension starts the server, drops late answers, checks and runs")
 def vscode() -> None:
     want("Node")
     harness.need_program()
     in_vscode_by()
 
 
-@test("VS Code: the extension behaves the same with the real vscode-languageclient and a stand-in editor")
+@test("VS Code: the extension also starts the server, drops late answers, checks and runs with the real client")
 def vscode_client() -> None:
     # (`npm install` in editors/vscode gets the client, and `make editors RELEASE=trixie` makes it in its root)
     want("Node", vsix.CLIENT)
@@ -829,7 +829,7 @@ def vscode_client() -> None:
     in_vscode_by("real")
 
 
-@test("VS Code: the packed extension behaves the same with the real vscode-languageclient and a stand-in editor")
+@test("VS Code: the packed extension starts the server, drops late answers, checks and runs with the real client")
 def vscode_packed() -> None:
     want("Node", vsix.CLIENT)
     harness.need_program()
@@ -1047,7 +1047,7 @@ KEYED: Dict[str, Any] = {
     "Emacs by lsp-mode": (keyed.LspMode, "Emacs", "lsp-mode"),
 }
 for name, which in KEYED.items():
-    test(f"{name}: a late answer changes no other text than the one that it was requested for")(functools.partial(late_answers, *which))
+    test(f"{name}: a late answer changes only the text for which it was requested")(functools.partial(late_answers, *which))
 
 
 CHANGED = LATE.replace("VAR", "VAR (* N and n *)").rstrip("\n").replace("\n", "\r\n")  # (with CR LF, except after the last line)

@@ -150,7 +150,7 @@ def field_renamed_by_command() -> None:
     through_command(FIELD_RENAMES)
 
 
-@test("rename: a field can be renamed at each of its occurrences, and the module's output is unchanged")
+@test("rename: a field can be renamed at its declaration and at each use, and the module's output is unchanged")
 def field_places() -> None:
     for text, names in FIELDS_MARKED:
         plain, places = unmarked(text)
@@ -178,7 +178,7 @@ def field_bytes() -> None:
     )
 
 
-@test("rename: the edits of a field have the document's version, and positions in the agreed unit")
+@test("rename: the edits for a field contain the document's version, and positions in the agreed unit")
 def field_units() -> None:
     text = "MODULE M; VAR r: RECORD a: INTEGER END; BEGIN (* 😀é *) r.a := 1; Write(r.a) END M."
     support = {"workspace": {"workspaceEdit": {"documentChanges": True}}}
@@ -248,7 +248,7 @@ def longest_served() -> None:
     through_serve([(text, 0, 14, "y", places), (text, 0, 14, "xy", "TooLong"), (text[:-1], 0, 14, "xy", places)])
 
 
-@test("rename: a renamed module has the same output and the same status as before")
+@test("rename: each renaming in the samples leaves the module's output and status unchanged")
 def same_run() -> None:
     for text, _, _, new, wanted in [*RENAMES, *FIELD_RENAMES]:
         if not isinstance(wanted, str):
@@ -256,7 +256,7 @@ def same_run() -> None:
             ends(on_file("run", edited(text, wanted, new)), before.out, before.status, before.err)
 
 
-@test("rename: a module prints the same after one of its fields was renamed")
+@test("rename: renaming a record's field doesn't change what the module prints")
 def field_runs() -> None:
     for new in ("c", "r"):
         ends(on_file("run", on_file("rename", RECORDS, "3", "8", new).out), " 3", 0)
@@ -326,7 +326,7 @@ def actions_bytes() -> None:
     same(found, f'{{"id":5,"jsonrpc":"2.0","result":{both}}}')
 
 
-@test("inline: `only` filters the offered actions, and a variable or a client without action literals gets none")
+@test("inline: `only` filters the actions, and a variable, or a client without action literals, is offered none")
 def inlined() -> None:
     use, gone = (extent("3:15-3:16"), "(-2147483647 - 1)"), (extent("1:6-1:26"), "")
     both = {"Inline here": [use], "Inline everywhere": [gone, use]}
@@ -342,7 +342,7 @@ def inlined() -> None:
     same(actions(LEAST, 2, 4), {}, "at a variable")
 
 
-@test("inline: a negative or Boolean value is written as an expression, and a shadowed or too deep use gets no action")
+@test("inline: a negative value is put in parentheses, and a use that is shadowed or too deep gets no action")
 def inline_values() -> None:
     text = "MODULE M; CONST c = -5; t = 1 = 1; VAR a: INTEGER; BEGIN a := a - c; Write(c DIV 3); IF t THEN END END M."
     uses = [at for at in range(len(text)) if text.startswith("c;", at) or text.startswith("c DIV", at)]
@@ -358,7 +358,7 @@ def inline_values() -> None:
         same([*actions(deep, 0, deep.index("c)"))], offered, f"{value} below {levels} levels")
 
 
-@test("inline: both actions contain documentChanges, with exactly the expected bytes, if the client supports them")
+@test("inline: if the client supports documentChanges, both actions contain exactly the expected documentChanges")
 def inline_changes() -> None:
     support: Message = {**LITERALS, "workspace": {"workspaceEdit": {"documentChanges": True}}}
     query = request(4, "textDocument/codeAction", acting(3, 15))
@@ -375,7 +375,7 @@ def inline_changes() -> None:
     same(found, f'{{"id":4,"jsonrpc":"2.0","result":[{action(use, "Inline here")},{action(gone + "," + use, "Inline everywhere")}]}}')
 
 
-@test("inline: edits have positions in the agreed unit, and are offered at both ends of a name")
+@test("inline: actions are offered at both ends of a name, and their edits have positions in the agreed unit")
 def inline_units() -> None:
     text = "MODULE M; CONST (* é *) c = 5; BEGIN (* 😀 *) Write(c) END M."
     for encodings, gone, use in ((["utf-16"], "0:24-0:30", "0:52-0:53"), (["utf-8"], "0:25-0:31", "0:55-0:56")):
@@ -438,7 +438,7 @@ def inlinings(text: str, line: int, character: int) -> dict[str, str]:
     return {title: patched(text, [{"newText": new, "range": it} for it, new in edits]) for title, edits in found.items()}
 
 
-@test("inline: a module with a negative constant prints the same after either action as before")
+@test("inline: inlining a negative constant, here or everywhere, doesn't change what the module prints")
 def inline_negative() -> None:
     rows = [
         (LEAST, 3, 15, "0 + c", "0 + (-2147483647 - 1)", "c = -2147483647 - 1;", " -2147483648"),
@@ -458,7 +458,7 @@ def inline_unused() -> None:
     same(actions(text, 0, 16), {"Inline everywhere": [(extent("0:16-0:22"), "")]})
 
 
-@test("inline: no action is offered at other names, numbers and keywords, in an invalid module, or after the text")
+@test("inline: no action is offered in an invalid module, after the text, or at anything except a declared constant")
 def inline_nowhere() -> None:
     text = "MODULE M; TYPE R = RECORD c: INTEGER END; VAR x: R; PROCEDURE P; BEGIN IF TRUE THEN x.c := 1 END END P; BEGIN P; Write(x.c) END M."
     for what in ("M", "R", "c", "INTEGER", "x", "P", "TRUE", "1", "Write", "IF", "; VAR"):

@@ -20,7 +20,7 @@ def dozen() -> None:
     same(sorted(os.path.join("examples", it) for it in names_in("examples") if it not in ("README.md", "exercises")), wanted)
 
 
-@test("examples: each example is valid, and prints its expected output and fault")
+@test("examples: each example is valid, and runs with its expected output, status and fault")
 def run_each() -> None:
     for path in examples():
         ends(run(["check", os.path.join(TOP, path)]), "", 0)

@@ -185,7 +185,7 @@ LOOPS = "MODULE Clock; VAR i: INTEGER; BEGIN WHILE TRUE DO i := 0; WHILE i < 500
 LONG = "MODULE Clock; VAR i: INTEGER; BEGIN WHILE i < 100000 DO Write(2147483647); i := i + 1 END END Clock."
 
 
-@test("exercises: mark.py reports a module that doesn't end, prints without end, doesn't exist or is no exercise")
+@test("exercises: mark.py reports a module that never ends, prints too much, doesn't exist or belongs to no exercise")
 def bounded() -> None:
     same(marked("Clock", LOOPS.format(""), "--seconds", "5"), (1, "Clock.mod   wrong: for the input 3661: it had not ended after 5 seconds: does each loop end?"))
     same(marked("Clock", LONG), (1, "Clock.mod   wrong: for the input 3661: it prints too much: does each loop end?"))
@@ -258,7 +258,7 @@ def linked() -> None:
     holds("carla:\n  Clock.mod   right\n" in said and "bob/Clock.mod:\n  Clock.mod   right\n" in said, said)
 
 
-@test("exercises: mark.py counts right modules per folder, and ends with 0 if each folder has only right modules")
+@test("exercises: mark.py counts right modules per folder, and ends with 0 if each folder has some and all are right")
 def folders() -> None:
     right_one, wrong_one = answer("Clock"), answer("Clock").replace("DIV", "MOD", 1)
     files = {"anna/Clock.mod": right_one, "anna/Leap.ob0": answer("Leap"), "ben/Clock.mod": wrong_one, "carl/x.txt": "", "-xaver/Clock.Mod": right_one}
@@ -277,7 +277,7 @@ def folders() -> None:
         holds(it in listed, f"the page has no {it}")
 
 
-@test("exercises: mark.py distinguishes Clock.mod and Clock.Mod, and ignores a module's name and a missing last WriteLn")
+@test("exercises: mark.py marks Clock.mod and Clock.Mod separately, and accepts any module name and a missing WriteLn")
 def told_apart() -> None:
     wrong_one = answer("Clock").replace("DIV", "MOD", 1)
     status, lines = handed_in({"anna/Clock.mod": answer("Clock"), "anna/Clock.Mod": wrong_one}, "anna")
@@ -515,7 +515,7 @@ def own_inputs() -> None:
         same(marking(room, ["--inputs", "nosuch", "anna"]), (2, b"", b"nosuch: No such file or directory\n"), "no folder")
 
 
-@test("exercises: mark.py mentions the program's limits and all ways in which a run can end")
+@test("exercises: mark.py mentions the limits on calls and turns, and each way in which a run can end except Done")
 def spoken_of() -> None:
     script = text_of(FOLDER, "mark.py")
     named = {*re.findall(r'^    "(\w+)": "', script, re.M)}

@@ -58,7 +58,7 @@ def once_in_both(page: str, listed: str) -> List[str]:
     return [it for it in found if [len(re.findall(rf"(?<!\d){it}(?!\d)", text)) for text in (page, listed)] == [1, 1]]
 
 
-@test("figures: a changed figure on the page or in figures.txt, and a row that no tool counts, are reported")
+@test("figures: a changed figure in docs/ROBUSTNESS.md or figures.txt, and a row that no tool counts, are reported")
 def found_out() -> None:
     page, listed = text_of(PAGE), text_of(os.path.relpath(figures.LIST, TOP))
     others = of_tables()

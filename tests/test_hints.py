@@ -47,7 +47,7 @@ def cured(server: Server, it: Slip) -> Found:
     return found
 
 
-@test("hints: each mistake in slips.txt gets a hint that leads to its fix, and the fix removes the first error")
+@test("hints: each mistake in slips.txt gets the expected hint or none, and its fix removes the first error")
 def lead_to_cures() -> None:
     need_program()
     count = 0
@@ -59,7 +59,7 @@ def lead_to_cures() -> None:
     holds(count >= 25, f"{count} of them begin with `expected END`")
 
 
-@test("hints: each module in judged_slips.txt, except the listed ones, gets a hint that leads to its fix")
+@test("hints: each module in judged_slips.txt, except the known exceptions, gets a hint that leads to its fix")
 def judged() -> None:
     need_program()
     right: list[str] = []

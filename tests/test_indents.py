@@ -141,19 +141,19 @@ def costs_by_vim(editor: str, words: list[str]) -> None:
         bounded([[sum(map(int, re.findall(r"^ *(\d+) ", it, re.M))) for it in pair] for pair in counted])
 
 
-@test("indentation: in Vim one line costs no more to indent in a longer text, and all lines cost in proportion")
+@test("indentation: in Vim the cost of indenting a line doesn't grow with the text, whether one or all are indented")
 def costs_in_vim() -> None:
     want("Vim")
     costs_by_vim("vim", ["vim.nox"])
 
 
-@test("indentation: in Neovim one line costs no more to indent in a longer text, and all lines cost in proportion")
+@test("indentation: in Neovim the cost of indenting a line doesn't grow with the text, whether one or all are indented")
 def costs_in_neovim() -> None:
     want("Neovim")
     costs_by_vim("neovim", ["nvim"])
 
 
-@test("indentation: in Emacs one line costs no more to indent in a longer text, and all lines cost in proportion")
+@test("indentation: in Emacs the cost of indenting a line doesn't grow with the text, whether one or all are indented")
 def costs_in_emacs() -> None:
     want("Emacs")
     with temporary() as room:

@@ -137,7 +137,7 @@ def bodies_alone() -> None:
         same(second.is_done, True, "and nothing else is")
 
 
-@test("kept: a crate is proved again if a contract that its proofs read has changed, or if what they read is unknown")
+@test("kept: a crate is proved again if a contract that its proofs read has changed, or if those contracts are unknown")
 def contracts_too() -> None:
     with repository():
         keep_all(kept())

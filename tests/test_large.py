@@ -9,7 +9,7 @@ from harness import holds, lines_of, on_file, same, serve, test
 
 
 def make(name: str, size: int, messages: Callable[[int], largest_inputs.Talk]) -> None:
-    @test(f"large: `serve` sends the expected messages for {name}, {size:,} in all")
+    @test(f"large: `serve` sends the expected messages for {size:,} {name}")
     def answered() -> None:
         given, wanted = largest_inputs.conversation(messages, size)
         found = serve(given)

@@ -6,7 +6,7 @@ import several_documents
 from harness import test
 
 
-@test("long: the diagnostics equal a new `check`'s over 1,500 changes and questions, and memory doesn't grow")
+@test("long: in 1,500 changes and requests, each text's diagnostics equal `check`'s, and memory doesn't keep growing")
 def talk() -> None:
     long_conversation.converse(1500, seed=1)
 

@@ -153,7 +153,7 @@ def beginners() -> None:
     same(first("x := y\u00a0+ 1", STATEMENTS), ("BadChar", "bad character", "\u00a0+ 1"), "a no-break space")
 
 
-@test("messages: the table of errors lists each code and message, and the page shows a mistake for each message")
+@test("messages: docs/MESSAGES.md lists each error's code and message, and shows a mistake for each message")
 def errors_listed() -> None:
     codes = codes_of_messages()
     same({code: it for it, code in codes.items() if code != "Syntax"}, harness.MESSAGES, "the codes")
@@ -164,7 +164,7 @@ def errors_listed() -> None:
     same(sorted(shown - {*codes}), [], "messages that aren't in the table")
 
 
-@test("messages: a text that is too long or too deeply nested is reported with the page's code and message")
+@test("messages: a text that is too long or too deeply nested gets the code and message given on docs/MESSAGES.md")
 def far_over() -> None:
     codes = codes_of_messages()
     for code, text in FAR.items():
@@ -196,7 +196,7 @@ def run_ends() -> None:
         holds(flags in page, f"{name} has no {flags}")
 
 
-@test("messages: the page has a row for each hint, and each row with `expected END` gets a hint")
+@test("messages: docs/MESSAGES.md has a row for each hint, and each row with `expected END` gets a hint")
 def cases_and_rows() -> None:
     need_program()
     given: list[ob0_hints.Rule] = []

@@ -127,7 +127,7 @@ def not_refused() -> None:
     same(judged(uncovered), mutants.NOT_JUDGED, "a body that the checker doesn't cover")
 
 
-@test("mutants: another clause or function, a callee's `requires` or missing names don't count as the clause's refusal")
+@test("mutants: a goal of another clause, function or callee, or a missing name, isn't a refusal by a mutant's clause")
 def elsewhere() -> None:
     for goal in ("returns-clause-ok", "loop-c-preserved", "count-requires-clause-few", "count-requires-returns"):
         same(judged(REFUSED.replace("returns-in-Utf16", goal)), mutants.ELSEWHERE, goal)
@@ -136,7 +136,7 @@ def elsewhere() -> None:
     same(judged(REFUSED.replace("passes::character_width", "passes::other")), mutants.ELSEWHERE, "another function")
 
 
-@test("mutants: a first line without a clause makes no claim, and a claim's function is matched by whole names")
+@test("mutants: a first line that cites no clause makes no claim, and a claim's function is matched by whole names")
 def claims() -> None:
     width = next(it for it in reading.Source("ob0_text").functions if it.path == "passes::character_width")
     same(edits.claim_of("# Wrong: refused.\n"), None, "no clause")
@@ -149,7 +149,7 @@ def claims() -> None:
     same({it: edits.clause_of(it) for it in words}, words, "the words for goals")
 
 
-@test("mutants: a trait's method is checked under the checker's own name for it, which also names its proof's folder")
+@test("mutants: a trait's method is checked under the checker's name for the method, which is also its proof's folder")
 def asked_of_trait() -> None:
     found = 0
     for crate in ("ob0_text", "ob0_rpc", "ob0_session_answers"):
@@ -313,7 +313,7 @@ def row_after(top: str, path: str, names: Dict[str, str], **changed: str) -> Tup
     return found.row(path).verdict, status, said.getvalue()
 
 
-@test("mutants: a renaming keeps a line of mutants.txt, unless anything else changes or two names become one")
+@test("mutants: a renaming doesn't make a line of mutants.txt stale, unless more changes or two names become one")
 def kept_over_renaming() -> None:
     want("git")
     names = {"next": "following", "more": "larger", "next_of": "successor", "step": "advance"}
@@ -335,7 +335,7 @@ def kept_over_renaming() -> None:
 BRANCH = EDIT.replace("new:     n", "new:     if n == 7 { n } else { n + 1 }")
 
 
-@test("mutants: a right form must keep the new branch, return, function or closure, and differ from the old text")
+@test("mutants: a `right:` text must contain the mutant's new branch or closure, and differ from the old text")
 def right_forms() -> None:
     def why(right: str, edit: str = BRANCH) -> Optional[str]:
         with small_crate(edit=f"{edit}# right: {right}\n"):
@@ -352,7 +352,7 @@ def right_forms() -> None:
     same(edits.pairs_of("# right: 1\nfile: src/lib.rt\n")[1], "a right form isn't after its 'new:' line", "one before it")
 
 
-@test("mutants: each edit of `rt ci`, and each mutant that adds a branch, return or function, has a right form")
+@test("mutants: each edit of `rt ci`, and each mutant that adds a branch, return or function, has a `right:` text")
 def have_right_forms() -> None:
     found = [it for crate in common.listed() for it in edits.forms_of(crate)]
     lacking = [it.path for it in found if (it.is_of_kit or it.needs_right_form) and not it.has_right_form]
@@ -360,7 +360,7 @@ def have_right_forms() -> None:
     same([(it.path, it.why) for it in found if it.is_right and it.why], [], "right forms that aren't in the form")
 
 
-@test("mutants: a right form passes if proved, fails if refused by itself, and is retried if refused among others")
+@test("mutants: a `right:` text is accepted if proved, fails if refused alone, and is retried if refused among others")
 def right_judged() -> None:
     with small_crate(edit=BRANCH + "# right:     if n == 7 { 8 } else { n + 1 }\n"):
         source = reading.Source("ob0_small")
@@ -380,7 +380,7 @@ def right_judged() -> None:
         same([[it.is_right for it in group.edits] for group in crate.first()], [[False], [True]], "the forms are in two checks")
 
 
-@test("mutants: mutants.txt has one line for each form of each mutant, in order, and no stale line once all are tried")
+@test("mutants: mutants.txt lists each mutant and `right:` text once, in order, and none is stale once all are tried")
 def rows() -> None:
     found = verdicts.Mutants()
     same([it.path for it in verdicts.rows_of(verdicts.PATH)], sorted(found.edits), "its lines (tools/mutants.py writes them)")
@@ -483,7 +483,7 @@ def many_judged() -> None:
         same(word(goal)[0], mutants.ELSEWHERE, f"{goal}, if the first line has no clause")
 
 
-@test("mutants: among many, a mutant whose function calls an unproved one is retried, unless its clause refuses it")
+@test("mutants: a mutant whose function calls an unproved function is retried, unless the mutant's clause refuses it")
 def many_waiting() -> None:
     source = reading.Source("ob0_frame")
     crate = mutants.Crate("ob0_frame", edits.edits_of("ob0_frame", source), source)

@@ -40,14 +40,14 @@ def texts(depth: int) -> dict[str, tuple[str, int]]:
     return found
 
 
-@test("nesting: 100 levels of each construct, and of mixes, are accepted with a stack of 4 MiB")
+@test("nesting: 100 levels of each construct, and of mixed constructs, are accepted with a stack of 4 MiB")
 def hundred() -> None:
     made = texts(100)
     for (name, (text, _)), found in zip(made.items(), diagnosed([text for text, _ in made.values()])):
         same(of_syntax(found), [], f"{name}: {text}")
 
 
-@test("nesting: at 101 levels of each construct, and of mixes, TooDeep is reported at the innermost construct")
+@test("nesting: at 101 levels of one construct or of mixed constructs, TooDeep is reported at the innermost one")
 def hundred_and_one() -> None:
     made = texts(101)
     for (name, (text, at)), found in zip(made.items(), diagnosed([text for text, _ in made.values()])):

@@ -114,7 +114,7 @@ def same_bytes() -> None:
         same(status, 0, said)
 
 
-@test("package: the README's commands install the Debian package and unpack the archive")
+@test("package: README's apt command works in a simulation, and its tar command unpacks the archive")
 def as_readme_says() -> None:
     want_proved()
     page = text_of("README.md").partition("**From a package.**")[2]
@@ -135,7 +135,7 @@ def as_readme_says() -> None:
         holds(status == 0 and "Inst ob0 " in said, said)
 
 
-@test("package: the README's sha256sum line works with only one package, and its line without sudo unpacks the archive")
+@test("package: README's sha256sum command needs only one package, and its command without sudo unpacks the archive")
 def as_readme_says_without() -> None:
     want_proved()
     page = text_of("README.md").partition("**From a package.**")[2]
@@ -157,7 +157,7 @@ def as_readme_says_without() -> None:
             same(run_plainly(["sh", "-c", sums], home, room)[0], 1, "the status with another file")
 
 
-@test("package: unpacking keeps folders' modes, and the README's line and `make uninstall` remove only unpacked files")
+@test("package: unpacking keeps existing folders' modes, and each way to uninstall removes only the unpacked files")
 def taken_away() -> None:
     want_proved()
     lines = [it[4:].replace("sudo ", "") for it in text_of("README.md").splitlines() if it.startswith(("    sudo tar ", "    cd /usr/local"))]
@@ -383,7 +383,7 @@ def stamped() -> None:
         same(is_current(), "False", "another program")
 
 
-@test("package: the packed program, its scripts and the manual pages work with an empty home directory")
+@test("package: with an empty home directory, the packed program, its scripts and the manual pages work")
 def in_shells() -> None:
     with installed_home() as (_, usr, environment, work):
         write(os.path.join(work, "slip.mod"), "MODULE M;\nBEGIN x = 1 END M.\n")
@@ -439,7 +439,7 @@ def by_tab(shell: str) -> None:
 
 
 for each in SHELLS:
-    test(f"package: Tab completes a command, an option and a file's name in {each} with an empty home directory")(functools.partial(by_tab, each))
+    test(f"package: with an empty home directory, Tab in {each} completes a command, an option and a file's name")(functools.partial(by_tab, each))
 
 
 def seen_by_vim(words: list[str], environment: dict[str, str], work: str, name: str) -> None:
@@ -462,7 +462,7 @@ def seen_by_vim(words: list[str], environment: dict[str, str], work: str, name: 
     same(types, ["ob0"] * (1 + len(opened)) + last, f"what {name} takes the files as, whether it has :Ob0Run, the width of a level, and help")
 
 
-@test("package: Neovim recognizes a new file and each example, and shows errors, with an empty home directory")
+@test("package: with an empty home directory, Neovim gives new files and examples the file type ob0, and shows errors")
 def in_neovim() -> None:
     want("Neovim")
     with installed_home() as (_, _, environment, work):
@@ -471,7 +471,7 @@ def in_neovim() -> None:
             screen.shows(b"Undeclared|not declared", "the diagnostics of the new file")
 
 
-@test("package: Vim recognizes a new file and each example with an empty home directory")
+@test("package: with an empty home directory, Vim gives a new file and each example the file type ob0")
 def in_vim() -> None:
     want("Vim")
     with installed_home() as (_, usr, environment, work):
@@ -480,7 +480,7 @@ def in_vim() -> None:
         seen_by_vim(words, environment, work, "Vim")
 
 
-@test("package: Emacs recognizes a new file and each example with an empty home directory")
+@test("package: with an empty home directory, Emacs opens a new file and each example in ob0-mode")
 def in_emacs() -> None:
     want("Emacs")
     with installed_home() as (_, usr, environment, work):
@@ -513,7 +513,7 @@ def linted() -> None:
             same(said, "", f"what checkdoc says of {path}")
 
 
-@test("package: Kakoune recognizes a new file and each example with an empty home directory")
+@test("package: with an empty home directory, Kakoune gives a new file and each example the file type ob0")
 def in_kakoune() -> None:
     want("Kakoune")
     with installed_home() as (room, usr, environment, work):

@@ -93,7 +93,7 @@ def words_of(page: str) -> int:
     return len(text_of(page).split())
 
 
-@test("pages: no page is longer than tests/pages.txt allows, and all pages together aren't longer than it allows")
+@test("pages: neither a page nor all pages together have more words than tests/pages.txt allows")
 def lengths_held() -> None:
     allowed = {name: int(number) for name, number in (line.split(": ") for line in text_of("tests/pages.txt").splitlines())}
     found = {it: words_of(it) for it in [*pages(), *(f"share/{it}" for it in os.listdir(os.path.join(TOP, "share")) if it.endswith(".1"))]}

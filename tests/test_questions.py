@@ -190,7 +190,7 @@ def hover_false() -> None:
         shows(server, wanted)
 
 
-@test("questions: definition and references distinguish names that are declared again, and include closing names")
+@test("questions: definition and references distinguish redeclared names, and references includes closing names")
 def scopes() -> None:
     with Asked(NAMES) as server:
         same(server.definition(6, 19), extent("5:4-5:5"), "the inner c")

@@ -89,17 +89,17 @@ def declared_fields() -> None:
                     answers_at(server, found, it.start, f"{named(seed)}, at {found.position(it.start)} of\n{text}\n")
 
 
-@test("random: runs of random modules have the same output and end as the reference interpreter's")
+@test("random: random modules have the same output and end as in the reference interpreter")
 def runs() -> None:
     print("    " + counted(run_of(random_texts.program, seed) for seed in seeds(COUNT)))
 
 
-@test("random: runs that pass and copy arrays and records have the same output and end as the reference interpreter's")
+@test("random: modules that copy and pass arrays and records have the output and end of the reference interpreter")
 def aliased_runs() -> None:
     print("    " + counted(run_of(random_texts.aliased, seed) for seed in seeds(COUNT)))
 
 
-@test("random: runs of modules with counting loops have the same output and end as the reference interpreter's")
+@test("random: modules with counting loops have the same output and end as in the reference interpreter")
 def counting_runs() -> None:
     print("    " + counted(run_of(random_texts.counting, seed) for seed in seeds(COUNT)))
 
@@ -129,7 +129,7 @@ def modules(count: int) -> Iterator[tuple[int, random.Random, str, Text]]:
         yield seed, chance, text, Text(text)
 
 
-@test("random: renames equal the reference implementation's, and the renamed modules run as before")
+@test("random: renames equal the reference implementation's, and don't change the module's output and end")
 def renames() -> None:
     with Server() as server:
         for seed, chance, text, found in modules(COUNT // 10):
@@ -147,7 +147,7 @@ def renames() -> None:
                     keeps_runs(text, edits.patched(text, wanted_), seed)
 
 
-@test("random: inlinings equal the reference implementation's, and the changed modules run as before")
+@test("random: inlinings equal the reference implementation's, and don't change the module's output and end")
 def inlining() -> None:
     with Server(capabilities={"textDocument": {"codeAction": {"codeActionLiteralSupport": {}}}}) as server:
         for seed, chance, text, found in modules(COUNT // 10):

@@ -8,7 +8,7 @@ from seeds import COUNT, starts
 
 
 def make(part: int) -> None:
-    @test(f"changes: after each random change the server reports the same as a new server, part {part + 1}")
+    @test(f"changes: after random changes the server's diagnostics and answers equal a new server's, part {part + 1}")
     def changed() -> None:
         start = starts()[part % len(starts())] + 1000 * (part // 2)
         print(f"    seeds begin at {start}", flush=True)

@@ -59,7 +59,7 @@ def by_its_clause() -> None:
     same(why(TEXT, goal_at("character_width")), None, "a goal")
 
 
-@test("refusals: an edit doesn't count as refused if another clause or function, or missing names, refuse it")
+@test("refusals: an edit doesn't count as refused if another clause, another function or a missing name refuses it")
 def by_something_else() -> None:
     for said in (
         BY_ANSWER.replace("clause-taken", "clause-memory"),

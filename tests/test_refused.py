@@ -12,7 +12,7 @@ from harness import holds, test
 
 
 def make(name: str, case: conversations.Case) -> None:
-    @test(f"refused memory: ob0 ends as usual or with `fault: Memory` if an allocation fails (case: {name})")
+    @test(f"refused memory: if an allocation fails in {name}, ob0 ends as usual or with `fault: Memory`")
     def walk() -> None:
         failing.refused(name, *case)
 
@@ -22,7 +22,7 @@ for key, given in conversations.SHORT.items():
 
 
 def make_of_crate(what: str, crate: str, *modules: str) -> None:
-    @test(f"refused memory: {what} pass if any of their allocations fails")
+    @test(f"refused memory: {what} pass even if one of their allocations fails")
     def walk_tests() -> None:
         found = list(refused_tests.checks(crate, 20000))
         for module in modules:

@@ -135,7 +135,7 @@ def linked() -> None:
     same(lacking, [], "crates without a notice that CONTRIBUTING's recipe doesn't list")
 
 
-@test("release: a program without its own notices isn't packed if the toolchain that collects them is missing")
+@test("release: without the toolchain, a program isn't packed if bin/ob0.notices is missing or another program's")
 def kept() -> None:
     with repository() as made:
         page = "print(package.copyright_page().decode())"
@@ -175,7 +175,7 @@ def known() -> None:
         same((status, "is a number of seconds" in said), (2, True), said)
 
 
-@test("release: the packages have the same bytes in another folder, time zone, locale and home, or after skipped tests")
+@test("release: the packages' bytes don't depend on the folder, time zone, locale, home directory or skipped tests")
 def elsewhere() -> None:
     with repository() as made, temporary() as room:
         other = os.path.join(room, "an other f\u00f6lder")
@@ -195,7 +195,7 @@ def elsewhere() -> None:
         holds(text_of(other, "bin", "TESTED").endswith("\ngate: 2 passed, 0 failed, 3 skipped\n"), "what was tested there")
 
 
-@test("release: without git the packages need a given version, and it must begin with the program's version")
+@test("release: without git, BUILD_VERSION is required, and must begin with the program's version")
 def given() -> None:
     with repository() as made:
         shutil.rmtree(os.path.join(made.room, ".git"))

@@ -48,7 +48,7 @@ def four_runs(text: str | bytes) -> None:
     ran(text, "\n\n 0", "", "2", 1, 3)
 
 
-@test("run: two modules have the expected outputs and ends for given inputs and bounds of turns and calls")
+@test("run: two modules have the expected outputs and ends for given inputs and bounds on turns and calls")
 def bounds() -> None:
     four_runs(COUNTS)
     ran(CALLS, " 2 1", "", "", 3)
@@ -56,14 +56,14 @@ def bounds() -> None:
     ran(CALLS, " 2 1")
 
 
-@test("run: a module with a WHILE has the same outputs and ends after one of its variables was renamed")
+@test("run: renaming a variable doesn't change the outputs and ends of a module with a WHILE")
 def renamed_runs() -> None:
     found = on_file("rename", COUNTS, "1", "4", "k")
     ends(found, edited(COUNTS, ["1:4-1:5", "2:25-2:26", "3:11-3:12", "3:21-3:22", "3:30-3:31", "3:35-3:36"], "k"), 0)
     four_runs(found.out)
 
 
-@test("run: equal field names in two records, constants below 0 and a redeclared TRUE have the expected results")
+@test("run: modules with equal field names, constants below 0 or a redeclared name have the expected outputs")
 def before_edits() -> None:
     ran(RECORDS, " 3")
     ran(LEAST, " -2147483648")
@@ -118,7 +118,7 @@ def statements() -> None:
     ran(body("WHILE x <= 100000 DO x := x + 1 END; Write(x)"), "", "TurnBound")
 
 
-@test("run: REPEAT runs its body at least once, and its repetitions count towards the bound of turns")
+@test("run: REPEAT runs its body at least once, and its repetitions count towards the bound on turns")
 def repeated() -> None:
     ran(REPEATED, " 0", "", "0", None, 0)
     ran(REPEATED, " 2", "TurnBound", "2", None, 0)
@@ -144,7 +144,7 @@ def begin_again() -> None:
     ran("MODULE M; PROCEDURE P; VAR x: INTEGER; b: BOOLEAN; BEGIN IF b THEN Write(9) END; x := x + 1; b := TRUE; Write(x) END P; BEGIN P; P END M.", " 1 1")
 
 
-@test("run: Read accepts whole numbers between white space, and any other input ends a run with the fault Input")
+@test("run: `ob0 run` reads whole numbers between white space, and refuses any other input with `fault: Input`")
 def inputs() -> None:
     text = body("Read(x); Read(y); Write(x + y)")
     ran(text, " 3", "", "1 2")

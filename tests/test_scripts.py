@@ -866,7 +866,7 @@ def hook_of_many() -> None:
     in_folder({f"lib/M{at}.mod": text for at in range(200)}, trial)
 
 
-@test("scripts: the CI jobs and pre-commit hooks in docs/CI.md find modules that have errors or aren't formatted")
+@test("scripts: the CI jobs in docs/CI.md and the pre-commit hooks fail if a module has errors or isn't formatted")
 def job() -> None:
     listed = [text for name, text in fenced("docs/CI.md") if name == "yaml"]
     blocks = [re.findall(r"^ +- (?:run: )?(ob0-\w+ .*)$", text, re.M) for text in listed]

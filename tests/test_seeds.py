@@ -26,7 +26,7 @@ def begun(count: int, given: Optional[str]) -> Tuple[List[int], str]:
         return seeds.seeds(count), said.getvalue()
 
 
-@test("seeds: half of the random numbers depend on the commit unless OB0_SEED sets all, and the first ones are printed")
+@test("seeds: half of the seeds depend on the commit unless OB0_SEED is set, and the first seeds are printed")
 def half_of_them() -> None:
     same(begun(6, None), ([0, 1, 2, 5000, 5001, 5002], "    seeds begin at 0 and 5000\n"))
     same(begun(1, None)[0], [0, 5000], "for one of each")
@@ -59,7 +59,7 @@ def by_chance() -> None:
     fail_shortly(TEXT, check)
 
 
-@test("seeds: a result that differs from the reference's is shown with a shortened text and the text's number")
+@test("seeds: a result that differs from the reference's is shown with a shortened text and its seed")
 def against_another() -> None:
     need_program()
     diagnostics, run = against_reference.diagnostics_of, against_reference.Short

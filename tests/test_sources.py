@@ -195,7 +195,7 @@ DOUBLED = {
 }
 
 
-@test("sources: no two types in the code share a name, and no two types or facts in definitions, unless it is listed")
+@test("sources: no two types in the code share a name, nor do two types or facts in definitions, except listed names")
 def names_apart() -> None:
     in_code = r"^\s*(?:pub(?:\(\w+\))? )?(?:struct|enum|trait) (\w+)"
     in_definitions = r"^ *(?:(?:abbrev|pub|record|data) )+([A-Z]\w*)(?: |$)"

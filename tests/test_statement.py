@@ -166,7 +166,7 @@ PARTS = {"docs/STATEMENT.md": PAGE, **{f"Part {part}": "" for part in range(4, 1
 SUMS = {"Without the language": 3, "With the language": 4}
 
 
-@test("statement: the pages have at most 260 definitions and 1,190 lines, and 505 and 2,800 with the language")
+@test("statement: the pages' table counts at most 260 definitions and 1,190 lines, and with the language 505 and 2,800")
 def short_enough() -> None:
     table = rows()
     for name, most in (("Without the language", (260, 1190)), ("With the language", (505, 2800))):
@@ -181,7 +181,7 @@ def text_of_part(part: str) -> str:
     return next(it for it in re.split(r"^(?=## )", second(), flags=re.M) if it.startswith(f"## {part}"))
 
 
-@test("statement: the counts in the table of the parts, and their sums, match the pages")
+@test("statement: the table of the parts gives each part's number of definitions, and the right sums")
 def counts_hold() -> None:
     table = rows()
     same([it for it in table if it not in SUMS], [*PARTS], "the parts of the table")
@@ -222,7 +222,7 @@ def shown_first() -> list[Place]:
     return found
 
 
-@test("statement: each name in a definition of STATEMENT.md is defined there, or explained below a definition with it")
+@test("statement: each name that STATEMENT.md's definitions use is defined or explained on that page")
 def nothing_unsaid() -> None:
     counted = Counted()
     read, shown = text_of(PAGE).partition("\n## The notation\n")[0], shown_first()
@@ -254,7 +254,7 @@ def sources() -> str:
     return "\n".join(text_of(os.path.relpath(path, TOP)) for path in paths)
 
 
-@test("statement: the laws and tests that support the explanations exist, as do all laws that the pages mention")
+@test("statement: each law that STATEMENT.md or DEFINITIONS.md mentions exists, and each test that supports it")
 def spoken_for() -> None:
     written = sources()
     said = re.findall(r"For that speak (.*?)\n\n", second(), re.S)
@@ -279,7 +279,7 @@ def chain_drawn() -> None:
         holds(re.search(rf"\b(fn|struct) {name}\b", text_of("crates", file)), f"crates/{file} has no {name}")
 
 
-@test("statement: the two pages contain each definition that the theorem needs, as counted without their script")
+@test("statement: STATEMENT.md and DEFINITIONS.md contain each definition that the theorem needs")
 def closed_page() -> None:
     counted = Counted()
     rows_of = re.findall(r"^\| `([^`|]+)` \| .* \| `(\w+)` of `(\w+)` \|$", second(), re.M)

@@ -48,7 +48,7 @@ def in_two() -> None:
         ended(serve_in_pieces([INPUT[:cut], INPUT[cut:]]), OUTPUT, 0)
 
 
-@test("stream: if a short conversation stops after any byte, whole messages are answered, a partial one is Truncated")
+@test("stream: if a short conversation stops at any byte, whole messages are answered, and a part of one is Truncated")
 def ended_early() -> None:
     for end in range(len(INPUT) + 1):
         whole = BORDERS.index(end) if end in BORDERS else None
@@ -139,7 +139,7 @@ LAST_HEADS = {
 }
 
 
-@test("stream: the last message of a conversation may have any other valid head")
+@test("stream: the last message of a conversation may have any unusual but valid head")
 def other_heads() -> None:
     same(len(LAST_HEADS["4,096 bytes"]), 4096, "the length of that head")
     for name, head in LAST_HEADS.items():
@@ -152,7 +152,7 @@ def almost_a_bad_head() -> None:
     ended(serve(b"a" * 4095), b"", 3, b"fault: Truncated\n")
 
 
-@test("stream: a message with a content of 16,777,216 bytes is accepted")
+@test("stream: a content of 16,777,216 bytes is read to its end")
 def largest_content() -> None:
     content = b"[" + b" " * (16777216 - 2) + b"]"
     ended(serve(b"Content-Length: 16777216\r\n\r\n" + content), NO_MESSAGE, 1)

@@ -88,7 +88,7 @@ def unnamed_clauses(source: reading.Source, calls: Sequence[str]) -> List[str]:
     return unnamed
 
 
-@test("surface: each clause of a call in the specification is cited by a mutant, or has a reason for not being cited")
+@test("surface: each clause of the specified functions' contracts is cited by a mutant, or listed with a reason")
 def each_clause() -> None:
     of_functions, of_clauses = public_functions.reasons(), public_functions.reasons(are_of_clauses=True)
     unnamed = [it for crate, calls in PROMISED.items() for it in unnamed_clauses(reading.Source(crate), calls.split())]

@@ -128,7 +128,7 @@ def first_tests() -> None:
         same(history(data), before, "the bystander's history")
 
 
-@test("surroundings: the tests of releases, pages and examples pass in an archive of the sources")
+@test("surroundings: some tests of releases, pages and examples also pass in an archive of the sources")
 def archive() -> None:
     if INSIDE in os.environ:
         leave_out("this run is the one in other surroundings")

@@ -366,13 +366,13 @@ def by_vim(editor: str, words: list[str], name: str) -> None:
     same(found["matched"], 1, "the line that % on the module's END leads to")
 
 
-@test("syntax files: in Vim modules get the expected file type, colours, :make errors and indentation")
+@test("syntax files: in Vim, modules get the expected file type, colours, :make errors and indentation")
 def in_vim() -> None:
     want("Vim")
     by_vim("vim", ["vim.nox", "-n", "-i", "NONE", "-u", "RC"], "Vim")
 
 
-@test("syntax files: in Neovim modules get the expected file type, colours, :make errors and indentation")
+@test("syntax files: in Neovim, modules get the expected file type, colours, :make errors and indentation")
 def in_neovim() -> None:
     want("Neovim")
     by_vim("neovim", ["nvim", "-n", "-i", "NONE", "-u", "RC"], "Neovim")
@@ -452,19 +452,19 @@ def by_pathogen(editor: str) -> str:
     return found
 
 
-@test("syntax files: Pathogen loads ob0's files in Vim after the commands on their page")
+@test("syntax files: Pathogen loads ob0's files in Vim after the commands on Vim's page")
 def pathogen_in_vim() -> None:
     want("Vim", "Pathogen")
     managed(["vim.nox"], "Vim", ["vim"], PATHOGEN, by_pathogen("vim"), "Helptags")
 
 
-@test("syntax files: Pathogen loads ob0's files in Neovim after the commands on their page")
+@test("syntax files: Pathogen loads ob0's files in Neovim after the commands on Vim's page")
 def pathogen_in_neovim() -> None:
     want("Neovim", "Pathogen")
     managed(["nvim"], "Neovim", ["vim", "neovim"], PATHOGEN, by_pathogen("neovim"), "Helptags")
 
 
-@test("syntax files: package-install-file and use-package install the Emacs mode as its page says")
+@test("syntax files: package-install-file and use-package install ob0-mode as the Emacs page says")
 def managed_in_emacs() -> None:
     want("Emacs", "eglot", "use-package")
     (lines,) = (it for it in snippets.snippets("emacs", "elisp") if "(use-package" in it)
@@ -492,7 +492,7 @@ def help_blocks() -> None:
     holds(text.isascii(), "its tags would begin with their encoding")
 
 
-@test("syntax files: in Emacs file types, colours, indentation, index, check and run have the expected results")
+@test("syntax files: in Emacs, file types, colours, indentation, index, check and run have the expected results")
 def in_emacs() -> None:
     want("Emacs")
     need_program()
@@ -509,7 +509,7 @@ def in_emacs() -> None:
         same(status, 0, said[-2000:])
 
 
-@test("syntax files: Kakoune recognizes a module, and its lint shows errors with hints until they are fixed")
+@test("syntax files: Kakoune recognizes, lints with hints, formats and comments modules as expected")
 def in_kakoune() -> None:
     want("Kakoune")
     need_program()

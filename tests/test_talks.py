@@ -182,7 +182,7 @@ def reported(talk: Talk) -> None:
         same((editor.out, status), (direct.out, direct.status), f"the server's output in {talk.name}, and its status")
 
 
-@test("talks: ob0-watch reports each fault of an editor under its rule, or its manual page says that it doesn't")
+@test("talks: ob0-watch reports each fault of an editor under its rule, unless the manual page excludes that fault")
 def faulty() -> None:
     need_program()
     manual = " ".join(text_of("share", "ob0-watch.1").replace("\\-", "-").split())

@@ -108,7 +108,7 @@ def agrees() -> None:
     same([text for text, due, came in zip(texts, wanted, got) if due is not None and due != came], [], "the texts that are read differently")
 
 
-@test("tree-sitter: Neovim's and Helix's queries find the expected colours and folds, and Helix's indent query matches")
+@test("tree-sitter: the queries find the expected colours for Neovim and Helix, folds for Neovim, and some indents")
 def queries() -> None:
     found = read_by_neovim((SAMPLE,))
     same(found["faulty"], [False], "the sample")
@@ -164,7 +164,7 @@ def conventions() -> None:
     same(grammar["file-types"], ["ob0", "mod", "Mod"], "its endings")
 
 
-@test("tree-sitter: the reserved words of the grammar and of its queries are the language's")
+@test("tree-sitter: the grammar and its colour queries contain exactly the language's reserved words")
 def words() -> None:
     block = match_of(r"The reserved words:\n\n```\n(.*?)```", text_of("docs", "LANGUAGE.md"), re.S)[1]
     found = {*re.findall(r'"([A-Z]+)"', text_of(FOLDER, "grammar.js"))}

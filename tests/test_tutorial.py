@@ -58,7 +58,7 @@ def commands() -> None:
     same(sorted(used), sorted(modules()), "the modules that a command on the page names")
 
 
-@test("tutorial: the page's modules are valid and formatted, except the modules that show an error")
+@test("tutorial: the modules on docs/TUTORIAL.md are valid and formatted, except the modules that show an error")
 def laid_out() -> None:
     with Server() as server:
         for name, text in modules().items():
@@ -69,7 +69,7 @@ def laid_out() -> None:
                 same(server.query("textDocument/formatting", options).get("result"), [], f"the layout of {name}")
 
 
-@test("tutorial: each expression on the page has the value that the page gives")
+@test("tutorial: each expression on docs/TUTORIAL.md has the value given there")
 def expressions() -> None:
     found = rows("| Expression | Value | |")
     holds(len(found) >= 12, f"there are {len(found)}")
@@ -78,14 +78,14 @@ def expressions() -> None:
         ends(on_file("run", f"MODULE M; BEGIN {shown} END M."), f" {VALUES.get(value, value)}", 0)
 
 
-@test("tutorial: the page's table of the ends of a run lists each of the language's ends, except Done")
+@test("tutorial: docs/TUTORIAL.md lists each way in which a run can end, except Done")
 def run_ends() -> None:
     named = [it[0][0] for it in rows("| The run ends with | because |")]
     listed = re.findall(r"^\| (\w+) \|", text_of("docs", "LANGUAGE.md").partition("| End | Because |")[2].partition("\n\n")[0], re.M)
     same(named, [it for it in listed if it != "Done"], "the ends")
 
 
-@test("tutorial: inputs that the page calls wrong are refused, and inputs in the recommended form are read")
+@test("tutorial: inputs that docs/TUTORIAL.md calls wrong are refused, and inputs in the recommended form are read")
 def numbers() -> None:
     page = " ".join(text_of(PAGE).split())
     refused = match_of(r"`([^`]*)`, `([^`]*)` or `([^`]*)` give the same\. \*\*Write whole numbers with spaces or line ends", page)
@@ -95,7 +95,7 @@ def numbers() -> None:
         ends(on_file("run", modules()["Rectangle"], given=given.encode()), f" 12 {14 if given[0] == '3' else -14}\n", 0)
 
 
-@test("tutorial: each statement in the Oberon-0 column of the page's table of translations is valid")
+@test("tutorial: each Oberon-0 statement in docs/TUTORIAL.md's table of translations is valid")
 def translated() -> None:
     found = [it[1] for it in rows("| C, Java, Python, Pascal | Oberon-0 |")]
     holds(len(found) >= 12, f"there are {len(found)}")

@@ -267,7 +267,7 @@ def begun(room: str, said: str) -> "subprocess.Popen[bytes]":
         return subprocess.Popen(words, stdout=out, stderr=subprocess.STDOUT, env=environment(room, SLEEPS="1"))
 
 
-@test("whole: a signal makes a run print its progress and end with its child processes, and a second run waits")
+@test("whole: after a signal `make test` prints its progress and ends its child processes, and a second run waits")
 def ended() -> None:
     for number in (signal.SIGTERM, signal.SIGINT, signal.SIGHUP):
         with temporary() as room:
@@ -285,14 +285,14 @@ def ended() -> None:
             same(os.listdir(os.path.join(room, "tmp")), [], "the remaining temporary files")
 
 
-@test("whole: a run ends at once, with the reason, if root can't switch to another user, as the gate needs")
+@test("whole: `make test` ends at once, and says why, if root can't switch to another user")
 def no_other_user() -> None:
     found = whole(LACKS="1")
     same((found.status, "root can't become another user here" in found.said, "be another" in found.last), (2, True, True), found.said)
     same([it for it in found.called if it.startswith(("rt ci", "tests"))], [], "what is run")
 
 
-@test("whole: skipped tests count as run, except that only a few may be skipped if OB0_MAY_LACK is set")
+@test("whole: skipped tests count as run, but if OB0_MAY_LACK is set, many skipped tests are a failure")
 def floor() -> None:
     many, few = "500 passed, 0 failed, 100 skipped", "5000 passed, 0 failed, 4 skipped"
     same([whole(rest=it).status for it in (many, few)], [0, 0], "by hand")
@@ -326,7 +326,7 @@ exec "$@"
 """
 
 
-@test("whole: .ci/run ends with the verdict in bin/results, fails without one, and sets limits and the tools to skip")
+@test("whole: .ci/run ends with the verdict in bin/results, and sets time limits and the tools that may be missing")
 def verdict() -> None:
     lines, none = "ok\t0.1 s\ta test\n7 passed, 0 failed\tof this name\n", "0 passed, 1 failed"
     for results, status, wanted in (
@@ -359,7 +359,7 @@ def verdict() -> None:
             same(called.splitlines(), wanted_calls, "what is run")
 
 
-@test("whole: a signal to .ci/run ends the test that it runs, and the last line reports a failure")
+@test("whole: a signal to .ci/run ends the `make test` that it runs, and the last line reports a failure")
 def ci_ended() -> None:
     with temporary() as room:
         # (a signal in its first moment would end `timeout` without its child)
@@ -378,13 +378,13 @@ def ci_ended() -> None:
         holds(not harness.is_running(number), "the test still runs")
 
 
-@test("whole: each tool that .ci/run allows to be missing is used by the tests, and Debian 12 lacks it")
+@test("whole: each tool that .ci/run allows to be missing is listed in tools/editors.py, without a Debian package")
 def may_lack_there() -> None:
     for name in LACKING.split(","):
         holds(name in editors.TOOLS and not editors.TOOLS[name][1], name)
 
 
-@test("whole: a package states if its program is tested, not tested or failed, and the screen repeats it unless tested")
+@test("whole: a package states whether its program is tested, and the screen repeats FAILED or NOT TESTED")
 def said_by_package() -> None:
     not_tested = "NOT TESTED: each function of this program is proved, and `make test` has not ended on it"
     failed = "FAILED: 10 passed, 10 failed, by `make test` on this program, each of whose functions is proved"

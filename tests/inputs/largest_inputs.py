@@ -47,23 +47,23 @@ def none(_size: int) -> list[Message]:
     return []
 
 
-# name: its size, the text of a size, its diagnostics
+# name after the size: the size, the text of a size, its diagnostics
 TEXTS = {
-    "semicolons in a module": (MIB, filled("MODULE M; BEGIN", ";", " END M."), none),
-    "only semicolons": (MIB, filled("", ";"), one("Syntax", "0:0-0:1", "expected MODULE")),
-    "opening parentheses": (MIB, filled("MODULE M; VAR x: INTEGER; BEGIN x := ", "("), one("TooDeep", "0:137-0:138")),
-    "nested comments": (MIB, nested_comments, none),
-    "comments that aren't closed": (MIB, filled("", "(*"), one("OpenComment", "0:0-0:2")),
-    "empty fields of a record": (MIB, filled("MODULE M; VAR r: RECORD ", ";", " END; END M."), none),
-    "a record without its END": (MIB, filled("MODULE M; VAR r: RECORD ", ";"), one("Syntax", "0:{size}-0:{size}", "expected END")),
-    "one identifier": (MIB, long_name, none),
-    "leading zeros of a number": (MIB, filled("MODULE M; CONST c = ", "0", "1; END M."), none),
-    "digits of a number that is too large": (MIB, filled("", "7"), one("NumberTooLarge", "0:0-0:{size}")),
+    "bytes of text: semicolons in a module": (MIB, filled("MODULE M; BEGIN", ";", " END M."), none),
+    "bytes of text: only semicolons": (MIB, filled("", ";"), one("Syntax", "0:0-0:1", "expected MODULE")),
+    "bytes of text: opening parentheses": (MIB, filled("MODULE M; VAR x: INTEGER; BEGIN x := ", "("), one("TooDeep", "0:137-0:138")),
+    "bytes of text: nested comments": (MIB, nested_comments, none),
+    "bytes of text: comments that aren't closed": (MIB, filled("", "(*"), one("OpenComment", "0:0-0:2")),
+    "bytes of text: empty fields of a record": (MIB, filled("MODULE M; VAR r: RECORD ", ";", " END; END M."), none),
+    "bytes of text: a record without its END": (MIB, filled("MODULE M; VAR r: RECORD ", ";"), one("Syntax", "0:{size}-0:{size}", "expected END")),
+    "bytes of text: a module with a long name": (MIB, long_name, none),
+    "bytes of text: leading zeros of a number": (MIB, filled("MODULE M; CONST c = ", "0", "1; END M."), none),
+    "bytes of text: digits of a number that is too large": (MIB, filled("", "7"), one("NumberTooLarge", "0:0-0:{size}")),
     "declarations of one name": (170000, lambda size: "MODULE M; VAR x" + ",x" * (size - 1) + ": INTEGER; END M.", faults("Duplicate", 16, 2)),
     "bad characters": (100000, lambda size: "$" * size, faults("BadChar", 0, 1)),
-    "bad characters after 1 MiB of comment": (MIB, lambda size: ("(*" + " " * (size - 104) + "*)").ljust(size - 100) + "$" * 100, lambda size: faults("BadChar", size - 100, 1)(size)),
-    "names that aren't declared": (100000, lambda size: "MODULE M; BEGIN " + "a:=1;" * size + " END M.", faults("Undeclared", 16, 5)),
-    "wrong types": (60000, lambda size: "MODULE M; VAR b: BOOLEAN; BEGIN " + "b:=1;" * size + " END M.", faults("TypeMismatch", 35, 5)),
+    "bytes of text: a comment and then bad characters": (MIB, lambda size: ("(*" + " " * (size - 104) + "*)").ljust(size - 100) + "$" * 100, lambda size: faults("BadChar", size - 100, 1)(size)),
+    "uses of an undeclared name": (100000, lambda size: "MODULE M; BEGIN " + "a:=1;" * size + " END M.", faults("Undeclared", 16, 5)),
+    "assignments of a wrong type": (60000, lambda size: "MODULE M; VAR b: BOOLEAN; BEGIN " + "b:=1;" * size + " END M.", faults("TypeMismatch", 35, 5)),
 }
 
 
@@ -101,15 +101,15 @@ def text_in_a_message(size: int) -> Talk:
     return [opening], [published([diagnostic("TooLong", "text too long", "0:0-0:0")])]
 
 
-# name: its size, the messages of a size, what is sent for them
+# name after the size: the size, the messages of a size, what is sent for them
 TALKS = {
-    "documents of 10,000 bytes, all open": (1000, opened),
+    "open documents of 10,000 bytes": (1000, opened),
     "changes in one notification": (10000, changed_in_one_note),
     "texts of 0.5 MiB in one notification": (30, whole_texts_in_one_note),
-    "requests, all there from the start": (10000, queries_at_once),
-    "bytes of a message, blanks": (16777216, blanks_in_a_message),
-    "bytes of a message, empty objects": (16777216, objects_in_a_message),
-    "bytes of a message, a text": (16777216, text_in_a_message),
+    "requests that are sent at once": (10000, queries_at_once),
+    "bytes in one message: blanks in an array": (16777216, blanks_in_a_message),
+    "bytes in one message: empty objects in an array": (16777216, objects_in_a_message),
+    "bytes in one message: a text that is too long": (16777216, text_in_a_message),
 }
 
 
@@ -118,7 +118,7 @@ def of_text(make: Callable[[int], str], wanted: Callable[[int], list[Message]]) 
 
 
 CASES = {
-    **{f"a text of {name}": (size, of_text(make, wanted)) for name, (size, make, wanted) in TEXTS.items()},
+    **{name: (size, of_text(make, wanted)) for name, (size, make, wanted) in TEXTS.items()},
     **TALKS,
 }
 
