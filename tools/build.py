@@ -147,7 +147,7 @@ class Sums:
 
     def shown_to(self, name: str, seen: list[str]) -> tuple[str, list[tuple[str, str]]]:
         """Returns what a proof in another crate depends on: the checksum of this crate's interface, and the checksums
-        of those of its modules (`seen`) that the proof reads."""
+        of the modules in `seen`, which the proof reads."""
         shown = self.shown[name]
         return (shown.face, [(it, shown.contents.get(it, "")) for it in seen]) if shown else ("", [])
 
