@@ -197,7 +197,12 @@ def lower(edits: Edits) -> Edits:
 
 def late_in_cr_lf(changes: Edits) -> Fault:
     """Returns a fault: these changes tell a late layout in a text with CR LF."""
-    return lambda talk: (talk.changes(TEXT.replace("\n", "\r\n")), late(talk, changes, FORMAT, ENDED))
+
+    def fault(talk: Talk) -> None:
+        talk.changes(TEXT.replace("\n", "\r\n"))
+        late(talk, changes, FORMAT, ENDED)
+
+    return fault
 
 
 def reopened(talk: Talk, text: str, changes: Edits, *between: harness.Content) -> None:
