@@ -360,7 +360,7 @@ def have_right_forms() -> None:
     same([(it.path, it.why) for it in found if it.is_right and it.why], [], "right forms that aren't in the form")
 
 
-@test("mutants: a `right:` text is accepted if proved, fails if refused alone, and is retried if refused among others")
+@test("mutants: a `right:` text is accepted if proved, retried if refused among others, and fails if refused by itself")
 def right_judged() -> None:
     with small_crate(edit=BRANCH + "# right:     if n == 7 { 8 } else { n + 1 }\n"):
         source = reading.Source("ob0_small")
@@ -380,7 +380,7 @@ def right_judged() -> None:
         same([[it.is_right for it in group.edits] for group in crate.first()], [[False], [True]], "the forms are in two checks")
 
 
-@test("mutants: mutants.txt lists each mutant and `right:` text once, in order, and none is stale once all are tried")
+@test("mutants: mutants.txt lists each mutant and `right:` text once, in order, without stale lines once all are tried")
 def rows() -> None:
     found = verdicts.Mutants()
     same([it.path for it in verdicts.rows_of(verdicts.PATH)], sorted(found.edits), "its lines (tools/mutants.py writes them)")
