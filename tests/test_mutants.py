@@ -41,7 +41,7 @@ CLAIM = "# Offsets count characters: refused by the clause of `character_width`,
 
 
 def edit_of(crate: str, word: str, source: reading.Source) -> edits.Edit:
-    """Returns the crate's first mutant whose name contains the word."""
+    """Returns the crate's first mutant whose path contains the word."""
     return next(it for it in edits.edits_of(crate, source) if word in it.name)
 
 
@@ -360,7 +360,7 @@ def have_right_forms() -> None:
     same([(it.path, it.why) for it in found if it.is_right and it.why], [], "right forms that aren't in the form")
 
 
-@test("mutants: a `right:` text is accepted if proved, refused among others it is retried, and refused by itself it fails")
+@test("mutants: a `right:` text is accepted if proved, retried if refused among others, and fails if refused by itself")
 def right_judged() -> None:
     with small_crate(edit=BRANCH + "# right:     if n == 7 { 8 } else { n + 1 }\n"):
         source = reading.Source("ob0_small")
@@ -380,7 +380,7 @@ def right_judged() -> None:
         same([[it.is_right for it in group.edits] for group in crate.first()], [[False], [True]], "the forms are in two checks")
 
 
-@test("mutants: mutants.txt lists each mutant and `right:` text once, in order, and no line is stale once all are tried")
+@test("mutants: mutants.txt lists each mutant and `right:` text once, in order, without stale lines once all are tried")
 def rows() -> None:
     found = verdicts.Mutants()
     same([it.path for it in verdicts.rows_of(verdicts.PATH)], sorted(found.edits), "its lines (tools/mutants.py writes them)")
@@ -389,7 +389,7 @@ def rows() -> None:
 
 
 class Unread(Dict[str, str]):
-    """Stands in for `os.environ`. Reading any variable fails the test."""
+    """Fails the test if anything reads one of these environment variables."""
 
     def __getitem__(self, name: str) -> str:
         raise Failed(f"{name} was read")

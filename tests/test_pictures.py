@@ -42,7 +42,7 @@ def shown() -> None:
         same(fixed, [], f"texts of {name} in a colour that doesn't change on dark screens")
 
 
-@test("pictures: tools/rooms.py's pictures are up to date, and each step in them mentions a function or type of a crate")
+@test("pictures: tools/rooms.py's pictures are up to date, and each of their steps cites a function or type of a crate")
 def drawn_from_text() -> None:
     for name, drawn in rooms.pictures().items():
         same(text_of(PICTURES, name), drawn, f"{name} (tools/rooms.py draws it)")
