@@ -41,7 +41,7 @@ CLAIM = "# Offsets count characters: refused by the clause of `character_width`,
 
 
 def edit_of(crate: str, word: str, source: reading.Source) -> edits.Edit:
-    """Returns the crate's first mutant whose path contains the word."""
+    """Returns the crate's first mutant whose name contains the word."""
     return next(it for it in edits.edits_of(crate, source) if word in it.name)
 
 
@@ -389,7 +389,7 @@ def rows() -> None:
 
 
 class Unread(Dict[str, str]):
-    """Fails the test if anything reads one of these environment variables."""
+    """Stands in for `os.environ`. Reading any variable fails the test."""
 
     def __getitem__(self, name: str) -> str:
         raise Failed(f"{name} was read")
