@@ -44,7 +44,7 @@ hook -group ob0-highlight global WinSetOption filetype=ob0 %{
 
 hook -group ob0-format global WinSetOption filetype=ob0 %{
     # `ob0-format` formats files, and this command gets a text and writes one
-    set-option window formatcmd 'run() { t=$(mktemp -d) && cat >"$t/m.ob0" && ob0-format "$t/m.ob0" >/dev/null; s=$?; [ $s = 0 ] && cat "$t/m.ob0"; rm -r "$t"; return $s; } && run'
+    set-option window formatcmd 'run() { trap : INT; t=$(mktemp -d) && cat >"$t/m.ob0" && ob0-format "$t/m.ob0" >/dev/null && cat "$t/m.ob0"; s=$?; rm -r "$t"; return $s; } && run'
 }
 
 provide-module ob0 %§
