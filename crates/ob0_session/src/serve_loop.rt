@@ -164,11 +164,13 @@ fn answer_piece<S: Stream>(
     let Ok(can_continue) = feed_piece(framer, piece) else {
         return Err(ServeFault::Memory);
     };
-    let next = match answer_waiting_messages(alloc, framer, session, stream) {
+    let answered = answer_waiting_messages(alloc, framer, session, stream);
+    let next = match answered {
         Ok(next) => next,
         Err(fault) => return Err(flush_after_fault(fault, stream)),
     };
-    match stream.flush() {
+    let done = stream.flush();
+    match done {
         Ok(()) => {}
         Err(DeviceFault) => return Err(ServeFault::Write),
     }
