@@ -17,14 +17,15 @@ use Rattle.ob0_types.specs.CheckedModules.{HasTableIfWellTyped}
 use Rattle.ob0_types_table.specs.DeclarationTables.{DeclarationTableView}
 use Rattle.ob0_language_types.specs.WellTyped.{WellTyped, passes_type_check}
 
--- holds if the list of faults is empty exactly if the test is true
+-- states that the list of faults is empty exactly if the test is true
 abbrev IsReported : Bool → List FaultAtTokens → Type 0
 IsReported right faults = (faults ≡ []) ↔ (right ≡ true)
 
 length-nil : (xs : List FaultAtTokens) → xs ≡ [] → length xs ≡ 0
 length-nil xs e = ap length e
 
--- Two lists of faults are empty under the same condition if their lengths are 0 under the same condition.
+-- If the lengths of two lists of faults are both 0 or both greater, the lists are both empty or
+-- both not empty.
 pub empty_alike : (xs ys : List FaultAtTokens) → (length xs ≡ 0 → length ys ≡ 0) → (length ys ≡ 0 → length xs ≡ 0) → (xs ≡ []) ↔ (ys ≡ [])
 empty_alike xs ys there back = ((λ e. nil_from_length ys (there (length-nil xs e))), (λ e. nil_from_length xs (back (length-nil ys e))))
 
@@ -52,8 +53,8 @@ second_right true true e = sym e
 second_right true false e = refl
 second_right false b e = absurd (true≢false (sym e))
 
--- If a list of faults is empty exactly if a test is true, consider the list with the faults of declarations appended.
--- It is empty exactly if the test is true and there are no such faults.
+-- Suppose that a list of faults is empty exactly if a test is true. With the faults of declarations
+-- appended, it is empty exactly if the test is true and there are no such faults.
 reported_with : (right : Bool) (first scopes : List FaultAtTokens) → IsReported right first → IsReported (right && not (list_any is_duplicate_or_end_name_fault scopes)) (first ++ filter is_duplicate_or_end_name_fault scopes)
 reported_with right first scopes reported = (
   (λ e.
@@ -74,8 +75,8 @@ once_from false any e f = absurd (true≢false (sym e ∙ f))
 from_once : (b : Bool) (any : Bool) → any ≡ not b → b ≡ true → any ≡ false
 from_once b any e t = e ∙ ap not t
 
--- If a table is present only when there are no faults, and then has a property, a table that is present has this
--- property.
+-- If the presence of a table implies that `none` holds and that the table has the property `P`, it
+-- implies that the table has `P`.
 known_declares : (none : Type 0) (known : Option DeclarationTableView) (P : DeclarationTableView → Type 0) → MatchOption known (none → ⊥) (λ t. none × P t) → IfSome known P
 known_declares none None P h = tt
 known_declares none (Some t) P h = h.1
@@ -96,7 +97,8 @@ known_where_typed r report law is h = record {
   kept = λ typed. known_there (undeclared_name_and_type_faults r ≡ []) report.known (TableHasDeclaredObjects (named_tree_of r.module_read)) h.known (none_reported law r is typed);
 }
 
--- A module is well-typed exactly if a list is empty that is empty exactly if the module has no fault.
+-- If a list of faults is empty exactly if the module has no fault, it is empty exactly if the
+-- module is well-typed.
 pub reported_if_faulty : (r : Resolution) (faults : List FaultAtTokens) → ModulesWithoutFaultPassTypeCheck → TypedModulesHaveNoFault → IsResolution r → ((faults ≡ []) ↔ (all_faults_of r ≡ [])) → (faults ≡ []) ↔ WellTyped (named_tree_of r.module_read)
 unfolding WellTyped
 reported_if_faulty r faults reported_law none_law h alike =

@@ -1,4 +1,4 @@
--- Facts about lists of numbers and whether a number is among them.
+-- Proves facts about membership in lists of numbers (`is_body_in_list`).
 use Rattle.std.proofs.Common.{◌≡◌, ℕ, Bool, true, false, List, [], ◌∷◌, ◌++◌, refl, ◌∙◌, nat_eq, eq-eqb}
 use Rattle.std.proofs.lemmas.List.Folds.{list_any-append}
 use Rattle.std.proofs.lemmas.Bool.{or_left, or_right}

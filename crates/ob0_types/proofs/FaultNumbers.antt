@@ -1,6 +1,7 @@
--- The order of codes is the order of the numbers that they are declared with. `declared_number` is written as the
--- derived order writes these numbers; with a `_` instead, the proof isn't found. The key of `first_sorted_faults` has a generated
--- name, which may change when `first_sorted_faults` changes: the check's message then shows the new name.
+-- Proves that fault codes are ordered by the numbers that they are declared with. `declared_number`
+-- has the form in which the derived order writes these numbers; with a `_` instead, the proof isn't
+-- found. The key of `first_sorted_faults` has a generated name, which may change when
+-- `first_sorted_faults` changes: the check's message then shows the new name.
 use denote.Enum.Declared.{tag_of}
 use Rattle.std.proofs.Common.{◌≡◌, ℕ, ◌+◌, ℤ, pos, Bool, true, false, cond, ◌==◌, nat_lt, List, [], ◌∷◌, refl, sym, ap, ◌∙◌, arith, true≢false, eqb-true, eq-eqb, ltb-true, ltb-false}
 use Rattle.std.specs.List.Sorted.{IsSorted, IsSortedByKey}
@@ -52,7 +53,8 @@ pos_cmp a b = one (nat_lt a b) refl (nat_lt b a) refl (a == b) refl
     one false p false q true r = refl
     one false p false q false r = let e : a ≡ b = omega (arith, ltb-false a b p, ltb-false b a q) in absurd (true≢false (sym (eq-eqb a b e) ∙ r))
 
--- A list that is sorted by the key of tokens and code is sorted in the order of faults.
+-- If a list of faults is sorted by first token, last token and code, it is sorted according to
+-- `compare_faults_by_tokens`.
 pub sorted_by_key : (cmp : ℕ × ℕ × FaultCode → ℕ × ℕ × FaultCode → Ordering) (count : ℕ) (xs : List FaultAtTokens)
     → ((f l : ℕ) (x : FaultCode) (f₂ l₂ : ℕ) (y : FaultCode) → cmp (f, l, x) (f₂, l₂, y) ≡ ordering_then (ordering_then (nat_cmp f f₂) (nat_cmp l l₂)) (int_cmp (declared_number x) (declared_number y)))
     → IsSortedByKey (λ (f : FaultAtTokens). (clamped_token_index count f.first, clamped_token_index count f.last, f.code)) cmp xs → IsSorted (compare_faults_by_tokens count) xs

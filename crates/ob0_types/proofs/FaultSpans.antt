@@ -1,5 +1,6 @@
--- The spans of the faults that a result of checking keeps. The tokens of a text ascend, so faults that are sorted by
--- tokens are also sorted by their spans. So the faults with their spans are the first 100 faults of the module.
+-- Proves that the faults in a result of checking, with their spans, are the first 100 faults of the
+-- module. The tokens of a text ascend, so faults that are sorted by tokens are also sorted by their
+-- spans.
 use Rattle.std.proofs.Common.{◌<◌, ◌≤◌, ◌≡◌, ◌+◌, List, [], get_or, length, map, take, sym, ap, ◌∙◌, subst, arith}
 use Rattle.std.proofs.Math.Nat.{min-le_left}
 use Rattle.std.proofs.lemmas.List.{get_or-map, length-map, length-take, nil_from_length, take-map}

@@ -50,7 +50,8 @@ module _ (source : TextWithTokens) (scan : IsScan source) (offset k : ℕ) (poin
       let both = and_parts (nat_le (token_span source i).start offset) (nat_le offset (token_span source i).end) e in
       (leb-true (token_span source i).start offset both.0, leb-true offset (token_span source i).end both.1)
 
-  -- A token before this one ends before the offset, and a token after the next one begins after it.
+  -- A token that touches the offset is the token `k` or the next one: earlier tokens end before the
+  -- offset, and later tokens begin after it.
   near : (i : ℕ) → i < length source.tokens → touches i ≡ true → (k ≤ i) × (i ≤ k + 1)
   near i less e = (not_before (cases_lt i k), not_after (cases_lt (k + 1) i))
     where
@@ -75,7 +76,8 @@ module _ (source : TextWithTokens) (scan : IsScan source) (offset k : ℕ) (poin
           let long = token_bounds 0 source.tokens (k + 1) no_token apart next in
           absurd (omega (arith, (touched i e).0, ap (λ (s : Span). s.start) (at i less), reaches, first, second, long.1))
 
-  -- A field that doesn't touch the offset can be left out.
+  -- Leaving out a field that doesn't touch the offset doesn't change the field that is found at the
+  -- token `j`.
   left_out : (x : FieldIdentifier) (xs : List FieldIdentifier) (j : ℕ) → touches x.token ≡ false → here j (x ∷ xs) ≡ here j xs
   left_out x xs j off = one (x.token == j) refl
     where
@@ -114,7 +116,7 @@ module _ (source : TextWithTokens) (scan : IsScan source) (offset k : ℕ) (poin
       one true on later = at_one on (⊎_elim (λ more. inr more) (λ le. inl le) (cases_lt k x.token))
       one false off later = later ∙ sym ((λ i. or_else (left_out x xs k off i) (left_out x xs (k + 1) off i)))
 
-  -- If all tokens end before the offset, there is no field.
+  -- If all tokens end before the offset, no field is found at the offset.
   pub none_found : (low : ℕ) (xs : List FieldIdentifier) → AreAscendingWithin low (token_indexes xs) (length source.tokens) → length source.tokens ≤ k → field_at_offset source offset xs ≡ None
   none_found low [] h past = refl
   none_found low (x ∷ xs) h past = one (touches x.token) refl (none_found (x.token + 1) xs h.1 past)

@@ -37,7 +37,7 @@ or_none : (o : Option FieldIdentifier) → or_else o None ≡ o
 or_none (Some x) = refl
 or_none None = refl
 
--- If neither is found, the second isn't.
+-- If `or_else` of two options is None, the second option is None.
 second_none : (o p : Option FieldIdentifier) → or_else o p ≡ None → p ≡ None
 second_none (Some x) p e = absurd (cc)
 second_none None p e = e
@@ -46,7 +46,8 @@ or_assoc : (o p q : Option FieldIdentifier) → or_else (or_else o p) q ≡ or_e
 or_assoc (Some x) p q = refl
 or_assoc None p q = refl
 
--- The first of two options can be looked up later, if it is None whenever the second one is found.
+-- The first two options of an `or_else` can change places if the first is None whenever the second
+-- isn't.
 swapped : (a b d : Option FieldIdentifier) → ((x : FieldIdentifier) → b ≡ Some x → a ≡ None) → or_else a (or_else b d) ≡ or_else b (or_else a d)
 swapped a None d h = refl
 swapped a (Some x) d h = ap (λ o. or_else o (Some x)) (h x refl)
@@ -89,7 +90,7 @@ module _ (t : ℕ) where
   none_below low high ((r, (x, Some k)) ∷ xs) h past =
       let top = ascending_bounds (x + 1) (tokens xs) high h.1 in elsewhere r x k xs (λ e. omega (arith, e, top, past)) (none_below (x + 1) high xs h.1 past)
 
-  -- If a later identifier is found, no earlier one is.
+  -- If the token is found among the later identifiers, it isn't among the earlier ones.
   none_before : (low middle high : ℕ) (xs ys : Owned) → AreAscendingWithin low (tokens xs) middle → AreAscendingWithin middle (tokens ys) high → (x : FieldIdentifier) → at_owned ys ≡ Some x → at_owned xs ≡ None
   none_before low middle high xs ys h g x e =
       ⊎_elim (λ less. let none = sym e ∙ none_above middle high ys g less in absurd (cc)) (λ past. none_below low middle xs h past) (cases_lt t middle)
@@ -124,7 +125,9 @@ module _ (t : ℕ) (m : Meanings ℕ Shape Signature) where
       let d = cut c.middle (block_identifiers m (constructor_count_before_procedure_block k (declares_procedure x fs b closing)) b) ((role.ClosingName, (closing, None)) ∷ []) high c.last in
       omega (arith, d.last.1)
 
-  -- A procedure that closes before the token is passed over, and any other one contains the token or follows it.
+  -- The field at the token is found in the body that `body_with_token_in_procedures` returns, or
+  -- else in the declarations. A procedure that closes before the token has no field there. Any
+  -- other procedure contains the token or comes after it.
   chosen : (p : Tree ℕ (item procedure)) (k j : ℕ) (rest : Tree ℕ (items procedure)) (statements : Tree ℕ (maybe body))
       → at_owned t (procedure_identifiers m k p) ≡ or_else (at_owned t (selected_identifiers m None (body_with_token_in_procedure t p))) (at_owned t (identifiers_declared_in_procedure k p))
       → at_owned t (procedures_identifiers m j rest ++ selected_identifiers m None statements) ≡ or_else (at_owned t (selected_identifiers m None (body_with_token_in_procedures t rest statements))) (at_owned t (identifiers_declared_in_procedures j rest))

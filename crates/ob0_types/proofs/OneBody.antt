@@ -31,7 +31,7 @@ without_any : (b : Bool) (a : Tree ℕ (maybe body)) → b ≡ true → (if b th
 without_any true a e = refl
 without_any false a e = absurd (cc (e))
 
--- A body that is left out may have been taken out before.
+-- Leaving out bodies gives the same tree if one of these bodies was already removed.
 module _ (left_out : ℕ → Bool) where
   mutual
     block_twice : (path : PathToBody) (own : ℕ) (b : Tree ℕ block) → left_out (closing_name_at_path_in_block path own b) ≡ true → block_without_bodies left_out own (block_without_body path b) ≡ block_without_bodies left_out own b
@@ -50,7 +50,8 @@ module _ (left_out : ℕ → Bool) where
   module_twice : (path : PathToBody) (t : Tree ℕ module_text) → left_out (closing_name_at_path path t) ≡ true → module_without_bodies left_out (module_without_body path t) ≡ module_without_bodies left_out t
   module_twice path (forms_module x b closing) e = ap (λ c. forms_module x c closing) (block_twice path closing b e)
 
--- Bodies can be left out before or after the tokens get other indexes.
+-- Leaving out bodies and then changing the token indexes gives the same tree as changing the
+-- indexes first.
 module _ (left_out : ℕ → Bool) (move : ℕ → ℕ) where
   abbrev moved_out : ℕ → Bool
   moved_out k = left_out (move k)
@@ -80,7 +81,8 @@ module_name_in (forms_module x b closing) = x
 abbrev module_closing_in : {N : Type 0} → Tree N module_text → N
 module_closing_in (forms_module x b closing) = closing
 
--- If two labellings give the same tree, they also do so without some bodies.
+-- If two labellings of a tree give the same result, they also give the same result after some
+-- bodies are left out.
 module _ (L : Type 0) (f u : ℕ → L) (g v : ℕ → ℕ) (left_out : ℕ → Bool) where
   body_kept : (b : Bool) (a : Tree ℕ (maybe body)) → mapped_tree f g a ≡ mapped_tree u v a → mapped_tree f g (if b then none else a) ≡ mapped_tree u v (if b then none else a)
   body_kept true a e = refl
@@ -131,7 +133,8 @@ label_in r = ordinal_and_spelling_at_token r.module_read.source r.ordinals
 abbrev value_in : Resolution → ℕ → ℕ
 value_in r = token_value_at r.module_read.source
 
--- If the tokens have the same indexes in both modules, these are equal except in bodies among which is the changed one.
+-- Two modules are equal except in the bodies that `test` selects, if they have the same tree and
+-- the same bindings outside one of these bodies.
 equal_in_place : (path : PathToBody) (old new : Resolution) (test : ℕ → Bool) → tree_of new.module_read ≡ tree_of old.module_read → BoundAlike path old new → test (closing_name_at_path path (tree_of old.module_read)) ≡ true → AreEqualExceptInBodies test test old new
 equal_in_place path old new test tree alike is_left_out =
     let t : Tree ℕ module_text = tree_of old.module_read in
@@ -142,7 +145,8 @@ equal_in_place path old new test tree alike is_left_out =
     ∙ (module_kept (Option ℕ × Name) (label_in new) (label_in old) (value_in new) (value_in old) test less same
     ∙ ap (labelled old) (module_twice test path t is_left_out)))
 
--- If the tokens have other indexes, the same holds. A closing name is tested by its new index.
+-- Two modules are equal except in the selected bodies even if the tokens have other indexes in the
+-- new module. `test` gets the new index of a closing name.
 equal_moved : (path : PathToBody) (old new : Resolution) (test : ℕ → Bool) (move : ℕ → ℕ) → module_without_body path (tree_of new.module_read) ≡ mapped_tree move move (module_without_body path (tree_of old.module_read)) → closing_name_at_path path (tree_of new.module_read) ≡ move (closing_name_at_path path (tree_of old.module_read))
     → BoundAlike path old new → test (closing_name_at_path path (tree_of new.module_read)) ≡ true → AreEqualExceptInBodies (λ k. test (move k)) test old new
 equal_moved path old new test move outside closing alike is_left_out =
@@ -157,7 +161,7 @@ equal_moved path old new test move outside closing alike is_left_out =
     ∙ (module_kept (Option ℕ × Name) (λ k. label_in new (move k)) (label_in old) (λ k. value_in new (move k)) (value_in old) (λ k. test (move k)) less same
     ∙ ap (labelled old) (module_twice (λ k. test (move k)) path (tree_of old.module_read) was_left_out)))))
 
--- Modules with the same names without one body are bound alike there.
+-- If two modules have the same names outside one body, these names are bound alike.
 bound_alike : (path : PathToBody) (old new : Resolution) → IsResolution old → IsResolution new → module_without_body path (bound new.module_read) ≡ module_without_body path (bound old.module_read) → BoundAlike path old new
 bound_alike path old new was is same = sym (bound_outside new.module_read path new.ordinals is.binding) ∙ (same ∙ bound_outside old.module_read path old.ordinals was.binding)
 
@@ -183,7 +187,7 @@ module _ (r : Resolution) (types : CheckResult) (closing : ℕ) (w : IsCheckResu
 
 -- ---- the statements of one body were replaced
 
--- If a number is among others, its new value is among their new values.
+-- If a number is in a list, its image under `move` is in the list of the images.
 among_moved : (move : ℕ → ℕ) (xs : List ℕ) (k : ℕ) → is_body_in_list xs k ≡ true → is_body_in_list (map move xs) (move k) ≡ true
 among_moved move [] k h = absurd (cc (h))
 among_moved move (x ∷ xs) k h = one_of (among_moved move xs k) (nat_eq x k) refl h

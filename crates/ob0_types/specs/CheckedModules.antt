@@ -1,4 +1,4 @@
--- A checked module: its names, its faults, and the table of its declarations.
+-- Defines a checked module: its names, its faults, and the table of its declarations.
 -- Rule: docs/LANGUAGE.md, Types 8, Faults of scopes and types 1.
 use Rattle.std.specs.Prelude.{◌≡◌, ◌≤◌, true, List, [], length, map, ◌↔◌, IfSome, is_some, Option}
 use Rattle.ob0_scan.specs.TextWithTokens.{max_faults}

@@ -1,4 +1,4 @@
--- The type of a declaration, as a shape of the definitions.
+-- Converts the type of a declaration to a shape of the definitions.
 -- Rule: docs/LANGUAGE.md, Types 1.
 use Rattle.ob0_types_table.specs.DeclarationTables.{shapes_of}
 use Rattle.ob0_types_table.specs.DeclarationTableView.{type_shape}

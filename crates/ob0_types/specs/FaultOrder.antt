@@ -1,4 +1,4 @@
--- The order in which faults are reported, and the limit of 100 faults.
+-- Defines the order in which faults are reported, and the limit of 100 faults.
 -- Rule: docs/LANGUAGE.md, Faults of scopes and types 1.
 use Rattle.std.specs.Prelude.{◌≡◌, ℕ, List, ◌++◌, length, map, take}
 use Rattle.std.specs.List.{filter}

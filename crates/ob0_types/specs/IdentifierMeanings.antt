@@ -1,4 +1,4 @@
--- The meaning of an identifier in a module's text: the declaration of a name, or a field.
+-- Defines the meaning of an identifier in a module's text: the declaration of a name, or a field.
 -- Rule: docs/PROTOCOL.md, Requests on documents 3 to 6.
 use Rattle.std.specs.Prelude.{⊤, ℕ, Option, Some, None, option_map}
 use Rattle.ob0_scope_table.specs.Resolution.{Resolution}

@@ -1,5 +1,5 @@
--- The result of checking a module before the statements of one body were replaced, perhaps with a
--- different number of tokens.
+-- Relates a module to the result of checking it before the statements of one body were replaced,
+-- perhaps with a different number of tokens.
 -- Rule: docs/LANGUAGE.md, Types 8, Faults of scopes and types 1.
 use Rattle.std.specs.Prelude.{◌≡◌, ℕ}
 use Rattle.ob0_scan.specs.declared.tokens.CommonPrefixAndSuffix.{CommonPrefixAndSuffix}

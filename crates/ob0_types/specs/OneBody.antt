@@ -1,5 +1,5 @@
--- The result of checking a module before the spellings of tokens in one body changed. A body is the
--- statements of a block.
+-- Finds the body that contains a token, and relates a module to the result of checking it before
+-- the spellings of tokens in one body changed. A body is the statements of a block.
 -- Rule: docs/LANGUAGE.md, Types 8, Faults of scopes and types 1.
 use Rattle.std.specs.Prelude.{◌≡◌, ℕ, nat_lt, if◌then◌else◌}
 use Rattle.ob0_tree.specs.Tree.{Tree, block, body, declares, declares_procedure, end, forms_block, item, items, maybe, more, procedure}

@@ -1,5 +1,5 @@
--- The result of checking a module after a change that keeps the spellings of all tokens, for
--- example a change of only the white space.
+-- States that a module has the same result of checking after a change that keeps the spellings of
+-- all tokens, for example a change of only the white space.
 -- Rule: docs/LANGUAGE.md, Types 8, Faults of scopes and types 1.
 use Rattle.std.specs.Prelude.{◌≡◌}
 use Rattle.ob0_scan.specs.ReusedLexemes.{words_of_tokens}

@@ -34,10 +34,10 @@ use std::alloc::{AllocError, Global};
 use std::borrow::Cow;
 use std::marker::Model;
 
-/// The limit up to which only some bodies are checked again after a change in one body. If the
-/// previous text had at most this many faulty bodies, only they and the changed body are checked
-/// again. If it had more, all bodies are checked, because searching a longer list for each body
-/// would cost as much as checking all bodies.
+/// The greatest number of faulty bodies with which only some bodies are checked again after a
+/// change in one body. If the previous text had at most this many faulty bodies, only they and the
+/// changed body are checked again. If it had more, all bodies are checked, because searching a
+/// longer list for each body would cost as much as checking all bodies.
 const MAX_FAULTY_BODIES_FOR_PARTIAL_CHECK: usize = 32;
 
 /// The result of checking a module. If the module is well-typed, `known` has the table of its

@@ -28,7 +28,7 @@ pub fn module_field_at_offset(well_typed: &WellTyped<'_>, offset: usize) -> Opti
         (λ x. IsIdentifierToken well_typed.now.module_read.source.tokens x.token) }
 {
     let tokens = well_typed.resolved().tokens();
-    // The proof needs the contract of this call.
+    // The proof needs this call: its contract states that the tokens are a scan (`IsScan`).
     let _scanned = tokens.text();
     let first = count_tokens_before_offset(tokens.tokens(), offset);
     if first >= tokens.tokens().len() {

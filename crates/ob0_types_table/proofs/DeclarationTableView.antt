@@ -21,7 +21,7 @@ pub length-append_shapes_of_entries : (known : List Shape) (ms : List code.TypeE
 length-append_shapes_of_entries known [] = omega arith
 length-append_shapes_of_entries known (x ∷ ms) = omega (arith, length-append_shapes_of_entries (known ++ entry_shape known x ∷ []) ms, length-append known (entry_shape known x ∷ []))
 
--- returns the shapes of entries that are made after the known ones
+-- returns the shapes of entries that follow the entries with the shapes `known`
 pub shapes_later : List Shape → List code.TypeEntry → List Shape
 shapes_later known [] = []
 shapes_later known (x ∷ ms) = entry_shape known x ∷ shapes_later (known ++ entry_shape known x ∷ []) ms
@@ -48,7 +48,8 @@ pub entry_shape-more : (shapes later : List Shape) (m : code.TypeEntry) → Part
 entry_shape-more shapes later (made.Array a) h = ap (array_shape a.ordinal a.length) (type_shape-more shapes later a.element h)
 entry_shape-more shapes later (made.Record r) h = ap (record_shape r.ordinal) (field_shapes-more shapes later r.fields h)
 
--- An entry has the shape that is computed from the whole table, and the size of that shape.
+-- The shapes of the whole table have, at an entry's index, the shape that is computed for the
+-- entry. The entry has the size of this shape.
 pub shape_at-entry : (known : List Shape) (ms : List code.TypeEntry) (i : ℕ) (m : code.TypeEntry) → AreValidEntries known ms → i < length ms → m ≡ get_or ms i m
     → (get_or (append_shapes_of_entries known ms) (length known + i) faulty_shape ≡ entry_shape (append_shapes_of_entries known ms) m) × HasSizeOfShape m (entry_shape (append_shapes_of_entries known ms) m)
 shape_at-entry known [] i m h less e = absurd (omega arith)

@@ -1,4 +1,5 @@
--- If an expression is only a designator, its designator is found through its parts.
+-- An expression without a relation is only a designator exactly if its simple expression is. The
+-- same holds for terms and factors. An expression with a relation isn't only a designator.
 use Rattle.std.proofs.Common.{◌≡◌, ℕ, ◌<◌, List, [], ◌∷◌, length, Some, None, Option, option_map, refl, sym, ap, ◌∙◌, arith}
 use Rattle.ob0_tree.specs.Tree.{Tree, addend, comparison, compares, designator, end, expression, factor, integer, item, items, more, negation, none, one, parenthesised, product, selector, simple, sum, term}
 use Rattle.ob0_tree.specs.View.{addend_of, factor_of, items_of, multiplier_of}
@@ -47,7 +48,8 @@ module _ {N : Type 0} where
   compared_designated (sum None (product (parenthesised e) ms) rest) c = refl
   compared_designated (sum None (product (negation f) ms) rest) c = refl
 
--- The code's tests decide whether an expression is only a designator.
+-- These lemmas follow the tests of the code: a simple expression with a sign or with further terms
+-- isn't only a designator. Otherwise its first term decides.
 pub signed_designated : (s : Option Sign) (t : Tree ℕ term) (rest : Tree ℕ (items addend)) (g : Sign) → s ≡ Some g → designator_of_simple_expression (sum s t rest) ≡ None
 signed_designated s t rest g h = ap (λ s. designator_of_simple_expression (sum s t rest)) h
 
@@ -67,7 +69,7 @@ pub multiplied_designated : (f : Factor) (xs : List Multiplier) → 0 < length x
 multiplied_designated f [] some = absurd (omega arith)
 multiplied_designated f (x ∷ xs) some = refl
 
--- A tree with labels is only a designator exactly if the tree of tokens is.
+-- returns a designator's name and selectors with each name replaced by its label
 abbrev pub parts_in : Resolution → ℕ × Tree ℕ (items selector) → Label × Tree Label (items selector)
 parts_in r p = (label_at_token r p.0, tree_with_labels r p.1)
 

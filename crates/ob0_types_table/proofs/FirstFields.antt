@@ -30,7 +30,7 @@ find_field_counting_from-shape shapes k (f ∷ fs) x =
     either_type shapes (same_name x (string_bytes f.name)) k f.of (find_field_counting_from (suc k) fs x)
     ∙ ap (cond (same_name x (string_bytes f.name)) (Some (type_shape shapes f.of))) (find_field_counting_from-shape shapes (suc k) fs x)
 
--- The first field with a name has the type that is found for the name.
+-- `find_field_counting_from` and `type_of_first_field_named` find the same type for a name.
 pub find_field_counting_from-type : (k : ℕ) (fs : List Field) (x : Name) → option_map (λ (e : FirstField). e.of) (find_field_counting_from k fs x) ≡ type_of_first_field_named fs x
 find_field_counting_from-type k [] x = refl
 find_field_counting_from-type k (f ∷ fs) x =
@@ -53,7 +53,8 @@ none_before (Some i) = ap Some (omega arith)
 pub first-place : (shapes : List Shape) (fs : List Field) (x : Name) → option_map (λ (e : FirstField). e.place) (find_field_counting_from 0 fs x) ≡ position_of_field (field_shapes shapes fs) x
 first-place shapes fs x = find_field_counting_from-place shapes 0 fs x ∙ none_before (position_of_field (field_shapes shapes fs) x)
 
--- holds if the map has the fields from a position onwards
+-- holds if the map has, for each name, the first field with this name among the fields from the
+-- position `left` on
 pub record Filled (map : BTreeMap (String Global) FirstField) (fs : List Field) (left : ℕ) : Type 0 where
   pub index : IsFirstFieldMapCountingFrom map left (drop left fs)
   pub within : left ≤ length fs

@@ -20,7 +20,8 @@ section-names r s = by_mode s.by_reference
     by_mode true = refl
     by_mode false = refl
 
--- The mode of a section follows from its VAR mark, for any function from this mark to modes.
+-- The mode of a section is given by its VAR mark, for any function that maps this mark to
+-- `by_place` and its absence to `by_value`.
 pub section-mode : (mode_from_flag : Bool → ParameterMode) → mode_from_flag true ≡ by_place → mode_from_flag false ≡ by_value → (r : Resolution) (s : ParameterSection) → parameter_section_mode (tree_with_labels r (parameter_section_of s)) ≡ mode_from_flag s.by_reference
 section-mode mode_from_flag marked unmarked r s = by_mode s.by_reference
   where
@@ -28,7 +29,7 @@ section-mode mode_from_flag marked unmarked r s = by_mode s.by_reference
     by_mode true = sym marked
     by_mode false = sym unmarked
 
--- A list of arguments has its expressions in order.
+-- The further arguments of a list with labels are the labelled expressions of the list, in order.
 further_listed : (r : Resolution) (es : List Expression) → further_arguments (tree_with_labels r (items_of argument_after_comma_of es)) ≡ labelled_expressions r es
 further_listed r [] = refl
 further_listed r (e ∷ es) = ap (λ z. tree_with_labels r (expression_of e) ∷ z) (further_listed r es)
@@ -37,6 +38,7 @@ pub all_listed : (r : Resolution) (es : List Expression) → call_arguments (tre
 all_listed r [] = refl
 all_listed r (e ∷ es) = ap (λ z. tree_with_labels r (expression_of e) ∷ z) (further_listed r es)
 
--- Splits the rest of a list into its first item and the later items.
+-- The list after its first `done` items consists of the next item `x` and the list after `done + 1`
+-- items.
 pub split : {A : Type 0} (done : ℕ) (xs : List A) (x : A) → done < length xs → x ≡ get_or xs done x → drop done xs ≡ x ∷ drop (done + 1) xs
 split done xs x less here = drop_more xs done x less ∙ ap (λ y. y ∷ drop (done + 1) xs) (sym here)

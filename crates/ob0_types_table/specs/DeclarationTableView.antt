@@ -59,8 +59,9 @@ abbrev pub type_id_of_entry : code.TypeEntry → ℕ → TypeId
 type_id_of_entry (made.Array a) place = type.Array place
 type_id_of_entry (made.Record r) place = type.Record place
 
--- returns the list `known`, which has the shapes of a table's first entries, followed by the shapes
--- of the further entries in the given list; each entry may refer only to entries before it
+-- returns `known`, the shapes of a table's first entries, followed by the shapes of the given
+-- entries, which come next in the table; the shape of an entry is computed from the shapes before
+-- it
 abbrev pub append_shapes_of_entries : List Shape → List code.TypeEntry → List Shape
 append_shapes_of_entries known [] = known
 append_shapes_of_entries known (m ∷ ms) = append_shapes_of_entries (known ++ entry_shape known m ∷ []) ms

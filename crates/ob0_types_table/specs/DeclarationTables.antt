@@ -16,7 +16,7 @@ pub record DeclarationTableView : Type 0 where
   pub shapes : List code.TypeEntry
   pub objects : List (Option declaration.Object)
 
--- returns the shapes of the table's entries, in order; each entry refers only to earlier ones
+-- returns the shapes of the table's entries, in order; each is computed from the earlier shapes
 abbrev pub shapes_of : DeclarationTableView → List Shape
 shapes_of t = append_shapes_of_entries [] t.shapes
 

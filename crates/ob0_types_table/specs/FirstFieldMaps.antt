@@ -1,4 +1,4 @@
--- Defines the map that has, for each name, the first field of a record with this name.
+-- Defines when a map has, for each name, the first field of a record with this name.
 -- Rule: none; used in contracts of `FieldTable`.
 use Rattle.std.specs.Prelude.{◌≡◌, ℕ, suc, List, [], ◌∷◌, Option, Some, None, String, string_bytes, if◌then◌else◌}
 use Rattle.std.specs.declared.alloc.Global.{Global}

@@ -31,13 +31,13 @@ PartsHaveSizesOfShape shapes (parts.Record r) =
     HasSizeOfShape (made.Record r.now) (entry_shape shapes (made.Record r.now))
 PartsHaveSizesOfShape shapes parts.Faulty = Unit {0}
 
--- returns whether there is an entry and it is an array's
+-- returns whether an entry is given (not None) and belongs to an array type
 abbrev pub is_array_entry : Option TypeEntry → Bool
 is_array_entry None = false
 is_array_entry (Some (made.Array a)) = true
 is_array_entry (Some (made.Record r)) = false
 
--- returns whether there is an entry and it is a record's
+-- returns whether an entry is given (not None) and belongs to a record type
 abbrev pub is_record_entry : Option TypeEntry → Bool
 is_record_entry None = false
 is_record_entry (Some (made.Array a)) = false

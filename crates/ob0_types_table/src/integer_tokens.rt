@@ -1,4 +1,4 @@
-//! Returns the values of integer tokens.
+//! Finds the values of integer tokens.
 
 ghost use Rattle.std.specs.Prelude.{◌≡◌, ◌≤◌, pos};
 ghost use Rattle.ob0_tree.specs.TokenIndexLeaves.{token_value_at, integer_value_or_zero};

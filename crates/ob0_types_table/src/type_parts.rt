@@ -3,9 +3,8 @@
 //! The parts of an array or record include how many scalars and how many levels of arrays and
 //! records it has (`PartsHaveSizesOfShape`). The parts of a `TypeId` are `Faulty` exactly if the
 //! `TypeId` isn't one of the module's types (`is_known_type`). A faulty type also has a shape
-//! (`faulty_shape`), but with an ordinal that no word ARRAY or RECORD of a text has. So if a
-//! contract says that a function's result has the shape of a module's type, the result isn't
-//! `TypeId::Unknown`.
+//! (`faulty_shape`), whose ordinal no word ARRAY or RECORD of a text has. So if a contract says
+//! that a function's result has the shape of a module's type, the result isn't `TypeId::Unknown`.
 
 ghost use Rattle.std.specs.Prelude.{◌≡◌};
 ghost use Rattle.ob0_types_table.specs.TypeWithParts.{PartsHaveSizesOfShape, is_not_faulty, is_known_type, shape_of_type_with_parts};

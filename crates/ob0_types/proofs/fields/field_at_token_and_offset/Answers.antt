@@ -19,7 +19,7 @@ by_kind true touches o h = refl
 by_kind false true o h = sym (h refl)
 by_kind false false o h = refl
 
--- the token that the text has at this index
+-- If a list has the item `t` at the index `j`, a lookup of `j` with any default returns `t`.
 read : (ts : List Token) (j : ℕ) (t : Token) → slice_get ts j ≡ Some t → (d : Token) → get_or ts j d ≡ t
 read [] j t e = absurd (cc)
 read (x ∷ ts) zero t e = λ d. some_inverse e
@@ -38,7 +38,8 @@ module _ (r : Resolution) (token offset : ℕ) (t : Token) (there : slice_get r.
       (other_kind_none r.module_read.source.tokens token t (field_identifiers r) (fields_are_identifiers r is) (read r.module_read.source.tokens token t there))
       ∙ ap (λ o. if is_in_span_or_at_end offset (span_or_empty o) then field_at_token token (field_identifiers r) else None) (sym there)
 
--- The code looks in the tokens of the module's text.
+-- If the code's tokens are the text's, the token that the code finds at an index is the text's
+-- token there.
 there : (r : Resolution) (ts : List Token) (token : ℕ) (t d : Token) → ts ≡ r.module_read.source.tokens → token < length ts → t ≡ get_or ts token d → slice_get r.module_read.source.tokens token ≡ Some t
 there r ts token t d same less found = ap (λ us. slice_get us token) (sym same) ∙ (slice_get_inside ts token d less ∙ ap Some (sym found))
 
@@ -61,7 +62,7 @@ returns-else-is_identifier_at_offset c =
     ap (λ b. if b then field_at_token c.args.token (field_identifiers r) else None) (sym (sym c.is_identifier_at_offset.ensures ∙ c.if-is_identifier_at_offset.false))
     ∙ value r c.args.token c.args.offset c.in-Some.found.now inside c.resolved.ensures.well_typed.resolved.parsed
 
--- If there is no such token, no field is at it.
+-- If the text has no token with this index, no field is found there.
 pub returns-in_default : goal.returns-in_default
 returns-in_default c =
     let r = c.args.well_typed.now in

@@ -8,7 +8,8 @@ use Rattle.ob0_types_fields.specs.IdentifierOwners.{fields_with_owners, meanings
 use Rattle.ob0_types_fields.specs.FieldIdentifiers.{field_identifiers, field_tokens_in_module, tokens_of_field}
 use Rattle.ob0_types_fields.proofs.OwnersByToken.{tokens}
 
--- The walk over the module finds all fields: names mean the declared objects, by the table.
+-- The walk over the module finds all tokens of the field, because the table gives each name its
+-- declared object.
 value : (c : goal.In_ok-tokens) → c.in_ok-tokens.tokens.items ≡ field_tokens_in_module c.args.well_typed.now c.args.owner c.args.name.now
 value c =
     let r = c.args.well_typed.now in

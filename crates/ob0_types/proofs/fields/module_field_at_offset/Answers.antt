@@ -36,7 +36,8 @@ module _ (r : Resolution) (parsed : TreeMatchesText r.module_read) (source : Tex
   at_none : length r.module_read.source.tokens ≤ k → module_field_at_offset r offset ≡ None
   at_none past = none_found r.module_read.source is_scan offset k splits 0 (field_identifiers r) (fields_ascend r parsed) past
 
--- What the search returns is one of the text's identifiers, because every field is.
+-- The field identifier that the search returns is an identifier of the text, because every field
+-- identifier is.
 is_one : (r : Resolution) (offset : ℕ) (found : Option FieldIdentifier) → TreeMatchesText r.module_read → found ≡ module_field_at_offset r offset → IfSome found (λ x. IsIdentifierToken r.module_read.source.tokens x.token)
 is_one r offset found parsed same =
     subst (λ o. IfSome o (λ x. IsIdentifierToken r.module_read.source.tokens x.token)) (sym same) (field_is_identifier r.module_read.source r.module_read.source.tokens offset (field_identifiers r) (fields_are_identifiers r parsed))
