@@ -9,7 +9,8 @@ use Rattle.ob0_types_fields.specs.OwnerTables.{RenamingFollowsOwners, renaming_b
 use Rattle.ob0_language_fields.specs.RenamedFields.{rename_fields_in_module}
 use Rattle.ob0_language_fields.specs.SingleFieldRenaming.{single_field_renaming}
 
--- returns the spelling of a field of the record `k` after one field was renamed
+-- returns the name of the field `x` of the record `k` after the field `f` of the record `r` was
+-- renamed to `new`
 abbrev in_record : ℕ → Name → Name → ℕ → Name → Name
 in_record r f new k x = if (k == r) && same_name x f then new else x
 

@@ -112,7 +112,8 @@ heading_grows k ps qs env =
     let mid : TypeEnvironment Label = bind_procedure (declared k) qs env in
     grown_then k (suc k) (ordinal_after_names (suc k) (typed_names ps)) env mid (bind_typed_parameters (label_typed (suc k) ps) mid) (grown_one k _ env) (parameters_grow (suc k) ps mid)
 
--- To declare a block's constants and types together is to declare its constants and then its types.
+-- If declaring a block's constants and types together succeeds, declaring its constants and then
+-- its types succeeds with the same result.
 firsts : (env : TypeEnvironment Label) (j : ℕ) (b : Tree Label block) (after : TypeEnvironment Label) → declare_constants_and_types naming_by_label env j b ≡ Some after
     → (mid : TypeEnvironment Label) × (declare_constants naming_by_label env (block_constants b) ≡ Some mid) × (declare_types naming_by_label mid j (block_types b) ≡ Some after)
 unfolding declare_constants_and_types

@@ -49,7 +49,8 @@ module _ (r : Resolution) where
   TypesAreTyped end = Unit {0}
   TypesAreTyped (more (declares_type x u) ds) = ((s : Shape) × (meaning.object_for x ≡ Some (a_type s)) × Denotes u s) × TypesAreTyped ds
 
-  -- holds if the first of the names that are declared together in each group has the group's type
+  -- holds if, in each group of variables, the first name has the type that the group's written type
+  -- denotes
   abbrev pub VariablesAreTyped : Tree ℕ (items variable) → Type 0
   VariablesAreTyped end = Unit {0}
   VariablesAreTyped (more (declares_variable ns u) gs) = ((s : Shape) × (meaning.object_for (first_listed_name ns) ≡ Some (a_variable s)) × Denotes u s) × VariablesAreTyped gs
@@ -73,8 +74,8 @@ module _ (r : Resolution) where
     pub ProcedureIsTyped : Tree ℕ (item procedure) → Type 0
     ProcedureIsTyped (declares_procedure x fs b closing) = FormalsAreTyped (formal_parameter_sections fs) × BlockIsTyped b
 
-  -- Holds if bindings are put before an environment, and a property follows if each of them has the object of its
-  -- ordinal.
+  -- Holds if `after` is some bindings followed by the environment `env`, and `P` follows if each of
+  -- these bindings has the object of its ordinal.
 
   record Put (env after : TypeEnvironment Label) (P : Type 0) : Type 0 where
     pub bound : TypeEnvironment Label
@@ -182,7 +183,8 @@ module _ (r : Resolution) where
       let one : TypeEnvironment Label = (x, a_variable f.shape) ∷ [] in
       (right_split objects (bind_typed_parameters ps []) one (subst (Right objects) (bind_typed_parameters-append ps [] one) right)).1.0
 
-  -- A section of parameters has its types if the later sections have theirs.
+  -- If the parameters of the later sections have the types that their sections denote, the first
+  -- parameter of this section also has.
   section-typed : (env : TypeEnvironment Label) (k : ℕ) (mode : ParameterMode) (x : ℕ) (others : List Label) (u : Tree ℕ written_type) (fs : Tree ℕ (items section_after_semicolon)) (qs : List (TypedParameter Label))
       → option_and_then
       (λ s. option_and_then (λ rest. Some (map (parameter_of mode s) (label_at_token r x ∷ others) ++ rest))

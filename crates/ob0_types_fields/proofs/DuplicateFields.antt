@@ -1,5 +1,6 @@
--- Another field of a record has a name exactly if a token declares a field of the record with it. The names that the
--- named module declares are the spellings of the tokens that the module declares.
+-- Another field of a record has a name exactly if a token declares a field with this name in the
+-- record. The field names in the named tree are the spellings of the tokens that declare the
+-- fields.
 use Rattle.ob0_tree.proofs.MappedIdentifiers.{beside_role, identifiers-mapped_tree}
 use Rattle.ob0_tree.specs.declared.tree.Role.{Role}
 use Rattle.ob0_tree.specs.declared.tree.Role.TheVariants as role

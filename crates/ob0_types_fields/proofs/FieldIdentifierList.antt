@@ -170,7 +170,7 @@ renaming_changes_field_tokens-holds r k f new named fits =
     renaming_follows_owners-holds m table k f new (table_with_entered_owners_is_owner_table-holds r named fits)
     ∙ (λ j. mapped_tree (λ i. if among i j then new else token_text_at m.source i) (token_value_at m.source) (tree_of m))
 
--- The field identifier at a place is one of the text's identifiers.
+-- A field that is found at an offset is an identifier token of the text if all listed fields are.
 pub field_is_identifier : (source : TextWithTokens) (ts : List Token) (offset : ℕ) (xs : List FieldIdentifier) → AreIdentifierTokens ts (token_indexes xs) → IfSome (field_at_offset source offset xs) (λ x. IsIdentifierToken ts x.token)
 field_is_identifier source ts offset [] identified = tt
 field_is_identifier source ts offset (x ∷ xs) identified = one (is_in_span_or_at_end offset (token_span source x.token)) identified.0 (field_is_identifier source ts offset xs identified.1)

@@ -1,5 +1,6 @@
--- A walk that visits the fields of one part and then of another visits the fields of both. A loop over the items of
--- a list keeps one fact: visiting the rest in the present state is visiting all items in the initial state.
+-- A walk that visits the fields of one part and then of another visits the fields of both. A loop
+-- over a list keeps one fact: visiting the remaining items from the present state gives the same
+-- state as visiting all items from the initial state.
 use Rattle.ob0_language_names.specs.Names.{Name}
 use Rattle.ob0_tree.proofs.MappedIdentifiers.{beside_role, identifiers-mapped_tree}
 use Rattle.ob0_tree.proofs.Mapped.{mapped_twice}
@@ -29,7 +30,8 @@ pub on_ok : {A E P Q : Type 0} (r : Result A E) → OnOk r P → (P → Q) → O
 on_ok (Ok a) p f = f p
 on_ok (Err e) p f = tt
 
--- Visiting two lists of fields one after the other is visiting their concatenation.
+-- Visiting two lists of fields one after the other gives the same state as visiting their
+-- concatenation.
 pub then_visited : {S : Type 0} (step : FieldIdentifier → S → S) (start : S) (a b : List (Role × (ℕ × Option ℕ))) {first : S} → first ≡ state_after_identifiers step a start → state_after_identifiers step b first ≡ state_after_identifiers step (a ++ b) start
 then_visited step start a b e = ap (state_after_identifiers step b) e ∙ sym (visited_append step a b start)
 
@@ -37,7 +39,8 @@ pub four_visited : {S : Type 0} (step : FieldIdentifier → S → S) (start : S)
     → state_after_identifiers step d third ≡ state_after_identifiers step (a ++ (b ++ (c ++ d))) start
 four_visited step start a b c d {first = first} {second = second} e f g = then_visited step second c d g ∙ (then_visited step first b (c ++ d) f ∙ then_visited step start a (b ++ (c ++ d)) e)
 
--- The visitor visits the identifiers that have owners: the fields among them.
+-- Visiting the identifiers that have owners gives the same state as visiting the field identifiers
+-- among them.
 pub fields_visited : {S : Type 0} (step : FieldIdentifier → S → S) (xs : List (Role × (ℕ × Option ℕ))) (s : S) → state_after_identifiers step xs s ≡ state_after_fields step (fields_with_owners xs) s
 fields_visited step [] s = refl
 fields_visited step ((_, (x, None)) ∷ xs) s = fields_visited step xs s
@@ -45,7 +48,8 @@ fields_visited step ((_, (x, Some k)) ∷ xs) s = fields_visited step xs (step (
 
 -- ---- loops over items that select fields
 
--- Only a selector changes the type of the designator before the next item.
+-- With no known type before them, the identifiers of a list of items are the first item's
+-- identifiers and then the other items' identifiers.
 items_more : {P : Type 0} {i : GrammarItem} (m : Meanings ℕ Shape P) (t : Tree ℕ (item i)) (rest : Tree ℕ (items i)) → selected_identifiers m None (more t rest) ≡ selected_identifiers m None t ++ selected_identifiers m None rest
 items_more m t rest = ap (λ o. selected_identifiers m None t ++ selected_identifiers m o rest) (unknown t)
   where
@@ -124,7 +128,8 @@ further_listed (x ∷ xs) = ap (λ z. x ∷ z) (further_listed xs)
 pub visits_nothing : {S : Type 0} (step : FieldIdentifier → S → S) (k : ℕ) (s : S) → VisitsDeclarations step [] 0 k k s s
 visits_nothing step k s = record { counted = λ fits. omega arith; visited = λ fits. refl }
 
--- The fields of the second part depend on the number of words before it.
+-- If a walk visits one part and then another, it visits both parts as one. The fields of the second
+-- part depend on the number of words ARRAY and RECORD before it.
 pub visits_both : {S : Type 0} {step : FieldIdentifier → S → S} {xs : List (Role × (ℕ × Option ℕ))} (f : ℕ → List (Role × (ℕ × Option ℕ))) {a b k j i : ℕ} {s t u : S}
     → VisitsDeclarations step xs a k j s t → VisitsDeclarations step (f j) b j i t u → VisitsDeclarations step (xs ++ f (k + a)) (a + b) k i s u
 visits_both {step = step} {xs = xs} f {a = a} {b = b} {k = k} {j = j} {i = i} {s = s} {t = t} v w =
@@ -140,7 +145,8 @@ pub visits_as : {S : Type 0} {step : FieldIdentifier → S → S} {xs ys : List 
 visits_as {step = step} {a = a} {k = k} {j = j} {s = s} e f v =
     record { counted = λ fits. let at : j ≡ k + a = v.counted (omega (arith, fits, f)) in omega (arith, at, f); visited = λ fits. v.visited (omega (arith, fits, f)) ∙ ap (λ l. state_after_identifiers step l s) e }
 
--- A part without words, visited first or last, leaves the count unchanged.
+-- A part without words ARRAY and RECORD can be visited before or after another part: it leaves the
+-- count unchanged.
 pub visits_before : {S : Type 0} {step : FieldIdentifier → S → S} (xs : List (Role × (ℕ × Option ℕ))) {ys : List (Role × (ℕ × Option ℕ))} {b k i : ℕ} {s t u : S}
     → t ≡ state_after_identifiers step xs s → VisitsDeclarations step ys b k i t u → VisitsDeclarations step (xs ++ ys) b k i s u
 visits_before {step = step} xs {ys = ys} {s = s} e w = record { counted = w.counted; visited = λ fits. w.visited fits ∙ then_visited step s xs ys e }
@@ -149,7 +155,8 @@ pub visits_after : {S : Type 0} {step : FieldIdentifier → S → S} {xs : List 
     → VisitsDeclarations step xs a k j s t → u ≡ state_after_identifiers step ys t → VisitsDeclarations step (xs ++ ys) a k j s u
 visits_after {step = step} {xs = xs} ys {s = s} v e = record { counted = v.counted; visited = λ fits. e ∙ then_visited step s xs ys (v.visited fits) }
 
--- A word ARRAY or RECORD precedes the part that is visited next.
+-- If a walk counts a word ARRAY or RECORD and then visits the part after it, it visits the part
+-- that includes this word.
 pub visits_word : {S : Type 0} {step : FieldIdentifier → S → S} (f : ℕ → List (Role × (ℕ × Option ℕ))) {c k j i : ℕ} {s t : S} → j ≡ min (k + 1) (2 ^ 64 - 1) → VisitsDeclarations step (f j) c j i s t → VisitsDeclarations step (f (suc k)) (suc c) k i s t
 visits_word {step = step} f {c = c} {k = k} {j = j} {i = i} {s = s} e w =
     record {
@@ -166,7 +173,8 @@ pub record OverDeclarations {S A : Type 0} {g : GrammarItem} (step : FieldIdenti
   pub counted : k + count (items_of f xs) < 2 ^ 64 → j + count (items_of f (drop done xs)) ≡ k + count (items_of f xs)
   pub visited : k + count (items_of f xs) < 2 ^ 64 → state_after_identifiers step (fields j (items_of f (drop done xs))) now ≡ state_after_identifiers step (fields k (items_of f xs)) start
 
--- `one` gives the fields of the next declaration, and `c` is the number of its words.
+-- After a visit of the next declaration, `OverDeclarations` still holds. `one` gives this
+-- declaration's fields, and `c` is the number of its words ARRAY and RECORD.
 pub declaration_visited : {S A : Type 0} {g : GrammarItem} {step : FieldIdentifier → S → S} (f : A → Tree ℕ (item g)) (fields : ℕ → Tree ℕ (items g) → List (Role × (ℕ × Option ℕ))) (count : Tree ℕ (items g) → ℕ) {k : ℕ} {start : S} {xs : List A} {done j : ℕ} {now : S}
     (x : A) (one : ℕ → List (Role × (ℕ × Option ℕ))) (c : ℕ) {next : ℕ} {last : S}
     → ((n : ℕ) (rest : Tree ℕ (items g)) → fields n (more (f x) rest) ≡ one n ++ fields (n + c) rest) → ((rest : Tree ℕ (items g)) → count (more (f x) rest) ≡ c + count rest)
@@ -194,7 +202,7 @@ declarations_visited {step = step} f fields count {xs = xs} {done = done} {j = j
       visited = λ fits. sym (ap (λ l. state_after_identifiers step l now) (ap (fields j) over ∙ none j)) ∙ w.visited fits;
     }
 
--- Names that are no fields are passed over.
+-- Visiting the names of a part in which no name is a field leaves the state unchanged.
 pub plain_visited : {S : Type 0} {sort : Sort} (step : FieldIdentifier → S → S) (r : Role) (t : Tree ℕ sort) (s : S) → s ≡ state_after_identifiers step (identifiers r (mapped_tree (λ x. (x.0, owner_if_declared x.1)) (λ n. n) (mark_all_names no_field t))) s
 plain_visited {S} step r t s =
     go (identifiers r t)
@@ -209,7 +217,7 @@ pub visits_plain : {S : Type 0} {sort : Sort} {step : FieldIdentifier → S → 
     → VisitsDeclarations step ys b k i s u → VisitsDeclarations step (declared_identifiers (mark_all_names no_field t) ++ ys) b k i s u
 visits_plain {step = step} t {s = s} w = visits_before (declared_identifiers (mark_all_names no_field t)) (plain_visited step role.DeclaringName t s) w
 
--- The names of a group of fields are visited as its fields.
+-- Visiting the names of a group of fields gives the same state as visiting the group's fields.
 further_named : {S : Type 0} (step : FieldIdentifier → S → S) (r : ℕ) (ns : Tree ℕ (items name_after_comma)) (s : S)
     → state_after_fields step (fields_at_tokens r (names_after_first ns)) s ≡ state_after_identifiers step (identifiers role.FieldName (mapped_tree (λ x. (x.0, owner_if_declared x.1)) (λ n. n) (mark_all_names (declares_field r) ns))) s
 further_named step r end s = refl
@@ -234,7 +242,8 @@ section_alike text k t = ap (identifiers role.DeclaringName) (declared_alike tex
 pub plain_alike : {sort : Sort} (text : ℕ → Name) (t : Tree ℕ sort) → declared_identifiers (mark_all_names no_field t) ≡ owned_identifiers text (mark_all_names no_field t)
 plain_alike text t = ap (identifiers role.DeclaringName) (declared_alike text role.DeclaringName (mark_all_names no_field t) (none-declares role.DeclaringName t))
 
--- A procedure's own name and its closing name are no fields.
+-- If a walk visits a procedure's parts, it also visits the procedure with its name and closing
+-- name, because these names are no fields.
 pub visits_named : {S : Type 0} {step : FieldIdentifier → S → S} (x closing : ℕ) (xs ys : List (Role × (ℕ × Option ℕ))) {a k j : ℕ} {s t : S}
     → VisitsDeclarations step (xs ++ ys) a k j s t → VisitsDeclarations step ((role.DeclaringName, (x, None)) ∷ (xs ++ (ys ++ ((role.ClosingName, (closing, None)) ∷ [])))) a k j s t
 visits_named {step = step} x closing xs ys {s = s} v =
@@ -246,7 +255,8 @@ visits_named {step = step} x closing xs ys {s = s} v =
           ∙ ap (λ z. state_after_identifiers step z s) (append_assoc xs ys ((role.ClosingName, (closing, None)) ∷ [])));
     }
 
--- The length of an array has no fields.
+-- If a walk visits an array's element type, it visits the array type, because the length has no
+-- fields.
 pub visits_array : {S : Type 0} {step : FieldIdentifier → S → S} {e : Tree ℕ expression} {u t : Tree ℕ written_type} {b k i : ℕ} {s v : S}
     → array_type e u ≡ t → VisitsDeclarations step (section_identifiers (suc k) u) b k i s v → VisitsDeclarations step (section_identifiers k t) b k i s v
 visits_array {e = e} {k = k} same w = visits_as (ap (section_identifiers k) same) refl (visits_plain e w)

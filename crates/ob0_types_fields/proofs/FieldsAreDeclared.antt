@@ -1,5 +1,5 @@
--- The field of each identifier in a well-typed module is declared by its record: the identifiers that declare fields are
--- declared, so the selected fields are.
+-- Each field identifier in a well-typed module belongs to a field that its record declares. This is
+-- true for the identifiers that declare fields, so it is also true for the selected fields.
 use Rattle.std.proofs.Common.{◌≡◌, ℕ, ◌==◌, Bool, true, false, ◌&&◌, if◌then◌else◌, List, [], ◌∷◌, map, is_some, Some, None, Option, refl, sym, ap, ◌∙◌, subst, eq-eqb}
 use Rattle.std.proofs.lemmas.List.Elements.{All-cons, All-nil}
 use Rattle.std.proofs.lemmas.Slice.Eq.{bytes_eq-Decides}
@@ -41,7 +41,7 @@ module _ (source : TextWithTokens) where
       ap (λ b. is_some (first_token (if b then i ∷ tokens_of_field source k (text i) xs else tokens_of_field source k (text i) xs)))
       (λ j. eq-eqb k k refl j && (bytes_eq-Decides (text i) (text i)).1 refl j)
 
-  -- returns the declared fields among used tokens, and all fields
+  -- `declared_among` returns the declared fields among used tokens, and `among` returns all fields.
   abbrev declared_among : List (Role × UsedName ℕ) → List FieldIdentifier
   declared_among xs = fields_with_owners (map (beside_role (λ x. (x.0, owner_if_declared x.1))) xs)
 
@@ -58,7 +58,8 @@ module _ (source : TextWithTokens) where
   token_further y xs (i, selects_field s) h =
       record { ordinal = h.ordinal; declared = h.declared; found = h.found; from_record = h.from_record; typed = h.typed; known = listed_further y xs h.ordinal (text i) h.known }
 
-  -- Each declared field is among the declared fields.
+  -- If no field is selected in a list of used tokens, each field of these tokens is among the
+  -- declared fields.
   declared_listed : (xs : List (Role × UsedName ℕ)) → EachName IsDeclaration xs → EachName (ListedToken (declared_among xs)) xs
   declared_listed [] d = tt
   declared_listed ((_, (i, no_field)) ∷ xs) d = (tt, declared_listed xs d.1)

@@ -1,6 +1,6 @@
--- Each identifier in the place of a field of a well-typed module is one of its fields. The proof rewrites all fields. A
--- table of owners rewrites the identifiers with an owner, and the definition of rewriting rewrites each identifier in
--- the place of a field.
+-- In a well-typed module, exactly the identifiers in the places of fields have owners. The proof
+-- renames all fields. A table of owners renames the identifiers with an owner, and the definition
+-- of renaming renames each identifier in the place of a field.
 use Rattle.std.proofs.Common.{◌≡◌, ℕ, suc, ◌+◌, true, ◌&&◌, List, [], ◌∷◌, ◌++◌, map, length, Some, None, Option, option_and_then, option_map, unwrap_or, refl, sym, ap, ◌∙◌, subst, arith}
 use Rattle.ob0_scan.specs.TextWithTokens.{TextWithTokens}
 use Rattle.ob0_tree.specs.declared.tree.Role.{Role}
@@ -149,7 +149,7 @@ constant-scalar (Some (a_variable t)) s h = absurd (cc)
 constant-scalar (Some (a_procedure t)) s h = absurd (cc)
 constant-scalar (Some (a_standard_procedure t)) s h = absurd (cc)
 
--- returns the meanings with constants only
+-- returns the meanings of names in constant expressions, in which only constants have a meaning
 abbrev alone : TypeMeanings Name → Meanings Name Shape (Unit {0})
 alone m = meanings_in_constant_expressions m
 

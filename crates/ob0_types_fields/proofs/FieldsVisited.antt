@@ -1,4 +1,4 @@
--- What the visitors of fields have found once they have visited the fields of a list.
+-- Proves what the visitors of fields have found after they have visited the fields of a list.
 use Rattle.std.proofs.Common.{◌≡◌, ℕ, ◌+◌, ◌-◌, ◌^◌, ◌<◌, ◌≤◌, ◌==◌, ◌&&◌, Bool, true, false, if◌then◌else◌, List, [], ◌∷◌, ◌++◌, length, min, Option, Some, None, option_map, refl, sym, ap, ◌∙◌, arith, append-nil, append_assoc}
 use Rattle.std.proofs.Math.Nat.{min-eq_left}
 use Rattle.std.specs.List.{position_from}
@@ -56,7 +56,8 @@ module _ (f : NamedField) where
   abbrev visited : ℕ → List FieldIdentifier → Option DeclaredField
   visited i xs = (state_after_fields declared_search_after_field xs (seeking i None)).found
 
-  -- holds if a search that has passed `i` fields of the record finds the first field with the name among these fields
+  -- holds if `found` is the place of the first field in the list with the name; its position is
+  -- counted from `i`, the number of the record's fields before the list
   abbrev Finds : ℕ → List FieldIdentifier → Option DeclaredField → Type 0
   Finds i xs found = (option_map declared_token found ≡ first_token (tokens_of_field source f.owner name xs)) × (option_map declared_index found ≡ position_from named i (field_tokens_of_record f.owner xs))
 

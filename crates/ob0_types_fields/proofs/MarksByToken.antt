@@ -77,7 +77,8 @@ opened noted j k below b h =
       fits = ap (λ e. procedures_and_body_are_well_typed naming_by_label e (constructor_count_before_procedures j b') (block_statements b') (block_procedures b')) same ∙ parts.2;
     }
 
--- the parts of a procedure that fits, with its name and parameters
+-- states the facts about the parts of a procedure that fits: its bindings, its block, and the later
+-- procedures with the body
 pub record FitParts (env : TypeEnvironment Label) (j : ℕ) (statements : Tree Label (maybe body)) (x : Label) (fs : Tree Label (maybe formals)) (b : Tree Label block) (closing : Label) (rest : Tree Label (items procedure)) (qs : List (TypedParameter Label)) : Type 0 where
   pub listed : procedure_list_bindings naming_by_label env j (more (declares_procedure x fs b closing) rest)
       ≡ procedure_list_bindings naming_by_label (bind_procedure x qs env) (j + procedure_constructor_count (declares_procedure x fs b closing)) rest ++ (block_bindings naming_by_label (bind_typed_parameters qs (bind_procedure x qs env)) (j + formals_constructor_count (formal_parameter_sections fs)) b ++ bind_typed_parameters qs (bind_procedure x qs []))
@@ -168,7 +169,8 @@ module _ (text : ℕ → Name) (value : ℕ → ℕ) (ordinal : ℕ → Option �
       alike-listed noted right (occurrences st)
       (ap (map look) (sym (occurrences-mapped text text value st)) ∙ (sym (occurrences-mapped look (label_from_ordinal naming_by_spelling None) (λ n. n) (mapped_tree text value st)) ∙ (ap occurrences e ∙ occurrences-mapped label label value st)))
 
-  -- returns the marks of a block, of procedures and of statements by the meanings of tokens, with the tokens' spellings
+  -- `spelled` returns marks with the spelling of each token in place of its index. The other
+  -- functions return the marks of a block and of procedures by the meanings of tokens.
   abbrev spelled : {s : Sort} → Tree (UsedName ℕ) s → Tree (UsedName Name) s
   spelled marks = mapped_tree (with_text text) value marks
 
@@ -199,7 +201,8 @@ module _ (text : ℕ → Name) (value : ℕ → ℕ) (ordinal : ℕ → Option �
   unfolding block_bindings block_is_well_typed
   no-procedures noted j k below statements h = record { descends = le_refl k; last = noted; following = refl; below = below; fits = h; scoped = refl; written = λ right all e. (refl, right) }
 
-  -- A block has its fields rewritten according to the table if its procedures and statements have.
+  -- The number of words ARRAY and RECORD before a block's procedures doesn't depend on the
+  -- representation of names.
   named_count : (j : ℕ) (cs : Tree ℕ (maybe constants)) (ts : Tree ℕ (maybe type_definitions)) (vs : Tree ℕ (maybe variables)) (ps : Tree ℕ (items procedure)) (st : Tree ℕ (maybe body))
       → constructor_count_before_procedures j (mapped_tree text value (forms_block (declares cs ts vs ps) st)) ≡ constructor_count_before_procedures j (forms_block (declares cs ts vs ps) st)
   named_count j cs ts vs ps st = λ i. j + counted_type_section text value ts i + counted_variable_section text value vs i

@@ -83,7 +83,7 @@ module _ {M : Type 0} (f : ℕ → M) (g : ℕ → ℕ) where
     pub counted_procedure : (p : Tree ℕ (item procedure)) → procedure_constructor_count (mapped_tree f g p) ≡ procedure_constructor_count p
     counted_procedure (declares_procedure x fs b closing) = λ i. counted_formals_section fs i + counted_block b i
 
--- returns a used token as a used name
+-- returns a used name with its token replaced by the value of `f` for this token
 abbrev pub with_text : {M : Type 0} → (ℕ → M) → UsedName ℕ → UsedName M
 with_text f x = (f x.0, x.1)
 
@@ -143,7 +143,8 @@ module _ {M : Type 0} (f : ℕ → M) (g : ℕ → ℕ) where
   pub module-mapped : (m : Tree ℕ module_text) → mark_module marking_declarations tt (mapped_tree f g m) ≡ mapped_tree (with_text f) g (mark_module marking_declarations tt m)
   module-mapped (forms_module x b closing) = λ i. forms_module (f x, no_field) (block-mapped 0 b i) (f closing, no_field)
 
--- holds if the spellings of tokens have the types that the tokens have
+-- holds if, for each token in the list, the token and its spelling mean variables or constants of
+-- the same type, or neither means one
 abbrev pub Alike : {P Q : Type 0} → Meanings Name Shape Q → Meanings ℕ Shape P → List ℕ → Type 0
 Alike n m [] = Unit {0}
 Alike n m (x ∷ xs) = (type_of_variable_or_constant (n.object_for (m.written x)) ≡ type_of_variable_or_constant (m.object_for x)) × Alike n m xs

@@ -107,7 +107,7 @@ mapped_each : {N M : Type 0} (P : M → Type 0) (f : N → M) (xs : List (Role �
 mapped_each P f [] h = tt
 mapped_each P f (x ∷ xs) h = (h.0, mapped_each P f xs h.1)
 
--- holds for a token if the property `D` holds for its field, if it is one
+-- holds for a token if it is no field, or if its field has the property `D`
 abbrev pub KnownToken : (ℕ → Name → Type 0) → (ℕ → Name) → UsedName ℕ → Type 0
 KnownToken D text x = KnownName D (text x.0, x.1)
 
@@ -116,7 +116,8 @@ declares-any text (x, no_field) h = tt
 declares-any text (x, declares_field k) h = tt
 declares-any text (x, selects_field s) h = absurd h
 
--- In a well-typed module a property of fields holds for each token if it holds for those that declare fields.
+-- In a well-typed module, a property of fields holds for each token if it holds for each token that
+-- declares a field.
 pub known_tokens : (D : ℕ → Name → Type 0) (r : Resolution) → IsResolution r → WellTyped (named_tree_of r.module_read)
     → EachName (KnownToken D (token_text_at r.module_read.source)) (used_names (mark_module marking_declarations tt (tree_of r.module_read)))
     → EachName (KnownToken D (token_text_at r.module_read.source)) (used_names (marks_in_resolution r))

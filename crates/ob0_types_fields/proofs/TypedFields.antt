@@ -206,12 +206,12 @@ has-next : (t : Option Shape) (made : List (Option Shape)) (k ordinal : ℕ) (x 
 has-next t made k ordinal x h =
     record { place = suc h.place; is_at = omega (arith, h.is_at); within = omega (arith, h.within); typed = h.typed }
 
--- the property of an identifier with an owner, which holds if it has none
+-- states that an identifier has the property `P` if it has an owner
 abbrev Owned : (FieldIdentifier → Type 0) → ℕ → Option ℕ → Type 0
 Owned P x None = Unit {0}
 Owned P x (Some k) = P (record { token = x; owner = k })
 
--- holds if each identifier of a list with an owner has a property
+-- states that each identifier in the list that has an owner has the property `P`
 abbrev EachOwned : (FieldIdentifier → Type 0) → List (Role × (ℕ × Option ℕ)) → Type 0
 EachOwned P [] = Unit {0}
 EachOwned P (x ∷ xs) = Owned P x.1.0 x.1.1 × EachOwned P xs
@@ -230,7 +230,7 @@ each-field P [] a = tt
 each-field P ((_, (x, None)) ∷ xs) a = each-field P xs a.1
 each-field P ((_, (x, Some k)) ∷ xs) a = (a.0, each-field P xs a.1)
 
--- returns the identifiers of a tree without fields
+-- returns the identifiers of a tree in which no name is a field
 abbrev plain : {s : Sort} → Tree ℕ s → List (Role × (ℕ × Option ℕ))
 plain t = declared_identifiers (mark_all_names no_field t)
 

@@ -10,7 +10,7 @@ use Rattle.ob0_language_names.specs.BlockParts.{formal_parameter_sections, modul
 use Rattle.ob0_language_types.specs.Declarations.{block_constructor_count, formals_constructor_count, procedure_constructor_count, procedure_list_constructor_count, types_constructor_count, variables_constructor_count}
 use Rattle.ob0_language_types.specs.Typing.{constructor_count, group_constructor_count, later_groups_constructor_count}
 
--- Each list of the spelling is counted from its end.
+-- If two lists have at least `m` and `n` items, their concatenation has at least `m + n` items.
 both : {A : Type 0} (xs ys : List A) {m n : ℕ} → m ≤ length xs → n ≤ length ys → m + n ≤ length (xs ++ ys)
 both xs ys h g = omega (arith, length-append xs ys, h, g)
 

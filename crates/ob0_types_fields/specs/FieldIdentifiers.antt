@@ -1,5 +1,5 @@
--- Field identifiers: the identifiers that declare or select a field of a record. In the trees of this file, each name
--- is given by the index of its token.
+-- Defines field identifiers: the identifiers that declare or select a field of a record. In the
+-- trees of this file, each name is given by the index of its token.
 -- Rule: docs/PROTOCOL.md, Requests on documents 4 to 6.
 use Rattle.std.specs.Prelude.{◌≡◌, ℕ, ◌+◌, ◌==◌, ◌&&◌, Bool, true, not, is_some, List, [], ◌∷◌, ◌++◌, length, map, Option, Some, None, if◌then◌else◌}
 use Rattle.std.specs.List.{All, list_any, position_from}

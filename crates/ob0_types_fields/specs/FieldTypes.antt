@@ -1,7 +1,7 @@
--- The type that each ARRAY and RECORD of a module constructs, and the field that an identifier
--- belongs to, with the field's type.
--- Rule: docs/LANGUAGE.md, Types 1 (each ARRAY and RECORD makes a separate type);
--- docs/PROTOCOL.md, Requests on documents 4.
+-- Finds the type that each ARRAY and RECORD of a module constructs, and the field that an
+-- identifier belongs to, with the field's type.
+-- Rule: docs/LANGUAGE.md, Types 1 (each ARRAY and RECORD makes a separate type); docs/PROTOCOL.md,
+-- Requests on documents 4.
 use Rattle.std.specs.Prelude.{◌≡◌, ℕ, true, is_some, List, [], ◌∷◌, ◌++◌, get_or, Option, None, option_and_then, option_map}
 use Rattle.std.specs.List.{All}
 use Rattle.ob0_tree.specs.Tree.{Sort, Tree, names, array_type, declares, declares_procedure, declares_type, declares_type_section, declares_variable, declares_var_section, end, forms_block, forms_module, listed, more, none, one, record_type, some_fields, some_formals, semicolon_then_fields, semicolon_then_section, value_section, variable_section}

@@ -1,4 +1,4 @@
--- Definitions for the contracts of the walks that visit the fields of a module or of a part of one.
+-- Defines the state of a visitor after a walk over the fields of a module or of a part of one.
 -- Rule: none; used in contracts of private functions.
 use Rattle.std.specs.Prelude.{◌≡◌, ◌<◌, ◌+◌, ◌^◌, ℕ, List, [], ◌∷◌, Option, None, Some}
 use Rattle.ob0_tree.specs.declared.tree.Role.{Role}
@@ -31,7 +31,8 @@ abbrev pub state_after_fields : {S : Type 0} → (FieldIdentifier → S → S) �
 state_after_fields step [] known = known
 state_after_fields step (x ∷ xs) known = state_after_fields step xs (step x known)
 
--- returns the state of a visitor after an identifier with the owner `o`, which is visited only if it has one
+-- returns the state of a visitor after the identifier at a token, which is visited only if it has
+-- an owner
 abbrev pub state_after_owner : {S : Type 0} → (FieldIdentifier → S → S) → ℕ → Option ℕ → S → S
 state_after_owner step x None known = known
 state_after_owner step x (Some k) known = step (record { token = x; owner = k }) known

@@ -1,6 +1,7 @@
--- The identifiers of a text, in text order, each with its owner. The owner of a field identifier is the ordinal of the
--- field's record: the number of words ARRAY and RECORD before the record. Any other identifier has no owner. In the
--- trees of this file, each name is given by the index of its token.
+-- Lists the identifiers of a text, in text order, each with its owner. The owner of a field
+-- identifier is the ordinal of the field's record: the number of words ARRAY and RECORD before the
+-- record. Any other identifier has no owner. In the trees of this file, each name is given by the
+-- index of its token.
 -- Rule: docs/LANGUAGE.md, Scopes 7.
 use Rattle.std.specs.Prelude.{◌≡◌, ℕ, suc, ◌+◌, List, [], ◌∷◌, ◌++◌, map, Some, None, Option, option_and_then, option_map, length, replicate, set}
 use Rattle.ob0_tree.specs.declared.tree.Role.{Role}
@@ -29,8 +30,9 @@ abbrev pub owner : Option Shape → Name → Option ℕ
 owner None x = None
 owner (Some s) x = option_map (λ f. f.ordinal) (selected_field s x)
 
--- Returns the owner of an identifier with the use `u` and the spelling `x`. The result is None if it is no field, or if
--- it selects a field from an unknown type or from one without this field.
+-- Returns the owner of an identifier with the use `u` and the spelling `x`. The result is None if
+-- the identifier is no field. It is also None if it selects a field from an unknown type, or from a
+-- type without this field.
 abbrev pub owner_of_use : NameUse → Name → Option ℕ
 owner_of_use no_field x = None
 owner_of_use (declares_field k) x = Some k

@@ -1,5 +1,5 @@
--- Tables that give the record of each field identifier of a text. The index into a table is the
--- index of the identifier's token.
+-- Defines tables that give the record of each field identifier of a text. The index into a table is
+-- the index of the identifier's token.
 -- Rule: none; used in contracts about the records of field identifiers.
 use Rattle.std.specs.Prelude.{◌≡◌, ℕ, Bool, ◌&&◌, List, Option, Some, None, if◌then◌else◌}
 use Rattle.ob0_scan.specs.TextWithTokens.{TextWithTokens}

@@ -1,5 +1,5 @@
--- The search for the ARRAY or RECORD with a given ordinal among all such words of a module, in text
--- order.
+-- Defines the search for the ARRAY or RECORD with a given ordinal among all such words of a module,
+-- in text order.
 -- Rule: none; used in contracts of private functions.
 use Rattle.std.specs.Prelude.{ℕ, ◌-◌, ◌==◌, List, [], ◌∷◌, Option, None, option_map, if◌then◌else◌}
 use Rattle.ob0_language_types.specs.Expressions.{Meanings}

@@ -1,9 +1,9 @@
-//! Visitors of field identifiers. A walk over a module, or over a part of one, gives each field
-//! identifier to a visitor and keeps no list.
+//! Defines the visitors of field identifiers. A walk over a module, or over a part of one, gives
+//! each field identifier to a visitor and keeps no list.
 //!
-//! Each `FieldVisitor` defines a ghost function `state_after_one_field`, which returns the visitor's
-//! state after the visit of one field identifier. A walk over a part of the tree applies this
-//! function to each field identifier of the part, in text order (`state_after_fields`).
+//! Each `FieldVisitor` defines a ghost function `state_after_one_field`, which returns the
+//! visitor's state after the visit of one field identifier. A walk over a part of the tree applies
+//! this function to each field identifier of the part, in text order (`state_after_fields`).
 //!
 //! A search can't fail, so its type of errors has no values (`Infallible`). Only the visitor that
 //! collects tokens allocates memory.
@@ -112,8 +112,8 @@ impl<'s> FieldVisitor for DeclaredFieldSearch<'s> {
 impl<'s> DeclaredFieldSearch<'s> {
     ghost use Rattle.ob0_types_fields.specs.FieldVisitors.{declared_search_after_token};
 
-    /// Notes a field of the record, given its declaring token. If it has the name that is searched
-    /// for, it is found. Otherwise it counts as one more field before that one.
+    /// Updates the search for one more field of the record, given its declaring token. If the field
+    /// has the name that is searched for, it is found. Otherwise `index` grows by 1.
     fn note_field_of_record(&mut self, token: usize)
         ensures { self.new ≡ declared_search_after_token token self.old }
     {

@@ -1,7 +1,7 @@
-//! Laws about the fields of a module: their owners, declarations, types and renaming. The owner of
-//! a field identifier is the ordinal of its record: the number of words ARRAY and RECORD before the
-//! record. An owner table gives the owner of each token (`IsOwnerTable`). Each function does
-//! nothing; its contract is the law.
+//! States laws about the fields of a module: their owners, declarations, types and renaming. The
+//! owner of a field identifier is the ordinal of its record: the number of words ARRAY and RECORD
+//! before the record. An owner table gives the owner of each token (`IsOwnerTable`). Each function
+//! does nothing; its contract is the law.
 
 ghost use Rattle.ob0_types_fields.specs.FieldTypes.{FieldsHaveTypes};
 ghost use Rattle.ob0_types_fields.specs.FieldIdentifiers.{DuplicateFieldNameHasDeclaringToken, FieldsAreDeclared, FieldsMatchGrammar, RenamingChangesFieldTokens};

@@ -13,7 +13,8 @@ use Rattle.ob0_types_fields.specs.FieldWalks.{VisitsDeclarations, state_after_fi
 use Rattle.ob0_types_fields.specs.FieldIdentifiers.{declared_fields, identifiers_declared_in_block}
 use Rattle.ob0_types_fields.proofs.FieldVisits.{fields_visited, on_ok, visited_append, visits_as}
 
--- The words of a module can be counted, so its declarations are visited as a whole.
+-- A walk over a module's declarations visits all its declared fields, because the module's words
+-- ARRAY and RECORD can be counted in 64 bits.
 declared_visited : {S : Type 0} {step : FieldIdentifier → S → S} {s t : S} {after : ℕ} (p : ParsedModule) {b : Block} → b ≡ p.block → block_constructor_count (module_block (tree_of p)) < 2 ^ 64
     → VisitsDeclarations step (identifiers_declared_in_block 0 (block_of b)) (block_constructor_count (block_of b)) 0 after s t → t ≡ state_after_fields step (declared_fields p) s
 declared_visited {step = step} {s = s} p same few v =

@@ -12,7 +12,8 @@ use Rattle.ob0_language_fields.specs.MarkedFields.{declares_field, mark_all_name
 use Rattle.ob0_types_fields.specs.IdentifierOwners.{group_identifiers, owner, owner_if_declared, section_identifiers}
 use Rattle.ob0_types_fields.proofs.FieldVisits.{declaration_visited, declarations_visited, group_named, on_ok, visits_array, visits_as, visits_before, visits_nothing, visits_word}
 
--- The groups of a record follow one another, and the first one has no semicolon before it.
+-- The identifiers of a record's groups, in order, are the identifiers of the record type, whose
+-- first group has no semicolon before it.
 groups_listed : (k : ℕ) (fs : List OptionalFieldGroup) → group_identifiers k (suc k) (items_of field_group_after_semicolon_of fs) ≡ section_identifiers k (record_type_of_list fs)
 groups_listed k [] = refl
 groups_listed k (f ∷ fs) = refl

@@ -22,7 +22,7 @@ visit_block_fields-loop-p-preserved g t c =
     declaration_visited procedure_of (procedures_identifiers m) procedure_list_constructor_count c.p-item.result (λ n. procedure_identifiers m n p) (procedure_constructor_count p)
     (λ n rest. refl) (λ rest. refl) c.loop-p.invariant c.loop-p-test.true c.p-item.is c.in_ok-visit_procedure_fields.ensures
 
--- The parts of a block are visited one after another.
+-- If a walk visits the parts of a block one after another, it visits the block.
 block_visited : {S : Type 0} {step : FieldIdentifier → S → S} (m : Meanings ℕ Shape Signature) (b : Block) {k j i n done : ℕ} {s t u v w : S} {xs : List Procedure}
     → VisitsDeclarations step (section_identifiers k (type_section_of (out-Block b).types)) (types_constructor_count (section_types (type_section_of (out-Block b).types))) k j s t
     → VisitsDeclarations step (section_identifiers j (variable_section_of (out-Block b).variables)) (variables_constructor_count (section_variables (variable_section_of (out-Block b).variables))) j i t u

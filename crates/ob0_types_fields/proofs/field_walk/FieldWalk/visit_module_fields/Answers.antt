@@ -15,7 +15,8 @@ use Rattle.ob0_types_fields.specs.IdentifierOwners.{block_identifiers, module_id
 use Rattle.ob0_types_fields.specs.FieldWalks.{VisitsDeclarations, field_walk_meanings, state_after_identifiers}
 use Rattle.ob0_types_fields.proofs.FieldVisits.{on_ok, visited_append, visits_as}
 
--- The words of a module can be counted, so its block is visited as a whole.
+-- A walk over a module's block visits all field identifiers of the module, because the module's
+-- words ARRAY and RECORD can be counted in 64 bits.
 module_visited : {S : Type 0} {step : FieldIdentifier → S → S} {s t : S} {after : ℕ} (m : Meanings ℕ Shape Signature) (p : ParsedModule) {b : Block} → b ≡ p.block → block_constructor_count (module_block (tree_of p)) < 2 ^ 64
     → VisitsDeclarations step (block_identifiers m 0 (block_of b)) (block_constructor_count (block_of b)) 0 after s t → t ≡ state_after_identifiers step (module_identifiers m (tree_of p)) s
 module_visited {step = step} {s = s} m p same few v =
