@@ -118,7 +118,8 @@ added_bindings-ordered k n noted all s = record {
   in_order = s.in_order;
 }
 
--- Splits the bindings after a block's constants, types and variables into theirs and the rest.
+-- Splits the bindings after a block's constants, types and variables into the bindings of these
+-- declarations and the older bindings.
 opened : (noted all : TypeNoted Name) (k : ℕ) (b : Tree Name block) → typed_scope all ≡ scope_before_procedures k b (typed_scope noted) → Split k (first_procedure_ordinal k b) (typed_scope noted) all
 opened noted all k (forms_block (declares cs ts vs ps) statements) e =
     let b : Tree Name block = forms_block (declares cs ts vs ps) statements in
@@ -169,7 +170,7 @@ parameters-ordered : (k i : ℕ) (ps : List (TypedParameter Name)) (noted : Type
 parameters-ordered k i [] noted h = h
 parameters-ordered k i (p ∷ ps) noted h = parameters-ordered k (suc i) ps (record { name = p.name; ordinal = i; object = a_variable p.formal.shape } ∷ noted) (refl, h)
 
--- adds the binding of a procedure's name
+-- returns the bindings `noted` with the binding of a procedure's name added
 abbrev named_procedure : ℕ → Name → List (TypedParameter Name) → TypeNoted Name → TypeNoted Name
 named_procedure k x ps noted = record { name = x; ordinal = k; object = a_procedure (map (λ p. p.formal) ps) } ∷ noted
 
@@ -188,7 +189,8 @@ bind_procedure-ordered k x ps = record {
   in_order = parameters-ordered k (suc k) ps (named_procedure k x ps []) (refl, refl);
 }
 
--- A block and its numbered tree give the same ordinals to their words ARRAY and RECORD.
+-- A block and its numbered tree have the same number of words ARRAY and RECORD before their
+-- procedures.
 variables-same : (noted : TypeNoted Name) (j k : ℕ) (b : Tree Name block) → constructor_count_before_procedures j (relabel_block naming_by_spelling (label_from_ordinal naming_by_spelling) (typed_scope noted) k b) ≡ constructor_count_before_procedures j b
 variables-same noted j k (forms_block (declares cs ts vs ps) statements) =
     let b : Tree Name block = forms_block (declares cs ts vs ps) statements in

@@ -101,7 +101,8 @@ sections_bind shapes declared l n i j m xs ys zs scope before env ei ej em long 
     let a = split_to shapes declared l n i xs scope b.rest ei b.holds in
     split_since shapes declared l n m scope before env long (split_then shapes declared l n j m scope second env c (split_then shapes declared l n i j scope first c.rest b a))
 
--- Binding parameters puts their bindings before the rest of the environment.
+-- Binding parameters in an environment changes only its first part: the rest `env` remains at the
+-- end.
 bind_typed_parameters-before : (ps : List (TypedParameter Name)) (first env : TypeEnvironment Name) → bind_typed_parameters ps (first ++ env) ≡ bind_typed_parameters ps first ++ env
 bind_typed_parameters-before [] first env = refl
 bind_typed_parameters-before (p ∷ ps) first env = bind_typed_parameters-before ps ((p.name, meant.a_variable p.formal.shape) ∷ first) env

@@ -26,8 +26,9 @@ use Rattle.ob0_types_check.proofs.DeclaredKnown.{Later, IsKnownAt, agrees_where_
 use Rattle.ob0_types_check.proofs.DeclaredTypes.{type_denotes}
 use Rattle.ob0_types_check.proofs.Unreported.{none-reported}
 
--- Holds if declarations give an environment that agrees with the state after them. Their ordinals go from `n` up to
--- `m`, and the ordinals of their words ARRAY and RECORD from `k` up to `l`.
+-- Holds if declarations give an environment that agrees with the state after them. The declarations
+-- have the ordinals from `n` up to `m`, and their words ARRAY and RECORD the ordinals from `k` up
+-- to `l`.
 pub record Declared (w : Numbering) (n m k l : ℕ) (p q : KnownDeclarations) (before : List Shape) (scope : Scope Name) (given : Option (TypeEnvironment Name)) : Type 0 where
   pub env : TypeEnvironment Name
   pub given_is : given ≡ Some env
@@ -39,7 +40,8 @@ pub record Declared (w : Numbering) (n m k l : ℕ) (p q : KnownDeclarations) (b
 nothing_declared : (w : Numbering) (n k l : ℕ) → l ≡ k → (p : KnownDeclarations) (before : List Shape) (scope : Scope Name) (env : TypeEnvironment Name) → IsKnownAt w p before n scope env → Declared w n n k l p p before scope (Some env)
 nothing_declared w n k l last p before scope env st = record { env = env; given_is = refl; after = before; apart = apart_same k l before last; later = later_same n p before st.table; holds = st }
 
--- If the first declarations give an environment and further declarations give one from it, both together do.
+-- If the first declarations give an environment, and the further declarations give one from it, all
+-- the declarations together give an environment.
 pub declared_then : {A : Type 0} (w : Numbering) (n i m k j l : ℕ) (p q r : KnownDeclarations) (before mid : List Shape) (scope : Scope Name) (given : Option A) (a : A) (next : A → Option (TypeEnvironment Name)) → n ≤ i → given ≡ Some a → Apart k j before mid → Later n p q before mid → Declared w i m j l q r mid scope (next a)
     → Declared w n m k l p r before scope (option_and_then next given)
 declared_then w n i m k j l p q r before mid scope given a next le is own later d = record {

@@ -1,5 +1,5 @@
--- Blocks, procedures and modules fit if nothing is reported for them. The walk uses the names as
--- they are spelled (`naming_by_spelling`) instead of ordinals, so fields need no extra facts.
+-- Blocks, procedures and modules fit if nothing is reported for them. The proof looks names up by
+-- their spellings (`naming_by_spelling`) instead of ordinals, so fields need no extra facts.
 use Rattle.std.proofs.Common.{◌≡◌, ◌≢◌, ℕ, suc, ◌+◌, ◌<◌, ◌≤◌, Bool, true, false, ◌&&◌, List, [], ◌∷◌, ◌++◌, length, map, Option, Some, None, option_and_then, refl, sym, ap, ◌∙◌, subst, le_refl, le_trans, arith, length-append, lit<}
 use Rattle.std.proofs.lemmas.List.{length-map}
 use Rattle.std.specs.List.{filter}
@@ -67,7 +67,7 @@ pub record HeadingKnown (w : Numbering) (n : ℕ) (p : KnownDeclarations) (befor
   pub holds : IsKnownAt w (heading_known p x fs) after (suc n) ((token_text_at w.source x, n) ∷ scope) (bind_procedure (token_text_at w.source x) parameters env)
   pub inside : IsKnownAt w (heading_known p x fs) after (ordinal_after_names (suc n) (formal_parameter_names (formal_parameter_sections fs))) (scope_following w (suc n) (formal_parameter_names (formal_parameter_sections fs)) ((token_text_at w.source x, n) ∷ scope)) (bind_typed_parameters parameters (bind_procedure (token_text_at w.source x) parameters env))
 
--- The ordinals of a block's words ARRAY and RECORD can be added up section by section.
+-- A sum of the numbers of words ARRAY and RECORD in a block's sections can be regrouped.
 block_end : (k t v p : ℕ) → k + t + v + p ≡ k + (t + (v + p))
 block_end k t v p = omega arith
 
@@ -172,7 +172,8 @@ module _ (w : Numbering) (fit : PartsFit) where
       subst (BindingsKnown e.after (heading_known p x fs).declared n m) (heading_since e.parameters (text x, meant.a_procedure (formals_of e.parameters)) env)
       (names_bind e.after (heading_known p x fs).declared m n m (text x ∷ map text xs) scope env (bind_typed_parameters e.parameters (bind_procedure (text x) e.parameters env)) (ordinal_after_names-map text (suc n) xs) (as_long before p.declared n scope env names) e.inside.names)
 
-  -- The bindings of a procedure and the later ones are the later procedures' bindings followed by its own.
+  -- The bindings of a procedure and the procedures after it are the later procedures' bindings,
+  -- followed by the first procedure's bindings.
   procedures_bound : (d : Tree ℕ (item procedure)) (rest : Tree ℕ (items procedure)) (k : ℕ) (env : TypeEnvironment Name) (parameters : List (TypedParameter Name)) → typed_parameters naming_by_spelling env k (procedure_formals (tree_with_names w.source d)) ≡ Some parameters
       → procedure_is_well_typed naming_by_spelling (bind_typed_parameters parameters (bind_procedure (procedure_name (tree_with_names w.source d)) parameters env)) k (tree_with_names w.source d) ≡ true
       → procedure_list_bindings naming_by_spelling env k (tree_with_names w.source (more d rest)) ≡ procedure_list_bindings naming_by_spelling (bind_procedure (procedure_name (tree_with_names w.source d)) parameters env) (k + procedure_constructor_count (tree_with_names w.source d)) (tree_with_names w.source rest) ++ procedure_bindings naming_by_spelling env k (tree_with_names w.source d)

@@ -65,7 +65,8 @@ either {P} k m f g = by (nat_lt k m) refl
     by true e = f (ltb-true k m e)
     by false e = g (ltb-false k m e)
 
--- The bindings of ordinals below `m` agree with their meanings, and ordinals from `m` upwards have neither.
+-- The objects bound to ordinals below `m` agree with their meanings. Ordinals from `m` upwards have
+-- no object and no meaning.
 module _ (shapes : List Shape) (known : List (Option (Meaning TypeId))) (m : ℕ) (names : TypeEnvironment Name) (labels : TypeEnvironment Label) (all : Ordered 0 m names labels) (bound : BindingsKnown shapes known 0 m names) (room : length known ≡ m) where
   below : (k : ℕ) → k < m → IsKnownAs shapes known k (object_of_ordinal labels k)
   below k less = subst (λ z. IsKnownAs shapes known k (object_of_ordinal z k)) (sym all.by_label) (known_at shapes known all.noted m all.in_order (subst (BindingsKnown shapes known 0 m) all.by_name bound) k less)

@@ -140,7 +140,8 @@ module _ (w : Numbering) (fit : PartsFit) where
             (formals_kept before s.after s.later.longer h.formals signature agree) (formals_same (shape_of_type_in s.after) (token_text_at w.source) by u.of s.shape s.known xs);
       }
 
-  -- If a section's parameters and the further sections' parameters have types, all of them together do.
+  -- If a section's parameters and the further sections' parameters have types, all these parameters
+  -- together have types.
   parameters_then : (mode : ParameterMode) (xs : List ℕ) (ns ys : List Name) (n k j m : ℕ) (h g l : KnownHeading) (before : List Shape) (scope : Scope Name) (env : TypeEnvironment Name) (given : Option Shape) (next : TypeEnvironment Name → Option (List (TypedParameter Name))) → ns ≡ map (token_text_at w.source) xs
       → (one : OneType w n (ordinal_after_names n xs) k j h g before (scope_following w n xs scope) env mode (map (token_text_at w.source) xs) given) → Parameters (ordinal_after_names n xs) j m g l one.after ys (next (bind_names (map (token_text_at w.source) xs) (meant.a_variable one.shape) env))
       → Parameters n k m h l before (map (token_text_at w.source) xs ++ ys) (option_and_then (λ s. option_and_then (λ rest. Some (map (typed_as mode s) ns ++ rest)) (next (bind_names ns (meant.a_variable s) env))) given)

@@ -62,7 +62,8 @@ module _ {N : Type 0} (P : N → Type 0) (naming : Naming N) (bound : (env : Typ
       each-of-both P (occurrences f) (occurrences fs) (section-bound f (type-bound P (meanings naming env) (bound env) k (parameter_section_type f) s hs))
       (sections-bound fs (k + constructor_count (parameter_section_type f)) (inner s) rest hr)
 
-  -- If each name of a section has a property, so does each name of the section as an optional part.
+  -- If each name in the declarations of a section has a property, each name of the optional section
+  -- has it.
   constant-section : (cs : Tree N (maybe constants)) → Each P (occurrences (section_constants cs)) → Each P (occurrences cs)
   constant-section none h = tt
   constant-section (one (declares_const_section cs)) h = h

@@ -1,6 +1,7 @@
--- Reports that are made in steps, one after another, and reports that a loop makes over the items of a list. `steps`
--- joins two steps, and `reports_same` replaces a step by an equal one. `Chained` is the loop's invariant. Loops over
--- declarations have the same form, with the state so far in place of the operand.
+-- Proves facts about reports that are made in steps, and about reports that a loop makes over the
+-- items of a list. `steps` joins two steps, and `reports_same` replaces a step by an equal one.
+-- `Chained` is the loop's invariant. Loops over declarations have the same form, with the state so
+-- far in place of the operand.
 use Rattle.std.proofs.Common.{◌≡◌, ℕ, ◌+◌, ◌<◌, ◌≤◌, List, ◌∷◌, ◌++◌, length, get_or, drop, refl, sym, ap, ◌∙◌, append-nil, append_assoc}
 use Rattle.std.proofs.lemmas.List.{drop_all, drop_more}
 use Rattle.ob0_tree.specs.Tree.{Tree, GrammarItem, item, items, end, more}
@@ -24,14 +25,14 @@ steps {f0 = f0} {x = x} {a = a} next s1 s2 = record {
 pub reports_known : {A : Type 0} (faults : List FaultAtTokens) {x y : A} → x ≡ y → ReturnsAndReports faults faults x (without_fault y)
 reports_known faults e = record { known = e; reported = sym (append-nil faults) }
 
--- A report can be replaced by an equal report.
+-- If code returns and reports what `a` defines, it also does so for any `b` equal to `a`.
 pub reports_same : {A : Type 0} {f0 f1 : List FaultAtTokens} {x : A} {a b : ResultWithFaults A} → ReturnsAndReports f0 f1 x a → a ≡ b → ReturnsAndReports f0 f1 x b
 reports_same {f0 = f0} s e = record { known = s.known ∙ ap (λ t. t.known) e; reported = s.reported ∙ ap (λ t. f0 ++ t.faults) e }
 
 pub then_assoc : {A B C : Type 0} (a : ResultWithFaults A) (f : A → ResultWithFaults B) (g : B → ResultWithFaults C) → (a >>= (λ x. f x >>= g)) ≡ ((a >>= f) >>= g)
 then_assoc a f g = reported_equal refl (sym (append_assoc a.faults (f a.known).faults (g (f a.known).known).faults))
 
--- holds if a list of items is reported item by item
+-- states that `chain` reports a list of items item by item, with `step` for each item
 pub record IsChain {O : Type 0} {i : GrammarItem} (chain : O → Tree ℕ (items i) → ResultWithFaults O) (step : O → Tree ℕ (item i) → ResultWithFaults O) : Type 0 where
   pub ended : (x : O) → chain x end ≡ without_fault x
   pub stepped : (x : O) (t : Tree ℕ (item i)) (ts : Tree ℕ (items i)) → chain x (more t ts) ≡ (step x t >>= (λ y. chain y ts))

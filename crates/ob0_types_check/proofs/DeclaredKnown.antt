@@ -66,7 +66,7 @@ names_later before after old new n m longer kept le (b ∷ scope) (c ∷ env) h 
   names_later before after old new n m longer kept le scope env h.4,
 )
 
--- holds if the meaning of the ordinal agrees with the first object of the environment
+-- holds if the meaning of the ordinal agrees with the environment's newest object
 abbrev FoundAlike : List Shape → List (Option (Meaning TypeId)) → TypeEnvironment Name → ℕ → Type 0
 FoundAlike shapes declared env k = IsKnownAndAgreesWithObject (shape_of_type_in shapes) (slice_index_or declared k None) (newest_object env)
 
@@ -126,7 +126,7 @@ holds_later w n m l p q before after scope env le up h f = record {
   names = names_later before after p.declared q.declared n l f.longer (λ k less. f.kept k (le_trans less le)) up scope env h.names;
 }
 
--- Defining a name sets the declaration with its ordinal.
+-- Defining a name sets the meaning of the declaration with the name's ordinal.
 with_one : (p : KnownDeclarations) (m : Meaning TypeId) (token k : ℕ) → ordinal_in p.ordinals token ≡ Some k → define_name_at_token p m token ≡ record { source = p.source; ordinals = p.ordinals; declared = slice_set p.declared k (Some m); made = p.made }
 with_one p m token k e = ap (declarations_with_meaning p m) e
 
@@ -172,7 +172,8 @@ holds_defined w p q shapes n scope env m x o h d own agrees =
       names = (less, refl, subst (λ z. IsKnownAndAgreesWithObject (shape_of_type_in shapes) z (Some o)) (sym d.here) agrees, λ le. own, rest.names);
     }
 
--- In an expression or statements whose names are all visible in the scope, the facts agree with all names.
+-- If all names in a part are visible in the scope, the facts about these names agree with the
+-- environment.
 module _ (w : Numbering) (p : KnownDeclarations) (only_constants : Bool) (shapes : List Shape) (n : ℕ) (scope : Scope Name) (env : TypeEnvironment Name) (h : IsKnownAt w p shapes n scope env) where
   pub seen_holds : (x : ℕ) → IsSeen w scope x → IsKnownAndAgreesWithObject (shape_of_type_in shapes) ((facts_from_declarations p only_constants).object_for x) ((meanings naming_by_spelling env).object_for (token_text_at w.source x))
   seen_holds x (k, at, there) =
@@ -193,8 +194,8 @@ module _ (w : Numbering) (p : KnownDeclarations) (only_constants : Bool) (shapes
     tokens = tokens_agree (identifiers role.DeclaringName t) (subst (Each (IsSeen w scope)) (sym (looked_up-occurrences role.DeclaringName (λ x xs. refl) t)) seen);
   }
 
--- holds if `q` is a later state than `p` and agrees with the scope and the environment, in which several names of one
--- object are declared
+-- Holds if `q` is a later state than `p` and agrees with the scope and the environment. It is used
+-- for the state after a list of names, which are all declared with the same object.
 pub record AllDefined (w : Numbering) (p q : KnownDeclarations) (shapes : List Shape) (n m : ℕ) (scope : Scope Name) (env : TypeEnvironment Name) : Type 0 where
   pub later : Later n p q shapes shapes
   pub holds : IsKnownAt w q shapes m scope env

@@ -117,7 +117,7 @@ all_bound n (x ∷ xs) e =
 abbrev pub numbering_of : Resolution → Numbering
 numbering_of r = record { source = r.module_read.source; ordinals = r.ordinals; room = 7 + length r.declaration_tokens }
 
--- The number of ordinals of a module is 7 plus the number of its declaring names.
+-- The number of ordinals of a module is 7 plus the number of its declarations.
 pub module_counted : (r : Resolution) → IsResolution r → ordinal_after_block 7 (module_block (tree_of r.module_read)) ≡ 7 + length r.declaration_tokens
 module_counted r is =
     let b : Tree ℕ block = module_block (tree_of r.module_read) in

@@ -67,7 +67,7 @@ variables_side (declares_variable ns t) = t
 abbrev section_in : {N : Type 0} → Tree N (item section_after_semicolon) → Tree N section
 section_in (semicolon_then_section f) = f
 
--- The ordinal after names depends only on their number.
+-- Mapping a list of names leaves the ordinal after these names unchanged.
 pub ordinal_after_names-map : {A B : Type 0} (f : A → B) (k : ℕ) (xs : List A) → ordinal_after_names k (map f xs) ≡ ordinal_after_names k xs
 ordinal_after_names-map f k [] = refl
 ordinal_after_names-map f k (x ∷ xs) = ordinal_after_names-map f (suc k) xs
@@ -160,7 +160,8 @@ mutual
   ordinal_after_procedure-mapped_tree f g j k e (declares_procedure x fs b closing) =
       ordinal_after_block-mapped_tree f g (ordinal_after_names j (formal_parameter_names (formal_parameter_sections (mapped_tree f g fs)))) (ordinal_after_names k (formal_parameter_names (formal_parameter_sections fs))) (after-mapped_tree f j k (formal_parameter_names (formal_parameter_sections fs)) (formal_parameter_names (formal_parameter_sections (mapped_tree f g fs))) (formals-names f g fs) e) b
 
--- The names of a module by token: the text with their spellings, their ordinals, and the number of ordinals.
+-- the ordinals of a module's names: the text with its tokens, the ordinal at each token, and the
+-- number of ordinals
 pub record Numbering : Type 0 where
   pub source : TextWithTokens
   pub ordinals : List (Option ℕ)

@@ -1,6 +1,7 @@
--- Tables of types and their shapes. Adding an array or record leaves the earlier shapes unchanged, and sizes agree with
--- shapes. `Longer before after` states that types keep their shapes. It doesn't state that one list is a prefix of the
--- other, so lists needn't be reassociated.
+-- Proves facts about tables of types and their shapes. Adding an array or record leaves the earlier
+-- shapes unchanged, and sizes agree with shapes. `Longer before after` states that types keep their
+-- shapes. It doesn't state that one list is a prefix of the other, so lists needn't be
+-- reassociated.
 use Rattle.std.proofs.Common.{◌≡◌, ℕ, zero, suc, ◌+◌, ◌*◌, max, true, ◌&&◌, List, [], ◌∷◌, ◌++◌, length, Option, Some, None, option_and_then, slice_get, nat_le, if◌then◌else◌, map, refl, sym, ap, ◌∙◌, subst, append_assoc, append-nil, arith}
 use Rattle.std.proofs.Math.Nat.{max_comm, mul_comm}
 use Rattle.ob0_tree.specs.TokenIndexLeaves.{token_text_at}
@@ -54,7 +55,8 @@ each_more known [] (x ∷ ss) m s h one = absurd h
 each_more known (x ∷ ms) [] m s h one = absurd h
 each_more known (x ∷ ms) (y ∷ ss) m s h one = (h.0, each_more (known ++ y ∷ []) ms ss m s h.1 (subst (λ z. CompositeAgreesWithShape (shape_of_type_in z) m s) (sym (append_assoc known (y ∷ []) ss)) one))
 
--- If a table agrees with its shapes, it still does when an entry and its shape are appended.
+-- If a table agrees with its shapes, the table with one more entry agrees with the shapes and this
+-- entry's shape.
 pub table_more : (ms : List CompositeType) (shapes : List Shape) (m : CompositeType) (s : Shape) → TableAgreesWithShapes ms shapes → CompositeAgreesWithShape (shape_of_type_in shapes) m s → TableAgreesWithShapes (ms ++ m ∷ []) (shapes ++ s ∷ [])
 table_more ms shapes m s h one = each_more [] ms shapes m s h one
 
@@ -85,7 +87,7 @@ pub record SizeAgrees (z : TypeSize) (s : Shape) : Type 0 where
   pub scalars_are : z.scalars ≡ scalar_count s
   pub depth_is : z.depth ≡ depth s
 
--- holds if the table has an entry that agrees with the shape in its size
+-- holds if an entry is given (not None) and has the size of the shape `s`
 pub record Entered (m : Option CompositeType) (s : Shape) : Type 0 where
   pub entry : CompositeType
   pub there : m ≡ Some entry
@@ -161,7 +163,8 @@ field_put shapes [] (next_field_shape y u fs) x t s h is = absurd h
 field_put shapes (f ∷ fields) no_field_shape x t s h is = absurd h
 field_put shapes (f ∷ fields) (next_field_shape y u fs) x t s h is = (h.0, h.1, field_put shapes fields fs x t s h.2 is)
 
--- holds if the fields of a record so far have these shapes, and their total size is right
+-- holds if the fields gathered so far agree with the field shapes `fs`, and their total size is the
+-- size of these shapes
 pub record GatheredAgrees (shapes : List Shape) (g : KnownFields) (fs : FieldShapes) : Type 0 where
   pub fields : FieldsAgreeWithShapes (shape_of_type_in shapes) g.fields fs
   pub scalars_are : g.size.scalars ≡ scalar_count_of_fields fs

@@ -29,8 +29,8 @@ use Rattle.ob0_types_check.proofs.DeclaredShapes.{GatheredAgrees, SizeAgrees, ar
 use Rattle.ob0_types_check.proofs.DeclaredKnown.{Later, IsKnownAt, agrees_where_seen, later_same, later_then, seen_holds, holds_later}
 use Rattle.ob0_types_check.proofs.Unreported.{none-reported}
 
--- Holds if a type's text denotes a shape and the state after it agrees with this shape. `k` is the ordinal of its first
--- word ARRAY or RECORD, and `l` the next ordinal after its last.
+-- Holds if a written type denotes a shape and the state after it agrees with this shape. Its words
+-- ARRAY and RECORD have the ordinals from `k` up to, but not including, `l`.
 pub record Denotes (n : ℕ) (p : KnownDeclarations) (before : List Shape) (k l : ℕ) (given : Option Shape) (u : TypeWithFollowingDeclarations) : Type 0 where
   pub shape : Shape
   pub given_is : given ≡ Some shape
@@ -48,7 +48,7 @@ named_denotes n w p before k l last token (Some (a_constant v)) o table alike e 
 named_denotes n w p before k l last token (Some (a_variable t)) o table alike e = absurd (cc)
 named_denotes n w p before k l last token (Some (a_procedure fs)) o table alike e = absurd (cc)
 
--- holds if an array or a record denotes a shape within the limits
+-- holds if an array or record denotes the shape `s`, and `s` is within the limits
 pub record MadeDenotes (n : ℕ) (p : KnownDeclarations) (before : List Shape) (k l : ℕ) (s : Shape) (u : TypeWithFollowingDeclarations) : Type 0 where
   pub limited : type_if_within_limits s ≡ Some s
   pub denotes : Denotes n p before k l (Some s) u
@@ -121,7 +121,7 @@ names_following : (t : TypeId) (g : KnownFields) (xs : List ℕ) → (append_kno
 names_following t g [] = refl
 names_following t g (x ∷ xs) = names_following t (append_known_field t g x) xs
 
--- Fields of one type have shapes if their type denotes one.
+-- If the type of a group of fields denotes a shape, the fields of the group have shapes.
 names_gather : (n : ℕ) (w : Numbering) (g : KnownFields) (before : List Shape) (k l : ℕ) (first : FieldShapes) (xs : List ℕ) (ys : List Name) (given : Option Shape) (u : TypeWithFollowingDeclarations) → g.following.source ≡ w.source → ys ≡ map (token_text_at w.source) xs → GatheredAgrees before g first → Denotes n g.following before k l given u
     → GroupGathers n g.following before k l first (λ later. option_and_then (λ s. Some (prepend_fields ys s later)) given) (append_field_group g xs u)
 names_gather n w g before k l first xs ys given u source texts h d =
@@ -151,7 +151,7 @@ nothing_agrees shapes p = record { fields = tt; scalars_are = refl; depth_is = r
 nothing_more : (n : ℕ) (g : KnownFields) (before : List Shape) (k l : ℕ) → l ≡ k → (first : FieldShapes) → TableAgreesWithShapes g.following.made before → GatheredAgrees before g first → CodeFindsFieldsAndReports n g.following before k l first no_field_shape g
 nothing_more n g before k l last first table h = record { after = before; apart = apart_same k l before last; later = later_same n g.following before table; agrees = subst (GatheredAgrees before g) (sym (followed-nothing first)) h }
 
--- If a group of fields and the later groups have shapes, all of them together do.
+-- If a group of fields and the later groups have shapes, all these fields together have shapes.
 pub both_gather : (n : ℕ) (p : KnownDeclarations) (before : List Shape) (k m l : ℕ) (first : FieldShapes) (given : FieldShapes → Option FieldShapes) (g h : KnownFields) (others : Option FieldShapes) (one : GroupGathers n p before k m first given g)
     → GroupsGather n g.following one.gathers.after m l (followed first one.own) others h → GroupsGather n p before k l first (option_and_then given others) h
 both_gather n p before k m l first given g h others one other = record {
@@ -191,7 +191,7 @@ pub grouped : (o : Option FieldShapes) (f : FieldShapes → Option FieldShapes) 
 grouped None f g = refl
 grouped (Some a) f g = refl
 
--- Sums of the numbers of words ARRAY and RECORD may be regrouped.
+-- A word ARRAY or RECORD can be counted before or after `n` other such words.
 later_constructor : (k n : ℕ) → suc k + n ≡ k + suc n
 later_constructor k n = omega arith
 

@@ -26,7 +26,8 @@ use Rattle.ob0_types_check.proofs.Operands.{IsOf, added-fits, value_of_negation-
 use Rattle.ob0_types_check.proofs.Unreported.{goes-on, none-reported, then-assoc, then-itself}
 use Rattle.ob0_types_check.proofs.Valued.{addend-value_agrees, multiplier-value_agrees, name-value_agrees, negation-value_agrees, parts-value_agrees, related-value_agrees, simple-value_agrees, term-value_agrees}
 
--- holds if an operand has this type and this value
+-- holds if an operand has this type, which must be known, and this value, which must have this type
+-- unless it is None
 pub record Fits {T : Type 0} (shape : T → Option Shape) (o : Operand T) (type : Option Shape) (value : Option Value) : Type 0 where
   pub of : Shape
   pub known : shape o.of ≡ Some of
@@ -34,8 +35,8 @@ pub record Fits {T : Type 0} (shape : T → Option Shape) (o : Operand T) (type 
   pub value_agrees : o.value ≡ value
   pub scalar : IsOf of o.value
 
--- holds if the operand of a name has the type and the value of its object; an operand that may be a place is a
--- variable's
+-- Holds if the operand of a name has the type and the value of the name's object. If the operand
+-- may be a variable, the object is a variable.
 pub record NameFits {T N P : Type 0} (facts : Facts T) (shape : T → Option Shape) (label : ℕ → N) (meaning : Meanings N Shape P) (x : ℕ) : Type 0 where
   pub fits : Fits shape (name_operand facts x).known (type_of_variable_or_constant (meaning.object_for (label x))) (value_of_constant_object (meaning.object_for (label x)))
   pub placed : (name_operand facts x).known.may_be_variable ≡ true → meaning.object_for (label x) ≡ Some (a_variable fits.of)
@@ -56,7 +57,7 @@ pub split-tokens : {T N P : Type 0} (facts : Facts T) (shape : T → Option Shap
 split-tokens facts shape label meaning [] ys h = (tt, h)
 split-tokens facts shape label meaning (x ∷ xs) ys h = let rest = split-tokens facts shape label meaning xs ys h.1 in ((h.0, rest.0), rest.1)
 
--- A part of a designator has no value, and it is a place if the whole designator is.
+-- Selectors give a designator no value, and don't change whether it may be a variable.
 module _ {T : Type 0} (facts : Facts T) where
   pub parts-none : (x : Operand T) (path : Tree ℕ (items selector)) → x.value ≡ None → (report_on_selectors facts x path).known.value ≡ None
   unfolding report_on_expression
@@ -109,8 +110,8 @@ module _ {T N P : Type 0} (facts : Facts T) (shape : T → Option Shape) (types 
   abbrev pub FitsFactor : Tree ℕ factor → Type 0
   FitsFactor f = Fits shape (report_on_factor facts f).known (type_of_factor meaning (tree f)) (outcome_value (evaluate_factor among [] (tree f)))
 
-  -- holds if the operand after further terms, which follow an operand `x`, has the right type and value; the next one
-  -- is about factors
+  -- holds if the operand `x` with further terms added has the right type and value; the next
+  -- definition is about factors
   abbrev pub FitsAddends : Operand T → Shape → Tree ℕ (items addend) → Type 0
   FitsAddends x s rest = Fits shape (report_on_addends facts x rest).known (type_after_addends meaning s (tree rest)) (option_and_then (λ v. outcome_value (evaluate_addends among [] v (tree rest))) x.value)
 
@@ -124,7 +125,7 @@ module _ {T N P : Type 0} (facts : Facts T) (shape : T → Option Shape) (types 
     pub known : shape (report_on_selectors facts o path).known.of ≡ Some of
     pub typed : type_after_selectors meaning s (tree path) ≡ Some of
 
-  -- Each production fits if its parts fit.
+  -- If the parts of a production fit, the production fits.
 
   related-whole : (r : Relation) (a b : Tree ℕ simple) → FitsSimple a → FitsSimple b → (check_relation facts r (report_on_simple_expression facts a).known (report_on_simple_expression facts b).known).faults ≡ [] → FitsExpression (compares a (one (relates r b)))
   unfolding report_on_expression type_of_expression evaluate_expression

@@ -17,7 +17,8 @@ use Rattle.ob0_types_check.proofs.FittingExpressions.{Fits, TokenFits, TokensFit
 use Rattle.ob0_types_check.proofs.Operands.{none-of, some-of}
 use Rattle.ob0_scan.specs.declared.fault.FaultCode.TheVariants as code
 
--- holds if the operand of a name has the type and the value of the name's object
+-- Holds if the operand of a name has the type and the value of the object `o`. If the operand may
+-- be a variable, `o` is a variable.
 pub record RunObjectAgrees {T P : Type 0} (shape : T → Option Shape) (k : Operand T) (o : Option (Object Shape P)) : Type 0 where
   pub fits : Fits shape k (type_of_variable_or_constant o) (value_of_constant_object o)
   pub placed : k.may_be_variable ≡ true → o ≡ Some (meant.a_variable fits.of)
@@ -50,8 +51,8 @@ module _ {T : Type 0} (facts : Facts T) (shape : T → Option Shape) (types : Ty
   holds-fits x (Some (a_variable t)) o (s, known, holds) h =
       subst (λ o. RunObjectAgrees shape (operand_from_meaning facts x (Some (a_variable t))).known o) (sym holds) (variable-fits x t s known facts.only_constants h)
 
-  -- The operand of a name in a constant expression, in which names may only refer to constants, has the type and value
-  -- of its object.
+  -- If no fault is reported for a name while only constants are allowed, the name isn't a
+  -- variable's. So its operand has the type and value of its object.
   no-variable : (x : ℕ) (t : T) (b : Bool) → b ≡ true → (if b then record { known = non_constant_name_operand facts.types.unknown x; faults = fault_at_token code.NotConstant x } else without_fault (non_constant_name_operand t x)).faults ≡ [] → ⊥
   no-variable x t true only h = cc
   no-variable x t false only h = true≢false (sym only)

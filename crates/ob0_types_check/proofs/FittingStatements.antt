@@ -35,7 +35,8 @@ not-false : (b : Bool) → not b ≡ false → b ≡ true
 not-false true h = refl
 not-false false h = sym h
 
--- If a wrong number isn't reported, the number is right and the other faults are empty.
+-- If no fault is reported for a call's arguments, their number is right, and the arguments
+-- themselves have no faults.
 counted : {A : Type 0} (b : Bool) (xs : List A) (x : A) → (if b then xs else x ∷ []) ≡ [] → (b ≡ true) × (xs ≡ [])
 counted true xs x h = (refl, h)
 counted false xs x h = absurd (cc)

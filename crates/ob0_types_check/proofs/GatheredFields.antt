@@ -25,7 +25,8 @@ beside_counted z w =
     let d : min (max (min z.depth (2 ^ 64 - 1)) w.depth) (2 ^ 64 - 1) ≡ min (max z.depth w.depth) (2 ^ 64 - 1) = omega arith in
     λ i. record { scalars = s i; depth = d i }
 
--- If the code has gathered the same fields, it still has when both add a field.
+-- If the code and the definition have gathered the same fields, they still have after both add one
+-- more field.
 pub one_more : (g : KnownFields) (s : CheckerState) (old new : gathering.KnownFields) (token : ℕ) (t : TypeId) (w : TypeSize) → CodeFieldsMatchKnownFields g s old
     → known_fields_of new.fields.items ≡ known_fields_of old.fields.items ++ record { name = token_text_at s.resolved.now.module_read.source token; of = t } ∷ []
     → size_of new.size ≡ capped_size (combined_size (size_of old.size) w) → w ≡ size_of_known_type (declarations_in_state s).made t → CodeFieldsMatchKnownFields (append_known_field t g token) s new
@@ -35,7 +36,8 @@ one_more g s old new token t w h fields size is = record {
   following = h.following;
 }
 
--- holds if the names gathered so far and the remaining names are all names
+-- holds if appending the remaining names to the fields gathered so far gives the same fields as
+-- appending all names
 pub record NamesGathered (t : TypeId) (g : KnownFields) (s : CheckerState) (xs : List ℕ) (done : ℕ) (now : gathering.KnownFields) : Type 0 where
   pub out : KnownFields
   pub is : CodeFieldsMatchKnownFields out s now
@@ -54,7 +56,8 @@ pub names_end : {t : TypeId} {g : KnownFields} {s : CheckerState} {xs : List ℕ
 names_end {t = t} {s = s} {xs = xs} {done = done} {now = now} n over =
     subst (λ g. CodeFieldsMatchKnownFields g s now) (sym (ap (append_known_fields t n.out) (drop_all done xs over)) ∙ n.left) n.is
 
--- holds if the groups gathered so far and the remaining groups are all groups
+-- holds if reporting on the remaining groups from the fields gathered so far gives the same result
+-- as reporting on all groups
 pub record GroupsGathered (around : ℕ) (start : KnownFields) (before : List FaultAtTokens) (xs : List OptionalFieldGroup) (done : ℕ) (now : List FaultAtTokens) (s : CheckerState) (gathered : gathering.KnownFields) : Type 0 where
   pub out : KnownFields
   pub is : CodeFieldsMatchKnownFields out s gathered

@@ -1,6 +1,7 @@
--- Faults that are reported list after list, and by loops over lists. `reported_both` joins two lists, and
--- `reported_following` appends a list after a result. The invariants of the loops are `EachSoFar` and, for arguments
--- with their parameters, `PairSoFar`.
+-- Proves facts about faults that are reported for several lists, one after another, and by loops
+-- over lists. `reported_both` joins two lists, and `reported_following` appends a list after a
+-- result. The invariants of the loops are `EachSoFar` and, for arguments with their parameters,
+-- `PairSoFar`.
 use Rattle.std.proofs.Common.{◌≡◌, ℕ, ◌+◌, ◌<◌, ◌≤◌, List, [], ◌∷◌, ◌++◌, length, get_or, drop, map, refl, sym, ap, ◌∙◌, append-nil, append_assoc, arith}
 use Rattle.std.proofs.lemmas.List.{drop_all, drop_more}
 use Rattle.ob0_scope_table.specs.declared.faults.FaultAtTokens.{FaultAtTokens}
@@ -10,7 +11,8 @@ use Rattle.ob0_types_check.specs.OperandFaults.{ReturnsAndReports}
 pub reported_both : (before a b : List FaultAtTokens) {between after : List FaultAtTokens} → between ≡ before ++ a → after ≡ between ++ b → after ≡ before ++ (a ++ b)
 reported_both before a b p q = q ∙ ap (λ f. f ++ b) p ∙ append_assoc before a b
 
--- If a result is reported and then further faults, the faults are the result's faults and then the further faults.
+-- If code reports a result's faults and then further faults, it appends the result's faults and
+-- then the further faults.
 pub reported_following : {A : Type 0} {before between after : List FaultAtTokens} {x : A} {t : ResultWithFaults A} (next : A → List FaultAtTokens) → ReturnsAndReports before between x t → after ≡ between ++ next x → after ≡ before ++ (t.faults ++ next t.known)
 reported_following {before = before} {x = x} {t = t} next s q = reported_both before t.faults (next x) s.reported q ∙ ap (λ z. before ++ (t.faults ++ next z)) s.known
 
@@ -35,7 +37,8 @@ pub each_ends : {A : Type 0} {all : List A → List FaultAtTokens} {each : A →
 each_ends {all = all} {xs = xs} {done = done} {now = now} h s over =
     sym (append-nil now) ∙ sym (ap (λ f. now ++ f) (ap all (drop_all done xs over) ∙ h.ended)) ∙ s.so_far
 
--- holds if the faults of two lists are the faults of their elements, pair by pair
+-- states that the faults of two lists are the faults of their pairs of elements, one pair after
+-- another
 pub record IsPairwise {A B : Type 0} (all : List A → List B → List FaultAtTokens) (each : A → B → List FaultAtTokens) : Type 0 where
   pub ended : all [] [] ≡ []
   pub stepped : (x : A) (y : B) (xs : List A) (ys : List B) → all (x ∷ xs) (y ∷ ys) ≡ each x y ++ all xs ys

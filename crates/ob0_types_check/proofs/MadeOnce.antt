@@ -13,8 +13,8 @@ use Rattle.ob0_types_check.proofs.Unreported.{some-same}
 abbrev pub Lacks : ℕ → List Shape → Type 0
 Lacks j shapes = (i : ℕ) (s : Shape) → slice_get shapes i ≡ Some s → ordinal_of_shape s ≡ Some j → ⊥
 
--- Holds if the list grew by as many types as there are ordinals from `k` to `l - 1`. Words ARRAY
--- and RECORD with other ordinals made no new type.
+-- Holds if the list grew by one type for each ordinal from `k` to `l - 1`. Words ARRAY and RECORD
+-- with other ordinals made no new type.
 pub record Apart (k l : ℕ) (before after : List Shape) : Type 0 where
   pub le : k ≤ l
   pub counted : length after + k ≡ length before + l
@@ -38,7 +38,8 @@ apart_then k m l a b c f g = record {
   once = λ fresh h. g.once (λ j from to. f.outside j (λ _ below. not_below m j from below) (fresh j (le_trans f.le from) to)) (f.once (λ j from to. fresh j from (le_trans to g.le)) h);
 }
 
--- An element of a list with an item appended is an element of the list or that item.
+-- An element of a list with one item appended is either an element of the list or the appended
+-- item.
 pushed : {A : Type 0} (xs : List Shape) (x : Shape) (i : ℕ) (s : Shape) → slice_get (xs ++ x ∷ []) i ≡ Some s → (slice_get xs i ≡ Some s → A) → (i ≡ length xs → x ≡ s → A) → A
 pushed [] x zero s h old new = new refl (some-same x s h)
 pushed [] x (suc i) s h old new = absurd (cc)
@@ -56,7 +57,8 @@ pushed_once xs x k number lacks h i j c s t at there is also =
     (λ e same. absurd (lacks i s old (is ∙ sym (sym number ∙ (ap ordinal_of_shape same ∙ also))))))
     (λ e same. pushed xs x j t there (λ older. absurd (lacks j t older (also ∙ sym (sym number ∙ (ap ordinal_of_shape same ∙ is))))) (λ f other. e ∙ sym f))
 
--- An array or record that is made after its parts extends the range of words by its own word.
+-- If an array or record with the ordinal `k` is appended after its parts, whose ordinals begin at
+-- `k + 1`, the table has grown by the types with ordinals from `k` to `l - 1`.
 pub apart_made : (k l : ℕ) (before mid : List Shape) (s : Shape) → ordinal_of_shape s ≡ Some k → Apart (suc k) l before mid → Apart k l before (mid ++ s ∷ [])
 apart_made k l before mid s number f = record {
   le = omega (arith, f.le);

@@ -21,7 +21,7 @@ use Rattle.ob0_types_check.specs.OperandFaults.{check_sum, require_type, require
 use Rattle.ob0_types_check.specs.Agreement.{FormAgreesWithShape, TypesAgreeWithShapes}
 use Rattle.ob0_types_check.proofs.Unreported.{first-of, first-reported, none-if, none-reported, not-true, some-none, some-same}
 
--- holds if a value, when present, has this type
+-- states that a value, if there is one, has this type
 abbrev pub IsOf : Shape → Option Value → Type 0
 IsOf s c = (v : Value) → c ≡ Some v → value_type v ≡ Some s
 
@@ -184,7 +184,8 @@ module _ {T : Type 0} (facts : Facts T) (shape : T → Option Shape) (types : Ty
   truth-known : (t : T) (s : Shape) → shape t ≡ Some s → shape (comparison_type facts.types t) ≡ Some boolean_shape
   truth-known t s h = ap (λ b. shape (if b then facts.types.unknown else facts.types.boolean)) (not-true (facts.types.same t facts.types.unknown) (is-known t s h)) ∙ types.boolean
 
-  -- An operation for which no fault is reported has the right type, and its value, when present, has that type.
+  -- If no fault is reported for an operation, it has the right type, and its value, if there is
+  -- one, has this type.
 
   pub added-fits : (o : AddOperator) (a b : Operand T) (s t : Shape) → shape a.of ≡ Some s → shape b.of ≡ Some t → (check_sum facts o a b).faults ≡ []
       → (w : Shape) × (shape (check_sum facts o a b).known.of ≡ Some w) × (addition_type o s t ≡ Some w) × (IsOf s a.value → IsOf w (check_sum facts o a b).known.value)
@@ -218,7 +219,7 @@ module _ {T : Type 0} (facts : Facts T) (shape : T → Option Shape) (types : Ty
       let (known, right) = requested-fits facts.types.boolean o s boolean_shape hs types.boolean (none-reported _ _ h).0 in
       (ap shape known ∙ types.boolean, ap negation_type right)
 
-  -- A selection for which no fault is reported has the right type.
+  -- If no fault is reported for a selection, it has the right type.
 
   found-fits : (x : ℕ) (o : Option T) (t : Option Shape) → option_map shape o ≡ option_map Some t → (field_type_or_fault facts x o).faults ≡ [] → (u : Shape) × (shape (field_type_or_fault facts x o).known ≡ Some u) × (t ≡ Some u)
   found-fits x None t e h = absurd (cc)

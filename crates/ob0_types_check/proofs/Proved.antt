@@ -1,4 +1,4 @@
--- The proofs of the laws about reported expressions.
+-- Proves the laws about reported expressions.
 use Rattle.std.proofs.Common.{◌≡◌, ℕ, Bool, true, false, [], Option, Some, None, option_map, is_some, if◌then◌else◌, refl, sym, ap, ◌∙◌}
 use Rattle.ob0_tree.specs.declared.tree.Role.TheVariants as role
 use Rattle.ob0_tree.specs.TokenIndexLeaves.{token_value_at}
@@ -31,7 +31,8 @@ module _ {T N : Type 0} (facts : Facts T) (shape : T → Option Shape) (label : 
   here-fits true only h = operand-fits facts shape agrees.types label (meanings_in_constant_expressions meaning) e (only-tokens facts shape agrees.types label meaning _ only (identifiers role.DeclaringName e) agrees.tokens) h
   here-fits false only h = operand-fits facts shape agrees.types label meaning e (tokens-fit facts shape agrees.types label meaning (identifiers role.DeclaringName e) agrees.tokens) h
 
-  -- holds if an operand has a type, and its value, when present, is the constant's value
+  -- holds if an operand has a type, and its value, if there is one, is the value of the constant
+  -- expression
   pub record IsConstant : Type 0 where
     pub of : Shape
     pub known : shape (report_on_expression facts e).known.of ≡ Some of

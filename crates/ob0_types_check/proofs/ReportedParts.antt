@@ -13,7 +13,8 @@ use Rattle.ob0_types_check.specs.OperandFaults.{number_operand, check_sum, check
 use Rattle.ob0_types_check.specs.TypeFaults.{require_constant_value, report_on_constant_expression}
 use Rattle.ob0_types_check.proofs.Chains.{IsChain, reported_equal, then_assoc}
 
--- returns the report of an operand with one more term added; `reported_multiplied` is about one more factor
+-- returns the operand `x` with one more term added, and the faults; `reported_multiplied` does so
+-- with one more factor
 abbrev pub reported_added : {T : Type 0} → Facts T → Operand T → Tree ℕ (item addend) → ResultWithFaults (Operand T)
 reported_added facts x (adds o t) = report_on_term facts t >>= check_sum facts o x
 

@@ -72,8 +72,8 @@ module _ {T : Type 0} (facts : Facts T) where
   unfolding statement_faults
   else_reported a = refl
 
-  -- The faults of a sequence or a branch are the faults of its first statement or branch, followed by the faults of the
-  -- rest.
+  -- The faults of a sequence are the faults of its statements, one after another. The same holds
+  -- for branches.
   flat : (ss : List Statement) → sequence_faults facts (sequence_of_list ss) ≡ further_statement_faults facts (items_of statement_after_semicolon_of ss)
   unfolding statement_faults
   flat [] = refl
@@ -115,7 +115,8 @@ module _ (facts : Facts TypeId) where
   pub argument_pairs : IsPairwise (λ (fs : List formal.FormalParameter) (es : List Expression). faults_of_arguments facts (map known_parameter_of fs) (map expression_of es)) (λ f e. faults_of_argument facts (known_parameter_of f) (expression_of e))
   argument_pairs = record { ended = refl; stepped = λ f e fs es. refl }
 
-  -- The faults of a call depend on whether there are as many arguments as parameters.
+  -- If a call has as many arguments as parameters, its faults are the faults of its arguments.
+  -- Otherwise the only fault is `ArgumentCount`.
   pub count_is_right : (p : ℕ) (fs : List formal.FormalParameter) (es : List Expression) → length fs ≡ length es
       → call_faults_from_meaning facts p (Some (a_procedure (map known_parameter_of fs))) (map expression_of es) ≡ faults_of_arguments facts (map known_parameter_of fs) (map expression_of es)
   count_is_right p fs es e =

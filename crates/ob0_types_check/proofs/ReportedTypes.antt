@@ -43,7 +43,8 @@ groups_stepped around g (semicolon_then_fields f) ts = refl
 pub groups_chain : (around : ℕ) → IsChain (report_on_further_field_groups around) (report_on_further_field_group around)
 groups_chain around = record { ended = groups_ended around; stepped = groups_stepped around }
 
--- A record without groups of fields has the same report as a record with one empty group.
+-- The report of a record is made from the reports of its groups of fields. A record without groups
+-- is reported like a record with one empty group.
 pub record_reported : (around : ℕ) (p : KnownDeclarations) (gs : List OptionalFieldGroup)
     → report_on_written_type around p (record_type_of_list gs) ≡ (report_on_further_field_groups (suc around) (no_known_fields p) (items_of field_group_after_semicolon_of gs) >>= make_record_type (record_keyword_token (items_of field_group_after_semicolon_of gs)) (next_type_ordinal around p))
 unfolding report_on_written_type

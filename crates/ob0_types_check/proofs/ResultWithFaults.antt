@@ -24,7 +24,8 @@ is_nothing xs n b long e h = nothing_left xs (sym long ∙ eqb-true n 0 (sym e �
 pub is_something : (xs : List FaultAtTokens) (n : ℕ) (b : Bool) → n ≡ length xs → b ≡ (n == 0) → b ≡ false → xs ≡ [] → ⊥
 is_something xs n b long e h none = true≢false (sym (eq-eqb n 0 (long ∙ ap length none)) ∙ (sym e ∙ h))
 
--- A walk over some bodies ends with the faults of the module if it reports the same as the walk over all bodies.
+-- If a walk over some bodies reports the same as the walk over all bodies, it ends with the faults
+-- of the module.
 pub walked : (r : Resolution) (before after : List FaultAtTokens) (s : CheckerState) (bodies_with_faults : List ℕ) (t : ResultWithFaults WalkProgress) → before ≡ filter is_undeclared_fault r.faults → report_on_module includes_every_body r ≡ t → ReturnsAndReports before after (walk_progress_of s bodies_with_faults) t → IsFinishedWalk r after s bodies_with_faults
 walked r before after s bodies_with_faults t first is reported =
     record {

@@ -52,6 +52,7 @@ facts_same s only_constants = λ j. record {
   only_constants = only_constants;
 }
 
--- Setting a declaration before converting the list is the same as converting it and then setting the declaration.
+-- Converting a list of meanings after setting one of them gives the same list as setting the
+-- converted meaning in the converted list.
 pub declared_within : (ms : List (Option Meaning)) (k : ℕ) (m : Meaning) → map (option_map meaning_view) (set ms k (Some m)) ≡ set (map (option_map meaning_view) ms) k (Some (meaning_view m))
 declared_within ms k m = map-set (option_map meaning_view) ms k (Some m)

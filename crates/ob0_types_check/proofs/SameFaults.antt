@@ -31,9 +31,9 @@ abbrev pub facts_over : {T : Type 0} → TextWithTokens → List (Option ℕ) �
 facts_over source ordinals types declared only_constants =
     record { source = source; types = types; object_for = λ token. option_and_then declared (ordinal_in ordinals token); only_constants = only_constants }
 
--- Two texts, with the labels and numbers by which their parts are compared. Names with one label have the same spelling
--- and the same binding, and numbers that are equal here the same value. Both are at near tokens. The tokens before and
--- after near tokens are near as well.
+-- Two texts, with the labels and numbers by which their parts are compared. Names with the same
+-- label have the same spelling and the same binding. Numbers that are equal here have the same
+-- value. Both are at near tokens. The tokens before and after near tokens are near as well.
 pub record TwoTexts : Type 1 where
   pub old : TextWithTokens
   pub new : TextWithTokens
@@ -122,18 +122,18 @@ goes_on {Near} {Z} {A} {Y} {B} {f} {g} {h} {k} {t} {u} next other p q =
     let n : Alike Near h k (next t.known) (other u.known) = subst (λ a. Alike Near h k (next a) (other u.known)) (sym p.before) (subst (λ b. Alike Near h k (next (f p.value)) (other b)) (sym p.after) (q p.value)) in
     record { value = n.value; before = n.before; after = n.after; faults = joined p.faults n.faults }
 
--- the same result in both texts
+-- holds if the results in both texts are equal, with faults at near tokens
 abbrev pub Equal : {A : Type 0} → (ℕ → ℕ → Type 0) → ResultWithFaults A → ResultWithFaults A → Type 0
 Equal {A} Near r s = Alike Near (λ (x : A). x) (λ (x : A). x) r s
 
 pub equally : {Near : ℕ → ℕ → Type 0} {A : Type 0} (x : A) → Equal Near (without_fault x) (without_fault x)
 equally x = record { value = x; before = refl; after = refl; faults = no_faults }
 
--- The same result with alike faults.
+-- Two results with the same value and alike faults are equal (`Equal`).
 with_faults : {Near : ℕ → ℕ → Type 0} {A : Type 0} {xs ys : List FaultAtTokens} (x : A) → AlikeFaults Near xs ys → Equal Near (record { known = x; faults = xs }) (record { known = x; faults = ys })
 with_faults x p = record { value = x; before = refl; after = refl; faults = p }
 
--- an operand in both texts: its type and value, and its tokens in each text
+-- an operand in both texts: its type and value, which are the same, and its tokens in each text
 pub record OperandOfBoth (T : Type 0) (Near : ℕ → ℕ → Type 0) : Type 0 where
   pub of : T
   pub value : Option Value
@@ -223,11 +223,11 @@ module _ (c : TwoTexts) where
 
     -- ---- operations
 
-    -- returns the operand of a name
+    -- returns the operand of a name, with its token in each text
     abbrev of_name : T → Option Value → Bool → (k j : ℕ) → SameName k j → Of
     of_name t v b k j h = record { of = t; value = v; may_be_variable = b; old_first = k; old_last = k; new_first = j; new_last = j; first_near = c.name_near k j h; last_near = c.name_near k j h }
 
-    -- returns the operand of an operation
+    -- returns the operand of an operation on two operands
     abbrev of_both : T → Option Value → Of → Of → Of
     of_both t v x y = record { of = t; value = v; may_be_variable = false; old_first = x.old_first; old_last = y.old_last; new_first = x.new_first; new_last = y.new_last; first_near = x.first_near; last_near = y.last_near }
 
@@ -255,22 +255,25 @@ module _ (c : TwoTexts) where
     operand_fault : (code : FaultCode) (o : Of) → AreFaultsAlike (fault_at_operand code (in_old o)) (fault_at_operand code (in_new o))
     operand_fault code o = record { each = (refl, o.first_near, o.last_near, tt) }
 
-    -- An operand of a name with an unknown type, and a fault at the name.
+    -- Reporting a fault at a name with the same label, and returning an operand of unknown type,
+    -- gives the same result in both texts.
     unknown_name : (code : FaultCode) (k j : ℕ) → SameName k j → Operands (record { known = non_constant_name_operand types.unknown k; faults = fault_at_token code k }) (record { known = non_constant_name_operand types.unknown j; faults = fault_at_token code j })
     unknown_name code k j h = record { value = of_name types.unknown None true k j h; before = refl; after = refl; faults = token_fault code k j (c.name_near k j h) }
 
-    -- An unknown type, and a fault at a token.
+    -- Reporting a fault at near tokens and returning the unknown type gives equal results in both
+    -- texts.
     unknown_type : (code : FaultCode) (k j : ℕ) → c.Near k j → Equal c.Near (record { known = types.unknown; faults = fault_at_token code k }) (record { known = types.unknown; faults = fault_at_token code j })
     unknown_type code k j near = with_faults types.unknown (token_fault code k j near)
 
-    -- Equal results followed by an operand made of them.
+    -- If two results are equal, the operands made from them are the same in both texts.
     makes : {t u : ResultWithFaults T} (make : T → Of) → Equal c.Near t u → Operands (t >>= (λ x. without_fault (in_old (make x)))) (u >>= (λ x. without_fault (in_new (make x))))
     makes make p = goes_on (λ x. without_fault (in_old (make x))) (λ x. without_fault (in_new (make x))) p (λ x. operand (make x))
 
     required : (wanted : T) (o : Of) → Equal c.Near (require_type fo wanted (in_old o)) (require_type fn wanted (in_new o))
     required wanted o = with_faults (if types.same o.of wanted then wanted else types.unknown) (unless (may_be_same_type types o.of wanted) (operand_fault code.TypeMismatch o))
 
-    -- returns the result for both operands, if the left one has the type or not
+    -- returns the result of requiring a type of both operands, given whether the left operand may
+    -- have this type
     abbrev both_if : Bool → Facts T → T → Operand T → Operand T → ResultWithFaults T
     both_if b facts wanted x y =
         if b
@@ -374,7 +377,7 @@ module _ (c : TwoTexts) where
 
     -- ---- expressions
 
-    -- Each step of the recursion is a lemma. It takes what holds for the parts.
+    -- Each step of the recursion is a lemma, which assumes that the parts have the same report.
 
     abbrev SimplesAgree : Tree ℕ simple → Type 0
     SimplesAgree a = (b : Tree ℕ simple) → Same a b → Operands (report_on_simple_expression fo a) (report_on_simple_expression fn b)

@@ -25,7 +25,8 @@ use Rattle.ob0_types_check.specs.TypeFaults.{length_from_operand}
 use Rattle.ob0_types_check.specs.WrittenTypeFaults.{KnownFields, make_array_type, array_size, append_field_group, no_known_fields, next_type_ordinal, make_record_type, record_size, record_keyword_token, report_on_field_group, report_on_further_field_groups, report_on_written_type, append_known_fields, append_known_field, token_before_group}
 use Rattle.ob0_types_check.proofs.SameFaults.{Alike, AreFaultsAlike, Same, SameName, TwoTexts, constant_same, end_not_more, equal_faults, expression_same, first_equal, further_equal, goes_on, in_new, in_old, item_equal, length_same, none_not_one, rightly, sequence_same, token_fault, type_named_same}
 
--- returns the state, or the type and the state after it, with another text
+-- `so_over` returns a state with the given text and ordinals in place of its own. The next
+-- definitions do so for a type, fields and a heading, each with the state after it.
 abbrev pub so_over : TextWithTokens → List (Option ℕ) → KnownDeclarations → KnownDeclarations
 so_over source ordinals p = record { source = source; ordinals = ordinals; declared = p.declared; made = p.made }
 
@@ -147,7 +148,7 @@ module _ (c : TwoTexts) where
   so : (z a b : KnownDeclarations) → a ≡ so_old z → b ≡ so_new z → So (without_fault a) (without_fault b)
   so z a b e f = let r = rightly {Near = c.Near} so_old so_new z in record { value = z; before = e; after = f; faults = r.faults }
 
-  -- Declaring a name in both texts sets the declaration with the same ordinal.
+  -- Declaring a name in both texts sets the meaning of the declaration with the same ordinal.
   define_before : (p : KnownDeclarations) (m : Meaning TypeId) (x : ℕ) → define_name_at_token (so_old p) m x ≡ so_old (define_name_at_token (so_old p) m x)
   define_before p m x = declared_over c.old c.old_ordinals (so_old p) m (ordinal_in c.old_ordinals x)
 
@@ -208,7 +209,7 @@ module _ (c : TwoTexts) where
       let r = rightly {Near = c.Near} gathered_old gathered_new h in
       record { value = append_known_fields t.of (gathered_old h) xs; before = names_old t.of h xs; after = names_new t.of h xs ys each; faults = r.faults }
 
-  -- The tokens before a group of fields are near.
+  -- If two groups of fields have the same labels, the tokens before them are near.
   group_near : (g f : Tree ℕ fields) → Same c g f → (k j : ℕ) → c.Near k j → c.Near (token_before_group g k) (token_before_group f j)
   group_near (some_fields (listed x ns) t) (some_fields (listed y ms) u) h k j near =
       let written : listed (c.old_label x) (mapped_tree c.old_label c.old_number ns) ≡ listed (c.new_label y) (mapped_tree c.new_label c.new_number ms) = cc (h) in
@@ -316,7 +317,7 @@ module _ (c : TwoTexts) where
 
   -- ---- headings
 
-  -- Both lists of names give the same parameters.
+  -- Lists with the same number of names give the same parameters.
   same_parameters : (f : KnownParameter TypeId) (xs ys : List ℕ) → SameNames xs ys → map (λ x. f) ys ≡ map (λ x. f) xs
   same_parameters f [] [] h = refl
   same_parameters f [] (y ∷ ys) h = absurd h
@@ -421,7 +422,7 @@ module _ (c : TwoTexts) where
   abbrev pub walked_new : Both → WalkProgress
   walked_new z = record { so_far = so_new z.so; bodies_with_faults = z.in_new }
 
-  -- returns both states at the end of a body that is walked in both texts
+  -- returns the state of both walks after a body that is walked in both texts
   abbrev pub after_body : (own closing : ℕ) → Both → Tree ℕ (maybe body) → Tree ℕ (maybe body) → Both
   after_body own closing z b d = record {
     so = z.so;
@@ -435,7 +436,8 @@ module _ (c : TwoTexts) where
   body_walked : (own closing : ℕ) (z : Both) (b d : Tree ℕ (maybe body)) → Same c b d → Walks (report_body_if_wanted true own (walked_old z) b) (report_body_if_wanted true closing (walked_new z) d)
   body_walked own closing z b d h = record { value = after_body own closing z b d; before = refl; after = refl; faults = body_same z.so b d h }
 
-  -- If a block has the same report in both texts from alike states, it also has after a heading.
+  -- If a block has the same report in both texts for each pair of alike states, it has the same
+  -- report after a procedure's heading.
   block_after : (own closing : ℕ) (z : Both) (b d : Tree ℕ block) → ((y : Both) → Walks (report_on_block includes_every_body own (walked_old y) b) (report_on_block includes_every_body closing (walked_new y) d)) → (h : KnownHeading) (x y : ℕ) → SameName c x y
       → Walks (report_on_block includes_every_body own (walk_with_declarations (walked_old z) (declarations_after_heading x (heading_old h))) b) (report_on_block includes_every_body closing (walk_with_declarations (walked_new z) (declarations_after_heading y (heading_new h))) d)
   block_after own closing z b d each h x y named =

@@ -31,7 +31,7 @@ use Rattle.ob0_types_check.specs.declared.reporting.checker_state.Meaning.TheVar
 use Rattle.ob0_types_check.specs.declared.reporting.checker_state.CheckerState.{CheckerState}
 use Rattle.ob0_types_check.proofs.Unreported.{some-same}
 
--- A type that has a shape in the law has the same shape in the table.
+-- A type that has a shape in the list of shapes has the same shape in the table.
 array_only : (x u : Shape) → shape_if_array x ≡ Some u → array_shape_or_faulty x ≡ u
 array_only integer_shape u e = absurd (cc)
 array_only boolean_shape u e = absurd (cc)
@@ -132,7 +132,8 @@ module _ (s : CheckerState) (m : Tree Name module_text) (h : KnownDeclarationsAg
   abbrev objects : List (Option object.Object)
   objects = map (option_map table_object_of_meaning) s.meanings.items
 
-  -- Setting the three standard procedures one after another gives their objects at their ordinals.
+  -- Setting the three standard procedures one after another gives each of their ordinals its
+  -- standard procedure.
   abbrev first_set : List (Option object.Object)
   first_set = set objects 4 (Some (kind.StandardProcedure standards.Read))
 

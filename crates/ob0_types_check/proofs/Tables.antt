@@ -38,7 +38,8 @@ array-formed : (shape : TypeId → Option Shape) (k : ℕ) (p : CompositeParts) 
 array-formed shape k (of_elements n t) r s (u, e, known) h = (k, n, u, some-same s (array_shape k n u) (sym h ∙ ap shape_if_array e), known)
 array-formed shape k (of_fields fields) r s (fs, e, each) h = absurd (some-none s (sym h ∙ ap shape_if_array e))
 
--- If fields agree with a record's shape, looking up a field by name gives the type of the shape's field.
+-- If fields agree with a record's shape, a name selects a field with the shape that the record's
+-- shape gives for the name.
 field-there : (shape : TypeId → Option Shape) (fields : List KnownField) (fs : FieldShapes) → FieldsAgreeWithShapes shape fields fs → (x : Name) → option_map shape (type_of_field_named fields x) ≡ option_map Some (named_field_shape fs x)
 field-there shape [] no_field_shape h x = refl
 field-there shape [] (next_field_shape y s fs) h x = absurd h

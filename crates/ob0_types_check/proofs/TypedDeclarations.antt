@@ -85,7 +85,8 @@ module _ (w : Numbering) (fit : PartsFit) (fine : PartsRight) where
       none-of-both (u.faults ++ []) (report_on_variable_declarations q gs).faults (none-of-both u.faults [] unreported refl)
       (variables_right gs (k + constructor_count (tree_with_names w.source t)) (ordinal_after_names n xs) q s.after (scope_following w n xs scope) (bind_names (map (token_text_at w.source) xs) (meant.a_variable s.shape) env) (omega (arith, at, s.apart.counted)) all.holds placed.2 after last)
 
-  -- No fault is reported for sections of parameters that have types.
+  -- `after_section` returns the parameters of a section of type `s` and of the further sections
+  -- `fs`. No fault is reported for sections that have such parameters.
   abbrev after_section : ParameterMode → List Name → TypeEnvironment Name → ℕ → Tree Name (items section_after_semicolon) → Shape → Option (List (TypedParameter Name))
   after_section mode ys env k fs s = option_and_then (λ rest. Some (map (typed_as mode s) ys ++ rest)) (typed_parameters naming_by_spelling (bind_names ys (meant.a_variable s) env) k fs)
 

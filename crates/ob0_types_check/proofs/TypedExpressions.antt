@@ -17,11 +17,11 @@ use Rattle.ob0_types_check.proofs.FittingExpressions.{Fits, FitsExpression, Fits
 use Rattle.ob0_types_check.proofs.Operands.{added-fits, element-fits, field-fits, multiplied-fits, apply_sign-fits}
 use Rattle.ob0_types_check.proofs.TypedOperands.{TypesApart, added-right, and-then, complemented-right, element-right, field-right, multiplied-right, none-of-both, related-right, apply_sign-right}
 
--- The type of an operand that fits is the expression's type.
+-- If an operand fits and the expression has the type `s`, the operand has the type `s`.
 known-as : {T : Type 0} {shape : T → Option Shape} {o : Operand T} {type : Option Shape} {value : Option Value} (s : Shape) → Fits shape o type value → type ≡ Some s → shape o.of ≡ Some s
 known-as s f e = f.known ∙ (sym f.typed ∙ e)
 
--- holds if no fault is reported for a name that has a type
+-- states that no fault is reported for a looked-up name if the name has a type
 abbrev pub NameTyped : {T N P : Type 0} → Facts T → (ℕ → N) → Meanings N Shape P → Role → ℕ → Type 0
 NameTyped facts label meaning role.LookedUpName x = (s : Shape) → type_of_variable_or_constant (meaning.object_for (label x)) ≡ Some s → (name_operand facts x).faults ≡ []
 NameTyped facts label meaning role.FieldName x = Unit {0}
@@ -45,7 +45,8 @@ module _ {T N P : Type 0} (facts : Facts T) (shape : T → Option Shape) (types 
   abbrev ids : {s : Sort} → Tree ℕ s → List (Role × ℕ)
   ids t = identifiers role.DeclaringName t
 
-  -- holds if all names of a part agree with their meanings, and no fault is reported for a name that has a type
+  -- states that all names of a part agree with their meanings, and that no fault is reported for
+  -- those names that have a type
   abbrev pub AllTyped : {s : Sort} → Tree ℕ s → Type 0
   AllTyped t = TokensFit facts shape label meaning (identifiers role.DeclaringName t) × NamesTyped facts label meaning (identifiers role.DeclaringName t)
 

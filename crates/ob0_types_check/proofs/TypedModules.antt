@@ -30,7 +30,7 @@ use Rattle.ob0_types_check.proofs.TypedOperands.{and-then, none-of-both}
 use Rattle.ob0_types_check.proofs.TypedTypes.{PartsRight, given-again, parts_right}
 use Rattle.ob0_types_check.proofs.Unreported.{some-same}
 
--- If a test holds for a value that is present, it holds for the value itself.
+-- If an option satisfies a test and has the value `a`, `a` passes the test.
 held-again : {A : Type 0} (o : Option A) (test : A → Bool) (a : A) → o ≡ Some a → option_satisfies o test ≡ true → test a ≡ true
 held-again o test a e h = sym (ap (λ o. option_satisfies o test) e) ∙ h
 

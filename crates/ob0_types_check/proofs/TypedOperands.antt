@@ -21,16 +21,17 @@ use Rattle.ob0_types_check.specs.OperandFaults.{check_sum, require_type, require
 use Rattle.ob0_types_check.specs.Agreement.{FormAgreesWithShape, TypesAgreeWithShapes, shape_if_array, shape_if_record}
 use Rattle.ob0_types_check.proofs.Unreported.{not-true, some-none}
 
--- If two lists of faults are empty, the joined list is.
+-- If two lists of faults are empty, their concatenation is empty.
 pub none-of-both : (xs ys : List FaultAtTokens) → xs ≡ [] → ys ≡ [] → xs ++ ys ≡ []
 none-of-both xs ys p q = λ i. p i ++ q i
 
--- If two steps give a result, each of them gives one.
+-- If two steps together give a result, each of them gives a result.
 pub and-then : {A B : Type 0} (next : A → Option B) (o : Option A) (r : B) → option_and_then next o ≡ Some r → (a : A) × (o ≡ Some a) × (next a ≡ Some r)
 and-then next None r h = absurd (cc)
 and-then next (Some a) r h = (a, refl, h)
 
--- holds if types are distinguished by their shapes: INTEGER, BOOLEAN, and types with parts
+-- states that only INTEGER and BOOLEAN have their shapes, and that a type with the form of a scalar
+-- has no array's or record's shape
 pub record TypesApart {T : Type 0} (types : Types T) (shape : T → Option Shape) : Type 0 where
   pub integer : (t : T) → shape t ≡ Some integer_shape → types.same t types.integer ≡ true
   pub boolean : (t : T) → shape t ≡ Some boolean_shape → types.same t types.boolean ≡ true
@@ -66,7 +67,7 @@ module _ {T : Type 0} (facts : Facts T) (shape : T → Option Shape) (types : Ty
   multiply-require_type multiply_operator.And boolean_shape boolean_shape w e a b p q = (apart.boolean a p, apart.boolean b q)
   multiply-require_type _ _ _ w e a b p q = absurd (cc)
 
-  -- The type that a comparison requires follows from the type of its left side.
+  -- The type that `=` requires is determined by the left operand's type.
   integers-equal : (a : T) → facts.types.same a facts.types.integer ≡ true → operand_type_of_equality facts.types a ≡ facts.types.integer
   integers-equal a e = ap (λ b. if b then facts.types.integer else (if facts.types.same a facts.types.unknown then facts.types.unknown else facts.types.boolean)) e
 

@@ -78,7 +78,7 @@ module _ {T N : Type 0} (facts : Facts T) (shape : T → Option Shape) (types : 
   named-place x (Some (a_procedure fs)) o v (signature, holds, formals) e = no-signature facts shape types apart only label meaning o v signature e holds
   named-place x (Some (a_variable t)) o v a e = variable-place x t facts.only_constants
 
-  -- holds if an expression has this type and its operand is a place
+  -- holds if an expression has this type and its operand may be a variable
   pub record CanCountFrom (e : Tree ℕ expression) (s : Shape) : Type 0 where
     pub typed : type_of_expression meaning (here e) ≡ Some s
     pub placed : (report_on_expression facts e).known.may_be_variable ≡ true

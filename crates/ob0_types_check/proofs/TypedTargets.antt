@@ -27,7 +27,7 @@ use Rattle.ob0_types_check.proofs.TypedNames.{names-typed, types-apart}
 use Rattle.ob0_types_check.proofs.TypedOperands.{TypesApart, none-of-both}
 use Rattle.ob0_types_check.proofs.Unreported.{some-none}
 
--- If selecting from a name's type gives a type, the name is a variable's.
+-- If the selectors after a name give a type, the name is a variable's.
 pub variable-of : {P : Type 0} (o : Option (Object Shape P)) (f : Shape → Option Shape) (s : Shape) → (elim o [ Some (meant.a_variable v) ↦ f v | _ ↦ None ]) ≡ Some s → (v : Shape) × (o ≡ Some (meant.a_variable v)) × (f v ≡ Some s)
 variable-of None f s h = absurd (some-none s (sym h))
 variable-of (Some (meant.a_type t)) f s h = absurd (some-none s (sym h))

@@ -12,12 +12,14 @@ pub none-if : {A : Type 0} (b : Bool) (x : A) → (if b then [] else x ∷ []) �
 none-if true x h = refl
 none-if false x h = absurd (cc)
 
--- If no fault is reported for a choice and the second alternative has one, the first alternative applies.
+-- If no fault is reported for a choice of two reports, and the second report has a fault, the first
+-- report is chosen.
 pub first-reported : {A : Type 0} (b : Bool) (one other : ResultWithFaults A) (x : FaultAtTokens) → other.faults ≡ x ∷ [] → (if b then one else other).faults ≡ [] → (b ≡ true) × (one.faults ≡ [])
 first-reported true one other x e h = (refl, h)
 first-reported false one other x e h = absurd (cc)
 
--- If no fault is reported for a choice and the first alternative has one, the second alternative applies.
+-- If no fault is reported for a choice of two reports, and the first report has a fault, the second
+-- report is chosen.
 pub second-reported : {A : Type 0} (b : Bool) (one other : ResultWithFaults A) (x : FaultAtTokens) → one.faults ≡ x ∷ [] → (if b then one else other).faults ≡ [] → (b ≡ false) × (other.faults ≡ [])
 second-reported true one other x e h = absurd (cc)
 second-reported false one other x e h = (refl, h)

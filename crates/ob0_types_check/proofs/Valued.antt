@@ -46,7 +46,8 @@ module _ {N : Type 0} (among : Meanings N Place (Unit {0})) where
   unfolding evaluate_expression
   negation-value_agrees f = given_step (evaluate_factor among [] f) apply_not
 
-  -- The value of a list of terms or factors after an operand is the value after one more term or factor.
+  -- Evaluating a list of terms or factors after an operand gives the same value as evaluating the
+  -- rest of the list after the operand joined with the first item.
   pub addend-value_agrees : (o : AddOperator) (t : Tree N term) (ts : Tree N (items addend)) (x : Value)
       → outcome_value (evaluate_addends among [] x (more (adds o t) ts)) ≡ option_and_then (λ y. outcome_value (evaluate_addends among [] y ts)) (sum_value o (outcome_value (evaluate_term among [] t)) x)
   unfolding evaluate_expression
@@ -61,7 +62,7 @@ module _ {N : Type 0} (among : Meanings N Place (Unit {0})) where
       given_step (elim (multiply_operator_short_circuits o x) [ true ↦ succeeds_with x | false ↦ evaluate_factor among [] f >>= apply_multiply_operator o x ]) (λ y. evaluate_multipliers among [] y fs)
       ∙ ap (option_and_then (λ y. outcome_value (evaluate_multipliers among [] y fs))) (given_settled (multiply_operator_short_circuits o x) x (evaluate_factor among [] f) (apply_multiply_operator o x))
 
-  -- A name without selectors has the value of its constant.
+  -- The value of a constant's name without selectors is the constant's value.
   whole-value : (v : Option Value) → outcome_value (object_value {P = Unit {0}} [] (option_map a_constant v) >>= (λ w. succeeds_with [] >>= (λ steps. result_or_stuck (value_at_path steps w)))) ≡ v
   whole-value None = refl
   whole-value (Some v) = refl

@@ -1,4 +1,4 @@
--- A body that has no faults still has none after other bodies of the module changed.
+-- If a body has no faults, it still has none after other bodies of the module changed.
 use Rattle.std.proofs.Common.{◌≡◌, ℕ, suc, Bool, true, false, List, [], ◌∷◌, ◌++◌, map, length, Option, None, refl, sym, ap, ◌∙◌, subst, true≢false, arith, if◌then◌else◌}
 use Rattle.ob0_tree.specs.ParsedModule.{tree_of}
 use Rattle.ob0_tree.specs.TokenIndexLeaves.{token_value_at}
@@ -36,7 +36,8 @@ module _ (test : ℕ → Bool) where
   all_and [] y h q = (q, tt)
   all_and (x ∷ xs) y h q = (h.0, all_and xs y h.1 q)
 
-  -- If all bodies in the list are wanted after one was added, they were wanted before.
+  -- If all bodies in a list pass the test after a faulty body was appended, all earlier bodies pass
+  -- it.
   faulty_before : (faults : List FaultAtTokens) (own : ℕ) (xs : List ℕ) → AllClosingNamesPass test (append_body_if_faulty faults own xs) → AllClosingNamesPass test xs
   faulty_before [] own xs h = h
   faulty_before (fault ∷ faults) own xs h = all_before xs (own ∷ []) h
@@ -61,7 +62,7 @@ module _ (test : ℕ → Bool) where
         let g = (report_on_parameter_sections (record { formals = []; following = w.so_far }) (formal_parameter_sections fs)).known in
         before_block closing (walk_with_declarations w (declarations_after_heading x g)) b h
 
--- If only wanted bodies are walked, all bodies found faulty are wanted.
+-- If only wanted bodies are walked, all bodies that are found faulty are wanted.
 module _ (wanted : ℕ → Bool) where
   abbrev Wants : List ℕ → Type 0
   Wants bodies = AllClosingNamesPass wanted bodies
@@ -98,7 +99,7 @@ module _ (wanted : ℕ → Bool) where
 
 -- ---- two texts
 
--- holds if both results come from one value, and the second report equals the third
+-- holds if the two results come from one value, and the second result equals the third
 pub record One {Z A : Type 0} (f g : Z → A) (r s d : ResultWithFaults A) : Type 0 where
   pub value : Z
   pub before : r.known ≡ f value
@@ -108,7 +109,8 @@ pub record One {Z A : Type 0} (f g : Z → A) (r s d : ResultWithFaults A) : Typ
 of_alike : {Near : ℕ → ℕ → Type 0} {Z A : Type 0} {f g : Z → A} {r s : ResultWithFaults A} → Alike Near f g r s → One f g r s s
 of_alike p = record { value = p.value; before = p.before; after = p.after; same = refl }
 
--- Joins two steps. The final state in the old text has a property that then holds for each earlier state.
+-- If two steps have the property `One`, both steps together have it. A property of the final state
+-- in the old text must imply the property of each earlier state.
 one_then : {Z A Y B : Type 0} {f g : Z → A} {h k : Y → B} {t u v : ResultWithFaults A} (J : A → Type 0) (K : B → Type 0) (next other another : A → ResultWithFaults B) → ((x : A) → K (next x).known → J x) → (J t.known → One f g t u v)
     → ((z : Z) → K (next (f z)).known → One h k (next (f z)) (other (g z)) (another (g z)))
     → K (t >>= next).known → One h k (t >>= next) (u >>= other) (v >>= another)
@@ -151,7 +153,9 @@ module _ (c : TwoTexts) (left_out wanted : ℕ → Bool) where
   missing p none h = refl
   missing p (one d) h = absurd (none_not_one h)
 
-  -- `a` is the body in the old text, and `d` in the new one.
+  -- If a body of the old text and a body of the new text are the same or are left out, their
+  -- reports have the property `With`. `a` is the body in the old text, and `d` is the body in the
+  -- new text.
   body_with : (own closing : ℕ) (z : Both) (a d : Tree ℕ (maybe body)) → Same c (if left_out own then none else a) (if wanted closing then none else d) → Were (report_body_if_wanted true own (walked_before z) a).known
       → With (report_body_if_wanted true own (walked_before z) a) (report_body_if_wanted true closing (walked_now z) d) (report_body_if_wanted (wanted closing) closing (walked_now z) d)
   body_with own closing z a d same were = one_of (wanted closing) (left_out own) refl same
@@ -172,7 +176,8 @@ module _ (c : TwoTexts) (left_out wanted : ℕ → Bool) where
       one_of false true e h = quiet (missing (walked_now z).so_far d h)
       one_of false false e h = quiet (none_alike (body_same c z.so a d h) (none_unless (body_faults (walked_before z).so_far a) own z.in_old e were))
 
-  -- The report of a block after a heading is the same in both texts if the report of the block is.
+  -- If the reports of a block have the property `With`, the reports of the block after a
+  -- procedure's heading have it.
   inside : (own closing : ℕ) (z : Both) (b d : Tree ℕ block) (x y : ℕ) (g : KnownHeading) → SameName c x y
       → ((v : Both) → Were (report_on_block includes_every_body own (walked_before v) b).known → With (report_on_block includes_every_body own (walked_before v) b) (report_on_block includes_every_body closing (walked_now v) d) (report_on_block wanted closing (walked_now v) d))
       → Were (report_on_block includes_every_body own (walk_with_declarations (walked_before z) (declarations_after_heading x (heading_old c g))) b).known
@@ -231,7 +236,7 @@ module _ (c : TwoTexts) (left_out wanted : ℕ → Bool) where
 
 -- ---- the number of declarations
 
--- A module without some bodies declares as many names.
+-- Leaving out bodies doesn't change the number of declarations in a module.
 mutual
   counted_block : (left_out : ℕ → Bool) (own k : ℕ) (b : Tree ℕ block) → ordinal_after_block k (block_without_bodies left_out own b) ≡ ordinal_after_block k b
   counted_block left_out own k (forms_block (declares cs ts vs ps) a) =
@@ -245,7 +250,7 @@ mutual
   counted_procedure : (left_out : ℕ → Bool) (k : ℕ) (p : Tree ℕ (item procedure)) → ordinal_after_procedure k (procedure_without_bodies left_out p) ≡ ordinal_after_procedure k p
   counted_procedure left_out k (declares_procedure x fs b closing) = counted_block left_out closing (ordinal_after_names k (formal_parameter_names (formal_parameter_sections fs))) b
 
--- returns no meaning for each declaration
+-- returns None (no meaning) for each declaration in the list
 abbrev no_meanings : List ℕ → List (Option (Meaning TypeId))
 no_meanings xs = map (λ token. None) xs
 
@@ -324,7 +329,7 @@ module _ (wanted : ℕ → Bool) (r : Resolution) (is : IsResolution r) (w : Inc
 pub walking_changed_and_faulty_bodies_suffices : WalkingChangedAndFaultyBodiesSuffices
 walking_changed_and_faulty_bodies_suffices wanted r is w = as_read wanted r is w wanted ∙ (sym (one_walk wanted r is w).same ∙ sym (as_read wanted r is w includes_every_body))
 
--- All faulty bodies of the new text are among the wanted bodies.
+-- All faulty bodies of the changed module are among the wanted bodies.
 pub faulty_stay : (wanted : ℕ → Bool) (r : Resolution) → IsResolution r → IncludesChangedAndFaultyBodies wanted r → AllClosingNamesPass wanted (faulty_bodies r)
 faulty_stay wanted r is w =
     subst (λ (t : ResultWithFaults WalkProgress). Wants wanted t.known.bodies_with_faults) (walking_changed_and_faulty_bodies_suffices wanted r is w)

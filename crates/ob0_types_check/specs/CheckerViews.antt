@@ -81,7 +81,7 @@ meaning_in_state s token =
     (ordinal_in s.resolved.now.ordinals token)
 
 -- Returns the data with which an expression, statement or type name is checked (`Facts`), given the
--- code's state before it. If `only_constants` is true, names may only refer to constants.
+-- code's state before it. `only_constants` says whether names may refer only to constants there.
 abbrev pub facts_in : CheckerState → Bool → Facts TypeId
 facts_in s only_constants = record {
   source = s.resolved.now.module_read.source;

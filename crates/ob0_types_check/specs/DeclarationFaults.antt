@@ -1,9 +1,9 @@
--- The faults of a module's declarations and bodies, in the order in which they are reported. The
--- declarations and bodies are walked in text order. A declaration is known in the text after it. A
--- procedure is known in its own block and after it. The statements of a block's body are walked
--- only if the block's closing name passes a test. The walk lists the closing names of the walked
--- bodies in which a fault is reported. If every closing name passes the test, all faults of the
--- module's declarations and bodies are reported.
+-- Defines the faults of a module's declarations and bodies, in the order in which they are
+-- reported. The declarations and bodies are walked in text order. A declaration is known in the
+-- text after it. A procedure is known in its own block and after it. The statements of a block's
+-- body are walked only if the block's closing name passes a test. The walk lists the closing names
+-- of the walked bodies in which a fault is reported. If every closing name passes the test, all
+-- faults of the module's declarations and bodies are reported.
 -- Rule: docs/LANGUAGE.md, Faults of scopes and types 2 to 11.
 use Rattle.std.specs.Prelude.{ℕ, Bool, true, false, List, [], ◌∷◌, ◌++◌, map}
 use Rattle.std.specs.List.{filter}

@@ -11,18 +11,19 @@ use Rattle.ob0_scope_table.specs.Resolution.{Resolution, ordinal_and_spelling_at
 -- Returns a tree without the statements of some blocks. These are the blocks whose closing names
 -- pass the test `left_out`.
 abbrev mutual
-  -- returns a block without these statements; `own` is the block's closing name
+  -- returns a block without the statements of the blocks to leave out; `own` is the block's closing
+  -- name
   pub block_without_bodies : (ℕ → Bool) → ℕ → Tree ℕ block → Tree ℕ block
   block_without_bodies left_out own (forms_block (declares cs ts vs ps) statements) =
       forms_block (declares cs ts vs (procedures_without_bodies left_out ps)) (if left_out own then none else statements)
 
-  -- returns a list of procedures without these statements
+  -- returns a list of procedures without the statements of the blocks to leave out
   pub procedures_without_bodies : (ℕ → Bool) → Tree ℕ (items procedure) → Tree ℕ (items procedure)
   procedures_without_bodies left_out end = end
   procedures_without_bodies left_out (more p ps) =
       more (procedure_without_bodies left_out p) (procedures_without_bodies left_out ps)
 
-  -- returns a procedure without these statements
+  -- returns a procedure without the statements of the blocks to leave out
   pub procedure_without_bodies : (ℕ → Bool) → Tree ℕ (item procedure) → Tree ℕ (item procedure)
   procedure_without_bodies left_out (declares_procedure x fs b closing) =
       declares_procedure x fs (block_without_bodies left_out closing b) closing

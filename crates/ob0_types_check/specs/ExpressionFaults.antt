@@ -1,7 +1,7 @@
--- The faults of an expression, in the order in which they are reported. The faults of its parts
--- come first, from left to right, and then the faults of the operation. Each function also returns
--- the operand for the checked part (`Operand`): its type, its value if constants determine one, and
--- its tokens.
+-- Defines the faults of an expression, in the order in which they are reported. The faults of its
+-- parts come first, from left to right, and then the faults of the operation. Each function also
+-- returns the operand for the checked part (`Operand`): its type, its value if constants determine
+-- one, and its tokens.
 -- Rule: docs/LANGUAGE.md, Faults of scopes and types 2, 3, 5, 6.
 use Rattle.std.specs.Prelude.{ℕ}
 use Rattle.ob0_tree.specs.Tree.{Tree, addend, adds, compares, designator, end, expression, factor, field, index, integer, item, items, more, multiplier, multiplies, negation, none, one, parenthesised, product, relates, selector, simple, sum, term}

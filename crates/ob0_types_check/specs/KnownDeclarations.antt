@@ -1,5 +1,5 @@
--- The state of the walk that reports a module's faults, at one point of the text. The state has the
--- declarations, and the array and record types, before this point.
+-- Defines the state of the walk that reports a module's faults, at one point of the text. The state
+-- has the declarations, and the array and record types, before this point.
 -- Rule: docs/LANGUAGE.md, Scopes 2, Faults of scopes and types 2.
 use Rattle.std.specs.Prelude.{ℕ, nat_le, Bool, true, false, ◌==◌, ◌&&◌, List, [], ◌∷◌, ◌++◌, length, map, slice_get, slice_index_or, slice_set, if◌then◌else◌, Option, Some, None, option_and_then}
 use Rattle.ob0_scan.specs.declared.fault.FaultCode.TheVariants as code
@@ -111,7 +111,8 @@ meaning_at_token p token =
     option_and_then (λ k. slice_index_or p.declared k None) (ordinal_in p.ordinals token)
 
 -- Returns the data with which an expression, statement or type name is checked (`Facts`), given the
--- declarations known before it. If `only_constants` is true, names may only refer to constants.
+-- declarations known before it. `only_constants` says whether names may refer only to constants
+-- there.
 abbrev pub facts_from_declarations : KnownDeclarations → Bool → Facts TypeId
 facts_from_declarations p only_constants =
     record {

@@ -1,5 +1,5 @@
--- Laws about the report of a module: if nothing is reported, the module passes the type check, and
--- the meaning of each declaration is known.
+-- States laws about the report of a module: if nothing is reported, the module passes the type
+-- check, and the meaning of each declaration is known.
 -- Rule: none; states laws about the faults that are reported for a module.
 use Rattle.std.specs.Prelude.{◌≡◌, ℕ, ◌<◌, ◌≤◌, true, false, List, [], None, length, slice_index_or}
 use Rattle.ob0_language_names.specs.Names.{Name, naming_by_label, naming_by_spelling}

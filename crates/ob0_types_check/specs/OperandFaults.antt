@@ -1,5 +1,6 @@
--- The faults of operators, names and selectors. Each function also returns the operand for the
--- checked expression (`Operand`): its type, its value if constants determine one, and its tokens.
+-- Defines the faults of operators, names and selectors. Each function also returns the operand for
+-- the checked expression (`Operand`): its type, its value if constants determine one, and its
+-- tokens.
 -- Rule: docs/LANGUAGE.md, Types 2, 3, Faults of scopes and types 3, 5.
 use Rattle.std.specs.Prelude.{◌≡◌, ℕ, ◌+◌, ◌-◌, nat_lt, Bool, true, false, ◌||◌, List, [], ◌∷◌, ◌++◌, length, if◌then◌else◌, Option, Some, None, option_and_then, pos}
 use Rattle.ob0_scan.specs.declared.fault.FaultCode.{FaultCode}
@@ -34,8 +35,8 @@ infixl 20 ◌>>=◌
 abbrev pub ◌>>=◌ : {A B : Type 0} → ResultWithFaults A → (A → ResultWithFaults B) → ResultWithFaults B
 t >>= next = prepend_faults t.faults (next t.known)
 
--- The contract of code that checks: it returns the result `x` that `t` defines, and appends exactly
--- the faults of `t` to the list `before`, which makes `after`.
+-- States that code returns the result `x` that `t` defines, and appends exactly the faults of `t`
+-- to the list `before`, which makes `after`.
 pub record ReturnsAndReports
     {A : Type 0} (before after : List FaultAtTokens) (x : A) (t : ResultWithFaults A) : Type 0 where
   pub known : x ≡ t.known

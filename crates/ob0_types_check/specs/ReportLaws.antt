@@ -1,5 +1,5 @@
--- Laws about the faults reported for expressions and statements. For example, expressions and
--- statements without reported faults are well-typed. `N` is the type of the names in a tree.
+-- States laws about the faults reported for expressions and statements. For example, expressions
+-- and statements without reported faults are well-typed. `N` is the type of the names in a tree.
 -- Rule: none; states laws about the faults that are reported for expressions and statements.
 use Rattle.std.specs.Prelude.{◌≡◌, ℕ, Bool, true, false, List, [], Option, Some, is_some}
 use Rattle.ob0_tree.specs.TokenIndexLeaves.{token_value_at}

@@ -1,5 +1,5 @@
--- The faults of statements, in the order in which they are reported: statement by statement, and
--- within a statement part by part from left to right.
+-- Defines the faults of statements, in the order in which they are reported: statement by
+-- statement, and within a statement part by part from left to right.
 -- Rule: docs/LANGUAGE.md, Types 2, 5, Faults of scopes and types 5, 7 to 9.
 use Rattle.std.specs.Prelude.{ℕ, nat_eq, ◌&&◌, not, List, [], ◌∷◌, ◌++◌, length, Option, Some, None, if◌then◌else◌}
 use Rattle.ob0_scan.specs.declared.fault.FaultCode.TheVariants as code

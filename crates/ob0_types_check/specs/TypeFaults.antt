@@ -1,5 +1,6 @@
--- The faults of constants, array lengths and type names, each with the value or type that is found.
--- An operand (`Operand`) is the result of checking an expression: its type, value and tokens.
+-- Defines the faults of constants, array lengths and type names, each with the value or type that
+-- is found. An operand (`Operand`) is the result of checking an expression: its type, value and
+-- tokens.
 -- Rule: docs/LANGUAGE.md, Faults of scopes and types 4, 6, `ConstFault`, `ArrayLength`.
 use Rattle.std.specs.Prelude.{ℕ, Option, Some, None, if◌then◌else◌}
 use Rattle.ob0_scan.specs.declared.fault.FaultCode.TheVariants as code
@@ -41,8 +42,8 @@ abbrev pub require_constant_value : {T : Type 0} → Facts T → Operand T → R
 require_constant_value facts o =
     if facts.types.same o.of facts.types.unknown then without_fault None else value_or_fault o o.value
 
--- returns the faults and the value of a constant's right side, in which names may only refer to
--- constants
+-- Returns the faults and the value of the expression on the right side of a constant's declaration.
+-- `facts` should allow only names of constants (`only_constants`).
 unfoldable pub report_on_constant_expression : {T : Type 0}
     → Facts T
     → Tree ℕ expression

@@ -31,9 +31,10 @@ AllClosingNamesPass test (closing ∷ others) = (test closing ≡ true) × AllCl
 abbrev pub includes_body : BodiesToWalk → ℕ → Bool
 includes_body w closing = w.includes_every_body || is_body_in_list w.listed_bodies.now closing
 
--- States that the module `r` has an older version (`old`). The two versions are equal except in the
--- bodies of `old` that pass the test `left_out` and the bodies of `r` that pass the test `wanted`.
--- The faulty bodies of `old` all pass `left_out`. A test is about the closing name of a body's block.
+-- States that the module `r` has an older version (`old`), and that `wanted` selects enough bodies
+-- of `r` to walk. A test is about the closing name of a body's block. The two versions are equal
+-- except in the bodies of `old` that pass the test `left_out` and the bodies of `r` that pass the
+-- test `wanted`. The faulty bodies of `old` all pass `left_out`.
 pub record IncludesChangedAndFaultyBodies (wanted : ℕ → Bool) (r : Resolution) : Type 0 where
   pub old : Resolution
   pub left_out : ℕ → Bool
@@ -42,9 +43,8 @@ pub record IncludesChangedAndFaultyBodies (wanted : ℕ → Bool) (r : Resolutio
   pub equal : AreEqualExceptInBodies left_out wanted old r
 
 -- States that walking only the bodies that pass the test `wanted` gives the same report as walking
--- all bodies. The module must have an older version, and the two may differ only in bodies that are
--- left out of the comparison. In the module these must pass the test. In the older version they must
--- include every body that had a fault.
+-- all bodies. The test must include the changed and the faulty bodies
+-- (`IncludesChangedAndFaultyBodies`).
 abbrev pub WalkingChangedAndFaultyBodiesSuffices : Type 0
 WalkingChangedAndFaultyBodiesSuffices =
     (wanted : ℕ → Bool) (r : Resolution)

@@ -1,5 +1,5 @@
--- Laws about well-typed modules, expressions and statements: no type fault and no undeclared name
--- is reported for them. `N` is the type of names.
+-- States laws about well-typed modules, expressions and statements: no type fault and no undeclared
+-- name is reported for them. `N` is the type of names.
 -- Rule: docs/LANGUAGE.md, Types 8; states laws about the faults that are reported.
 use Rattle.std.specs.Prelude.{◌≡◌, ℕ, Bool, true, false, [], List, Option, Some, None, option_and_then, is_some, slice_get}
 use Rattle.std.specs.List.{filter}

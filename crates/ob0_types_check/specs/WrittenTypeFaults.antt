@@ -1,5 +1,5 @@
--- The faults of written types, in the order in which they are reported. The faults of the parts
--- come first, from left to right, and then `TypeTooLarge` for the whole type.
+-- Defines the faults of written types, in the order in which they are reported. The faults of the
+-- parts come first, from left to right, and then `TypeTooLarge` for the whole type.
 -- Rule: docs/LANGUAGE.md, Faults of scopes and types 2, 4, 10, `TypeTooLarge`.
 use Rattle.std.specs.Prelude.{ℕ, suc, ◌+◌, ◌*◌, max, true, false, List, [], ◌∷◌, ◌++◌, length, Option, Some, None}
 use Rattle.ob0_language_names.specs.BlockParts.{names_in_list}

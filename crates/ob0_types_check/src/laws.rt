@@ -102,9 +102,9 @@ pub fn typed_modules_have_no_fault()
 {}
 
 /// Proves that, after a change of a module's text, a walk over only some bodies gives the same
-/// report as a walk over all bodies. Without the walked bodies, the module must be equal to the
-/// older one without some bodies: those that changed, and every body that had a fault. Only the
-/// indexes of tokens may differ.
+/// report as a walk over all bodies. Without the walked bodies, the module must be equal to its
+/// older version without some bodies. The bodies left out there must include every body that
+/// changed or had a fault. Only the indexes of tokens may differ.
 pub fn walking_changed_and_faulty_bodies_suffices()
     ensures { WalkingChangedAndFaultyBodiesSuffices }
 {}
