@@ -25,8 +25,8 @@ use Rattle.ob0_types_check.specs.TypeFaults.{length_from_operand}
 use Rattle.ob0_types_check.specs.WrittenTypeFaults.{KnownFields, make_array_type, array_size, append_field_group, no_known_fields, next_type_ordinal, make_record_type, record_size, record_keyword_token, report_on_field_group, report_on_further_field_groups, report_on_written_type, append_known_fields, append_known_field, token_before_group}
 use Rattle.ob0_types_check.proofs.SameFaults.{Alike, AreFaultsAlike, Same, SameName, TwoTexts, constant_same, end_not_more, equal_faults, expression_same, first_equal, further_equal, goes_on, in_new, in_old, item_equal, length_same, none_not_one, rightly, sequence_same, token_fault, type_named_same}
 
--- `so_over` returns a state with the given text and ordinals in place of its own. The next
--- definitions do so for a type, fields and a heading, each with the state after it.
+-- `so_over` returns a state whose text and ordinals are replaced by the given ones. The next definitions
+-- do so for a type, fields and a heading, each with the state after it.
 abbrev pub so_over : TextWithTokens → List (Option ℕ) → KnownDeclarations → KnownDeclarations
 so_over source ordinals p = record { source = source; ordinals = ordinals; declared = p.declared; made = p.made }
 

@@ -1,4 +1,4 @@
--- In a numbered tree, the name of a field is a label with only a spelling, so it is unbound.
+-- In a numbered tree, the name of a field is a label with only a spelling: it is unbound.
 use Rattle.std.proofs.Common.{ℕ, suc, None, List, [], ◌∷◌}
 use Rattle.ob0_tree.specs.Tree.{Tree, array_type, block, declares, declares_procedure, declares_type, declares_type_section, declares_variable, declares_var_section, end, fields, formals, fields_after_semicolon, name_after_comma, section_after_semicolon, forms_block, forms_module, item, items, listed, maybe, module_text, more, named_type, names, no_fields, no_formals, none, one, procedure, record_type, section, some_fields, some_formals, semicolon_then_fields, comma_then_name, semicolon_then_section, type_definition, type_definitions, value_section, variable, variable_section, variables, written_type}
 use Rattle.ob0_language_names.specs.MappedNames.{map_names}

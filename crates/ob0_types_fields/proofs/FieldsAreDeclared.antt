@@ -1,5 +1,5 @@
--- Each field identifier in a well-typed module belongs to a field that its record declares. This is
--- true for the identifiers that declare fields, so it is also true for the selected fields.
+-- Each field identifier in a well-typed module belongs to a field that its record declares. This is true
+-- for the identifiers that declare fields, and therefore also for the selected fields.
 use Rattle.std.proofs.Common.{◌≡◌, ℕ, ◌==◌, Bool, true, false, ◌&&◌, if◌then◌else◌, List, [], ◌∷◌, map, is_some, Some, None, Option, refl, sym, ap, ◌∙◌, subst, eq-eqb}
 use Rattle.std.proofs.lemmas.List.Elements.{All-cons, All-nil}
 use Rattle.std.proofs.lemmas.Slice.Eq.{bytes_eq-Decides}

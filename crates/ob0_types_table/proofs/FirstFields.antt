@@ -53,8 +53,8 @@ none_before (Some i) = ap Some (omega arith)
 pub first-place : (shapes : List Shape) (fs : List Field) (x : Name) → option_map (λ (e : FirstField). e.place) (find_field_counting_from 0 fs x) ≡ position_of_field (field_shapes shapes fs) x
 first-place shapes fs x = find_field_counting_from-place shapes 0 fs x ∙ none_before (position_of_field (field_shapes shapes fs) x)
 
--- holds if the map has, for each name, the first field with this name among the fields from the
--- position `left` on
+-- holds if the map has, for each name, the first field with this name among the fields whose
+-- position is at least `left`
 pub record Filled (map : BTreeMap (String Global) FirstField) (fs : List Field) (left : ℕ) : Type 0 where
   pub index : IsFirstFieldMapCountingFrom map left (drop left fs)
   pub within : left ≤ length fs
