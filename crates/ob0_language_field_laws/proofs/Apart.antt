@@ -147,7 +147,8 @@ pub same_known_shape-by : (l : FieldRenaming) → KeepsFieldsDistinct l → (a b
 same_known_shape-by l apart (Some s) (Some t) = same_shape-by l apart s t
 same_known_shape-by l apart _ _ = refl
 
--- Returns the meaning of a name in which the fields of types have other names.
+-- Returns a parameter, an object or the meanings of names, with all fields of types under other
+-- names.
 
 abbrev pub formal_by : FieldRenaming → FormalParameter → FormalParameter
 formal_by l f = record { mode = f.mode; shape = shape_by l f.shape }

@@ -86,7 +86,8 @@ object_for_statements-as l _ = refl
 pub meanings-as : (l : FieldRenaming) (scene : Scene) → meanings_for_statements naming_by_spelling (env_as l scene) ≡ active l (things_in scene)
 meanings-as l scene = λ i. named (λ x. (ap object_for_statements (object-as l scene x) ∙ object_for_statements-as l (newest_thing (scene_from scene x))) i)
 
--- returns the meaning of a name if each field has its present name
+-- converts the meaning of a name in both runs to an object in which each field has its original
+-- name
 
 abbrev pub bare_object : Thing Text → Object Spot Text
 bare_object (type_thing s) = a_type s
@@ -118,7 +119,7 @@ value-as l scene e = constant_expression_value-alike (λ x. newest_object (suffi
 pub denoted_type-as : (l : FieldRenaming) (scene : Scene) (k : ℕ) (t : Tree Name written_type) → denoted_type (meanings naming_by_spelling (env_as l scene)) k (rename_declared_fields l no_field k t) ≡ option_map (shape_by l) (denoted_type (named (objects_in scene)) k t)
 denoted_type-as l scene k t = denoted_type-rename_selected_fields l (λ x. newest_object (suffix_from_newest_binding naming_by_spelling (env_as l scene) x)) (objects_in scene) (constants-as l scene) (types-as l scene) k t
 
--- holds if both runs give results that stand for the same thing, or neither gives a result
+-- holds if two optional results are both None, or they are `f a` and `g a` for the same `a`
 abbrev pub Both : {A X Y : Type 0} → (A → X) → (A → Y) → Option X → Option Y → Type 0
 Both {A} f g o₁ o₂ = (o : Option A) × (o₁ ≡ option_map f o) × (o₂ ≡ option_map g o)
 
@@ -174,7 +175,7 @@ declare_types-both l scene k (more (declares_type x u) ds) =
     (denoted_type (meanings naming_by_spelling (env_as tagged scene)) k (rename_declared_fields tagged no_field k u)) (denoted_type (meanings naming_by_spelling (env_as l scene)) k (rename_declared_fields l no_field k u)) (denoted_type-both l scene k u)
     (λ s. declare_types-both l ((x, type_thing s) ∷ scene) (k + constructor_count u) ds))
 
--- If fields get other names, only these names change in the first values of variables.
+-- If fields get other names, only these names change in the initial values of variables.
 
 copies-by : (l : FieldRenaming) (n : ℕ) (v : Value) → copies n (value_by l v) ≡ values_by l (copies n v)
 copies-by l zero v = refl
@@ -245,7 +246,7 @@ declare_procedures-by l k (more p rest) env scene =
     ((procedure_name-rename_selected_fields l e k p i, a_procedure record { constructors_before = k; text = rename_fields_in_procedure l e k p }) ∷ env_as l scene))
     ∙ declare_procedures-by l (k + procedure_constructor_count p) rest (environment_after_heading env k p) ((procedure_name p, procedure_thing record { first = k; checked = e; text = p }) ∷ scene)
 
--- Declaring the parts of a block does the same in both runs.
+-- Declaring the parts of a block gives corresponding frames in both runs, or none in both.
 
 abbrev declared_parts : FieldRenaming → ℕ → ℕ → ℕ → Tree Name (items constant) → Tree Name (items type_definition) → Tree Name (items variable) → Tree Name (items procedure) → TypeEnvironment Name → Stage → Option (Frame Name)
 declared_parts l k j n cs ts vs ps inner f =

@@ -19,7 +19,8 @@ use Rattle.ob0_language_fields.specs.RenamedFields.{FieldRenaming, rename_select
 abbrev pub state_by : FieldRenaming → State → State
 state_by l s = record { store = store_by l s.store; input = s.input; output = s.output }
 
--- holds if the first run is stuck, or both continue in the same state, or both end alike
+-- holds if the first run is stuck, or both continue in states that correspond to the same state, or
+-- both end with the same end and output
 abbrev pub Goes : FieldRenaming → Progress → Progress → Type 0
 Goes l (running s₁) (running s₂) = (s : State) × (s₁ ≡ state_by tagged s) × (s₂ ≡ state_by l s)
 Goes l (running s₁) (stopped e out) = ⊥

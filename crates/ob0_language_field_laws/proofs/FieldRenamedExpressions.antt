@@ -61,7 +61,8 @@ object_value-follows l apart store _ = inl refl
 abbrev pub PathsFollow : FieldRenaming → Outcome (List PathStep) → Outcome (List PathStep) → Type 0
 PathsFollow l = Follows (map (step_by tagged)) (map (step_by l))
 
--- makes a step, and then follows the path that continues from the selected element or member
+-- returns the path that begins with the step `s` and continues with the path that `next` returns
+-- for the selected element or member
 abbrev pub follow_on : (Value → Outcome (List PathStep)) → Value → PathStep → Outcome (List PathStep)
 follow_on next v s = result_or_stuck (value_at_step v s) >>= (λ w. next w >>= (λ steps. succeeds_with (s ∷ steps)))
 

@@ -58,7 +58,8 @@ formals-by l (p ∷ ps) = λ i. formal_by l p.formal ∷ formals-by l ps i
 pub bind_procedure-by : (l : FieldRenaming) (x : Name) (ps : List (TypedParameter Name)) (env : TypeEnvironment Name) → bind_procedure x (map (parameter_by l) ps) (env_by l env) ≡ env_by l (bind_procedure x ps env)
 bind_procedure-by l x ps env = λ i. (x, a_procedure (formals-by l ps i)) ∷ env_by l env
 
--- The sections of a block with its fields under other names are the sections with theirs.
+-- The declarations in a section with renamed fields are the section's declarations with renamed
+-- fields.
 
 pub section_types-rename_selected_fields : (l : FieldRenaming) (k : ℕ) (ts : Tree Name (maybe type_definitions)) → section_types (rename_declared_fields l no_field k ts) ≡ rename_declared_fields l no_field k (section_types ts)
 section_types-rename_selected_fields l k none = refl
@@ -133,7 +134,8 @@ mutual
   procedure_constructor_count-rename_selected_fields l env k (declares_procedure x fs b closing) = λ i.
       formals_count-rename_selected_fields l k fs i + block_constructor_count-rename_selected_fields l env (constructor_count_before_procedure_block k (declares_procedure x fs b closing)) b i
 
--- Declarations give the same environment with the fields under other names.
+-- Declarations with renamed fields give the original environment with the fields of its types
+-- renamed.
 
 pub declare_constants-by : (l : FieldRenaming) (env : TypeEnvironment Name) (cs : Tree Name (items constant)) → declare_constants naming_by_spelling (env_by l env) cs ≡ option_map (env_by l) (declare_constants naming_by_spelling env cs)
 unfolding declare_constants
@@ -182,7 +184,7 @@ typed_parameters-by l env k (more (semicolon_then_section f) fs) =
     (ap (λ inner. typed_parameters naming_by_spelling inner (k + constructor_count (parameter_section_type f)) (rename_declared_fields l no_field (k + constructor_count (parameter_section_type f)) fs)) (bind_names-by l (parameter_section_names f) (a_variable s) env) ∙ typed_parameters-by l (bind_names (parameter_section_names f) (a_variable s) env) (k + constructor_count (parameter_section_type f)) fs)
     (λ rest i. Some (parameters-by l (parameter_section_mode f) s (parameter_section_names f) rest i)))
 
--- A block is well-typed exactly if it is with its fields under other names.
+-- A block with renamed fields is well-typed exactly if the original block is.
 
 pub body_is_well_typed-rename_selected_fields : (l : FieldRenaming) → KeepsFieldsDistinct l → (env : TypeEnvironment Name) (statements : Tree Name (maybe body)) → body_is_well_typed naming_by_spelling (env_by l env) (rename_selected_fields l (meanings naming_by_spelling env) None statements) ≡ body_is_well_typed naming_by_spelling env statements
 unfolding body_is_well_typed

@@ -16,7 +16,7 @@ use Rattle.ob0_language_fields.specs.MarkedFields.{declares_field, environment_a
 use Rattle.ob0_language_fields.specs.RenamedFields.{FieldRenaming, rename_declared_fields, rename_fields_in_block, rename_fields_in_module, rename_fields_in_procedure, rename_fields_in_procedure_list, rename_marked_fields}
 use Rattle.ob0_language_fields.proofs.MarkedNames.{plain_renamed}
 
--- The fields of a record under other names are its fields with their new names.
+-- The field names of a record with renamed fields are the new names of its fields.
 
 fields_after_semicolon-named : (l : FieldRenaming) (r : ℕ) (xs : Tree Name (items name_after_comma)) → names_after_first (rename_marked_fields l (mark_all_names (declares_field r) xs)) ≡ map (l (Some r)) (names_after_first xs)
 fields_after_semicolon-named l r end = refl
@@ -58,7 +58,8 @@ mutual
   later_groups_have_distinct_fields-rename_selected_fields l apart r k end = refl
   later_groups_have_distinct_fields-rename_selected_fields l apart r k (more (semicolon_then_fields g) rest) = λ i. group_has_distinct_fields-rename_selected_fields l apart r k g i && later_groups_have_distinct_fields-rename_selected_fields l apart r (k + group_constructor_count g) rest i
 
--- The declarations of a block declare each field once exactly if they do with fields under other names.
+-- The records in a block's declarations have distinct field names exactly if they have them after
+-- the fields are renamed.
 
 types_have_distinct_fields-rename_selected_fields : (l : FieldRenaming) → KeepsFieldsDistinct l → (k : ℕ) (ds : Tree Name (items type_definition)) → types_have_distinct_fields (rename_declared_fields l no_field k ds) ≡ types_have_distinct_fields ds
 types_have_distinct_fields-rename_selected_fields l apart k end = refl

@@ -73,7 +73,8 @@ mutual
       map-then (shape_by l) (shape_by l) _ _ (λ i. option_and_then (λ t. type_after_selectors (named objects) t rest) (element_type s i)) (λ i. option_and_then (λ t. type_after_selectors (named_by l objects) t (rename_selected_fields l (named objects) (element_type s integer_shape) rest)) (element_type (shape_by l s) i)) (type_of_expression-rename_selected_fields l apart objects e)
       (λ i. index-step l s i (λ t o. type_after_selectors (named_by l objects) t (rename_selected_fields l (named objects) o rest)) (λ t. type_after_selectors (named objects) t rest) (λ u. type_after_selectors-rename_selected_fields l apart objects u rest))
 
--- A type's text with its fields under other names denotes the same type with these names.
+-- A written type with renamed fields has as many words ARRAY and RECORD as the original one, and
+-- denotes the original one's type with renamed fields.
 
 mutual
   pub constructor_count-rename_selected_fields : (l : FieldRenaming) (k : ℕ) (t : Tree Name written_type) → constructor_count (rename_declared_fields l no_field k t) ≡ constructor_count t

@@ -1,4 +1,5 @@
--- The proofs of the laws about renamed fields.
+-- Proves that a well-typed module remains well-typed and has the same runs if its fields are
+-- renamed and different fields of a record get different names.
 use Rattle.std.proofs.Common.{IsTrue, sym, refl, ap, ◌∙◌, subst}
 use Rattle.ob0_language_names.specs.Names.{naming_by_spelling}
 use Rattle.ob0_language_types.specs.WellTyped.{WellTyped}

@@ -179,7 +179,8 @@ with_value_at_path-finds l apart (m ∷ moves) new v =
         (finds-made (value_by tagged) (value_by l) (value_by tagged) (value_by l) (with_value_at_path (map (step_by tagged) moves) (value_by tagged new) (value_by tagged old)) (with_value_at_path (map (step_by l) moves) (value_by l new) (value_by l old))
         (with_value_at_step (value_by tagged v) (step_by tagged m)) (with_value_at_step (value_by l v) (step_by l m)) (with_value_at_step v (step_by bare m)) (below old) h.0.written h.1.written)
 
--- Looking up and replacing variables of the store does the same in both runs.
+-- If the first run finds a variable or a place in its store, the second run finds the corresponding
+-- one. If it replaces the value there, the stores still correspond.
 
 pub slice_set-by : (l : FieldRenaming) (store : Store) (n : ℕ) (new : Value) → slice_set (store_by l store) n (value_by l new) ≡ store_by l (slice_set store n new)
 slice_set-by l (v ∷ store) (suc n) new = λ i. value_by l v ∷ slice_set-by l store n new i

@@ -74,7 +74,8 @@ labels_in-undeclared d new (b ∷ scope) h =
     let parts = or_parts (b.1 == d) (declares_ordinal scope d) h in
     λ i. (if parts.0 i then new else b.0) ∷ labels_in-undeclared d new scope parts.1 i
 
--- The new name isn't among the names of a scope without `d`, if no other declaration has it.
+-- If a scope doesn't declare `d`, and no other declaration in it has the new name, the new name
+-- isn't among its names.
 pub new-apart : (d : ℕ) (new : Name) (scope : Scope Name) → declares_ordinal scope d ≡ false → another_declaration_has_name scope d new ≡ false → is_among new (labels_in own_name scope) ≡ false
 new-apart d new [] h g = refl
 new-apart d new (b ∷ scope) h g =

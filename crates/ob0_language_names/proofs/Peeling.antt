@@ -4,7 +4,8 @@ use Rattle.std.proofs.Common.{◌≡◌, List, [], ◌∷◌, ◌++◌, sym, ref
 use Rattle.ob0_tree.specs.Tree.{Sort, Tree, adds, array_type, assigns, begins, branches, calls, compares, declares, declares_constant, declares_const_section, declares_procedure, declares_type, declares_type_section, declares_variable, declares_var_section, designator, else_branch, elsif_branch, empty, end, field, name_after_comma, forms_block, index, integer, forms_module, items, listed, more, multiplies, named_type, names, negation, no_arguments, no_fields, no_formals, none, occurrences, one, parenthesised, product, record_type, relates, repeat_loop, runs, some_arguments, some_fields, some_formals, sum, comma_then_argument, semicolon_then_fields, comma_then_name, semicolon_then_section, semicolon_then_statement, value_section, variable_section, while_loop}
 use Rattle.ob0_language_names.specs.MappedNames.{map_names}
 
--- holds if two equal lists that begin with `a` and with `b` imply `P` and have equal rests
+-- states that if two lists that begin with `a` and with `b` are equal, then `P` holds and their
+-- rests are equal
 pub record Peel (K : Type 0) (a b : List K) (P : Type 0) : Type 0 where
   pub peeled : (r s : List K) → a ++ r ≡ b ++ s → P × (r ≡ s)
 

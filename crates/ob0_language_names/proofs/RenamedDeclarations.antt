@@ -1,5 +1,5 @@
--- If a new name is free, the renamed module has consistent names (`has_consistent_names`) if the
--- original module has.
+-- If a module has consistent names (`has_consistent_names`) and the new name of a declaration is
+-- free, the renamed module also has consistent names.
 use Rattle.std.proofs.Common.{Bool, List, Some, [], ap, append-nil, falls, false, if◌then◌else◌, le_refl, refl, suc, sym, true, ℕ, ◌&&◌, ◌++◌, ◌==◌, ◌∙◌, ◌∷◌, ◌≡◌}
 use Rattle.ob0_tree.specs.Tree.{Tree, array_type, block, constant, declares, declares_constant, declares_procedure, declares_type, declares_variable, end, fields, fields_after_semicolon, name_after_comma, section_after_semicolon, forms_block, forms_module, item, items, listed, more, named_type, names, no_fields, procedure, record_type, some_fields, semicolon_then_fields, comma_then_name, semicolon_then_section, type_definition, variable, written_type}
 use Rattle.ob0_language_names.specs.ConsistentNames.{are_distinct, names_declared_in_block, block_has_consistent_names, has_distinct_fields, formals_have_distinct_fields, group_field_names, group_has_distinct_fields, field_names_after_first_group, later_groups_have_distinct_fields, procedure_names, procedure_has_consistent_names, procedure_list_has_consistent_names, types_have_distinct_fields, variables_have_distinct_fields}

@@ -71,8 +71,9 @@ mutual
       ordinal_after_block-relabel naming label (declare_names (suc k) (formal_parameter_names (formal_parameter_sections fs)) ((x, k) ∷ scope)) (ordinal_after_names (suc j) (formal_parameter_names (formal_parameter_sections (relabel_formals naming label scope (suc k) fs)))) (ordinal_after_names (suc k) (formal_parameter_names (formal_parameter_sections fs))) b
       (ap (λ l. ordinal_after_names (suc j) (formal_parameter_names l)) (formals-section naming label scope (suc k) fs) ∙ after_sections naming label scope (suc j) (suc k) (formal_parameter_sections fs) (ap suc e))
 
--- Relabelling declarations twice is numbering them. `ren` relabels names and leaves unbound names unchanged. `here` is
--- a scope of the original tree, and `there` the same scope of the relabelled tree.
+-- Numbering relabelled declarations gives the same trees as numbering the original ones. `ren`
+-- relabels names and leaves unbound names unchanged. `here` is a scope of the original tree, and
+-- `there` the same scope of the relabelled tree.
 
 pub names_after_first-twice : {N : Type 0} (naming : Naming N) (ren : Labelling N N) (j k : ℕ) → j ≡ k → (xs : Tree N (items name_after_comma)) → relabel_names_after_first (label_from_ordinal naming) j (relabel_names_after_first ren k xs) ≡ relabel_names_after_first (label_from_ordinal naming) k xs
 names_after_first-twice naming ren j k e end = refl

@@ -1,4 +1,4 @@
--- The trees of the modules in worked examples.
+-- Defines the trees of the modules in worked examples.
 use Rattle.std.proofs.Common.{Some, None, codes}
 use Rattle.ob0_tree.specs.declared.tree.Relation.TheVariants as relation
 use Rattle.ob0_tree.specs.declared.tree.Sign.TheVariants as sign

@@ -1,5 +1,5 @@
--- The parts of blocks, procedures and modules: their sections, names, bodies, and the names that
--- each section declares.
+-- Defines the parts of blocks, procedures and modules: their sections, names, bodies, and the names
+-- that each section declares.
 -- Rule: none; used in definitions about declarations.
 use Rattle.std.specs.Prelude.{List, [], ◌∷◌, ◌++◌}
 use Rattle.ob0_tree.specs.Tree.{Tree, block, body, constant, constants, declares, declares_constant, declares_const_section, declares_procedure, declares_type, declares_type_section, declares_variable, declares_var_section, end, formals, name_after_comma, section_after_semicolon, forms_block, forms_module, item, items, listed, maybe, module_text, more, names, no_formals, none, one, procedure, section, some_formals, comma_then_name, semicolon_then_section, type_definition, type_definitions, value_section, variable, variable_section, variables, written_type}

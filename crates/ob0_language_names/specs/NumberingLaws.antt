@@ -1,4 +1,4 @@
--- The law that renaming to a free name changes no binding.
+-- States the law that renaming to a free name changes no binding.
 -- Rule: none; states a law about names.
 use Rattle.std.specs.Prelude.{◌≡◌, ℕ}
 use Rattle.ob0_tree.specs.Tree.{Tree, module_text}

@@ -158,7 +158,8 @@ pub noted_variables-within : {N : Type 0} (k : ℕ) (xs : List N) (v : Value) (f
 noted_variables-within k [] v f below = (refl, below)
 noted_variables-within k (x ∷ xs) v f below = noted_variables-within (suc k) xs v (noted_variable x k v f) (le_refl (suc k), tt, below)
 
--- Moves a fact along the scopes and the frames to which names are added.
+-- If `Goal` holds for the scope and frames to which `noted_variables` adds the variables `xs`, it
+-- holds for the scope and frames to which they are added directly.
 pub moved : {N X : Type 0} (Goal : ℕ → Scope N → Scope N → X → Frame N → Frame Label → Type 0) (naming : Naming N) (k : ℕ) (xs ys : List N) (v : Value) (f : NotedFrame N) (below : Below k f.noted) (x : X)
     → Goal (ordinal_after_names (ordinal_after_names k xs) ys) (declare_names (ordinal_after_names k xs) ys (scope_of (noted_variables k xs v f).noted)) (scope_of (noted_variables k xs v f).noted) x (frame_by_name (noted_variables k xs v f)) (frame_by_ordinal naming (noted_variables k xs v f))
     → Goal (ordinal_after_names k (xs ++ ys)) (declare_names k (xs ++ ys) (scope_of f.noted)) (declare_names k xs (scope_of f.noted)) x (add_variables_to_frame xs v (frame_by_name f)) (add_variables_to_frame (labels_of_declared_names (label_from_ordinal naming) k xs) v (frame_by_ordinal naming f))
@@ -214,7 +215,7 @@ procedures-within j k (more p rest) noted below =
     procedures-within (j + procedure_constructor_count p) (ordinal_after_procedure (suc k) p) rest (record { name = procedure_name p; ordinal = k; object = a_procedure record { constructors_before = j; text = p } } ∷ noted)
     (le-ordinal_after_procedure (suc k) p, refl, below)
 
--- The declarations of a block do the same by name and by ordinal.
+-- The declarations of a block give environments that agree by name and by ordinal.
 
 pub firsts_declared : {N : Type 0} (naming : Naming N) (j k : ℕ) (noted : Noted N) → Below k noted → (b : Tree N block)
     → Agree by_name (by_ordinal naming) (Within (first_variable_ordinal k b) (scope_before_variables k b (scope_of noted)))
@@ -347,7 +348,7 @@ parameters_bound {N} naming k f below (p ∷ ps) (a ∷ args) = go p.mode a (λ 
     go by_value (place_argument place) next = (None, refl, refl, tt)
     go by_value (value_argument v) next = next (noted_variable p.name k v f) (le_refl (suc k), tt, below)
 
--- The statements of a body do the same by name and by ordinal.
+-- If calls do the same by name and by ordinal, executing a body also does.
 
 pub body-agrees : {N : Type 0} (naming : Naming N) (n : ℕ) (noted : Noted N) → Below n noted → (there : CallFunction Label) (here : CallFunction N) → ((x : N) → there (label_at_token naming noted x) ≡ here x)
     → (t : ℕ) (statements : Tree N (maybe body)) → execute_body naming_by_label (by_ordinal naming noted) there t (map_names (label_at_token naming noted) (label_from_ordinal naming None) statements) ≡ execute_body naming (by_name noted) here t statements
@@ -357,7 +358,8 @@ body-agrees naming n noted below there here h t (one (begins statements)) = λ i
     (execute_sequence-map (label_at_token naming noted) (label_from_ordinal naming None) (meanings_for_statements naming_by_label (by_ordinal naming noted)) there t statements
     ∙ (λ j. execute_sequence (record { object_for = λ x. meanings_for_statements-agree naming n noted below x j; written = naming.written }) (λ x. h x j) t statements)) i s
 
--- If frames agree by name and by ordinal and are continued alike, the runs agree.
+-- If two optional frames agree by name and by ordinal, and `there` and `here` do the same in frames
+-- that agree, `continue_in_frame` does the same for both.
 pub continue_in_frame-agrees : {N : Type 0} (naming : Naming N) (P : NotedFrame N → Type 0) (s : State) (r : Option (Frame N)) (q : Option (Frame Label)) (here : Frame N → State → Progress) (there : Frame Label → State → Progress)
     → Agree frame_by_name (frame_by_ordinal naming) P r q → ((f : NotedFrame N) → P f → there (frame_by_ordinal naming f) ≡ here (frame_by_name f)) → continue_in_frame s q there ≡ continue_in_frame s r here
 continue_in_frame-agrees naming P s r q here there (a, e, e', holds) next =
@@ -377,7 +379,8 @@ CallsAgree {N} naming there here =
 pub statements-relabel : {N : Type 0} (naming : Naming N) (scope : Scope N) (k : ℕ) (b : Tree N block) → block_statements (relabel_block naming (label_from_ordinal naming) scope k b) ≡ relabel_uses naming (label_from_ordinal naming) (body_scope k b scope) (block_statements b)
 statements-relabel naming scope k (forms_block (declares cs ts vs ps) statements) = refl
 
--- The statements of a declared block do the same by name and by ordinal, in its frame.
+-- If a frame has the declarations of a block, executing the block's statements in it does the same
+-- by name and by ordinal.
 pub block-agrees : {N : Type 0} (naming : Naming N) (there : RunEnvironment Label → CallFunction Label) (here : RunEnvironment N → CallFunction N) (known : CallsAgree naming there here) (t k : ℕ) (scope : Scope N) (b : Tree N block) (f : NotedFrame N)
     → FrameWithin (ordinal_after_block k b) (body_scope k b scope) f
     → execute_body naming_by_label (by_ordinal naming f.noted) (there (by_ordinal naming f.noted)) t (block_statements (relabel_block naming (label_from_ordinal naming) scope k b)) ≡ execute_body naming (by_name f.noted) (here (by_name f.noted)) t (block_statements b)
@@ -386,8 +389,8 @@ block-agrees naming there here known t k scope b f within =
     (statements-relabel naming scope k b ∙ ap (λ s. relabel_uses naming (label_from_ordinal naming) s (block_statements b)) (sym within.0))
     ∙ body-agrees naming (ordinal_after_block k b) f.noted within.1 (there (by_ordinal naming f.noted)) (here (by_name f.noted)) (known (ordinal_after_block k b) f.noted within.1) t (block_statements b)
 
--- Binding a procedure's parameters and declaring its block does the same by name and by ordinal. The newest binding of
--- the frame is the procedure's own.
+-- Binding a procedure's parameters and declaring its block gives frames that agree by name and by
+-- ordinal. The newest binding of the original frame must be the procedure's own.
 pub activation_declared : {N : Type 0} (naming : Naming N) (j k : ℕ) (f : NotedFrame N) → Below (suc k) f.noted → (x : N) (outer : Scope N) → scope_of f.noted ≡ (x, k) ∷ outer
     → (fs : Tree N (maybe formals)) (b : Tree N block) (args : List Argument)
     → Agree frame_by_name (frame_by_ordinal naming)

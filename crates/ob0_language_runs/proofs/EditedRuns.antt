@@ -165,7 +165,8 @@ pub add_variables_to_frame-places : (xs : List Name) (v : Value) (env : RunEnvir
 add_variables_to_frame-places [] v env store = refl
 add_variables_to_frame-places (x ∷ xs) v env store = add_variables_to_frame-places xs v ((x, a_variable record { variable = length store; path = [] }) ∷ env) (store ++ v ∷ [])
 
--- Adding variables for names makes the same marks and the same store before and after the edit.
+-- If none of the names is the edited constant, adding variables for them to the frames before and
+-- after the edit gives the two frames of the same marks and store.
 pub allocated : (edit : Edit) (w : Value) (k : ℕ) (xs : List Name) (v : Value) (f : MarkedFrame) → Run_sound edit w k f.marks → 7 ≤ k → Outside edit k (ordinal_after_names k xs)
     → LeftRun edit w (ordinal_after_names k xs) (declare_names k xs (scope_marked f.marks)) (Some (bind_names xs non_constant_placeholder (knowns f.marks))) (mark_all k (places xs v f.store) f.marks)
     × (add_variables_to_frame xs v (frame_before f) ≡ frame_before record { marks = mark_all k (places xs v f.store) f.marks; store = stored xs v f.store })
@@ -355,7 +356,8 @@ parameters-kept edit w k f s seven (p ∷ ps) outside (a ∷ args) =
     go by_value (value_argument v) next = bound record { variable = length f.store; path = [] } (f.store ++ v ∷ []) (next record { variable = length f.store; path = [] } (f.store ++ v ∷ []))
 parameters-kept edit w k f s seven _ outside _ = (None, refl, refl, tt)
 
--- If frames agree before and after the edit and are continued alike, the runs are the same.
+-- If two optional frames agree before and after the edit, and `there` and `here` do the same in
+-- frames that agree, `continue_in_frame` does the same for both.
 
 pub continue_in_frame-kept : (edit : Edit) (P : MarkedFrame → Type 0) (s : State) (r q : Option (Frame Name)) (here there : Frame Name → State → Progress)
     → Agree frame_before (frame_after edit) P r q → ((f : MarkedFrame) → P f → there (frame_after edit f) ≡ here (frame_before f)) → continue_in_frame s q there ≡ continue_in_frame s r here
@@ -375,7 +377,8 @@ pub statements-of : (edit : Edit) (j k : ℕ) (b : Tree Name block) (scope : Sco
     → (m : ℕ) × (block_statements (edited_block edit j k b) ≡ leaf edit m (block_statements b)) × Here edit w (maybe body) m (body_scope k b scope) (block_statements b)
 statements-of edit j k (forms_block (declares cs ts vs ps) statements) scope w here = (j + length (occurrences (declares cs ts vs ps)), refl, here.4)
 
--- The statements of a declared block do the same before and after the edit, in its frame.
+-- If a frame has the declarations of a block, executing the block's statements in it does the same
+-- before and after the edit.
 pub block-runs : (edit : Edit) (w : Value) → Literal edit w → (there here : RunEnvironment Name → CallFunction Name) → CallsKept edit w there here → (t j k : ℕ) (scope : Scope Name) (b : Tree Name block) → EachBlock (Here edit w) j scope k b
     → (f : MarkedFrame) → RightFrame edit w (ordinal_after_block k b) (body_scope k b scope) f
     → execute_body naming_by_spelling (read_edited edit (after edit) f.marks) (there (read_edited edit (after edit) f.marks)) t (block_statements (edited_block edit j k b)) ≡ execute_body naming_by_spelling (read before f.marks) (here (read before f.marks)) t (block_statements b)
@@ -385,8 +388,8 @@ block-runs edit w lit there here known t j k scope b each f right =
     ∙ body-kept edit w lit (ordinal_after_block k b) f.marks right.1 (there (read_edited edit (after edit) f.marks)) (here (read before f.marks)) (known (ordinal_after_block k b) f.marks right.1) t st.0 (block_statements b)
     (subst (λ scope. Here edit w (maybe body) st.0 scope (block_statements b)) (sym right.0) st.2)
 
--- Binding a procedure's parameters and declaring its block does the same before and after the edit. The newest mark of
--- the frame is the procedure's own.
+-- Binding a procedure's parameters and declaring its block gives frames that agree before and after
+-- the edit. The newest mark of the original frame must be the procedure's own.
 pub activation-kept : (edit : Edit) (w : Value) → Literal edit w → (i j k : ℕ) (f : MarkedFrame) → Run_sound edit w (suc k) f.marks → 7 ≤ k → (x closing : Name) (fs : Tree Name (maybe formals)) (b : Tree Name block)
     → EachBlock (Here edit w) (j + length (occurrences fs)) (declare_names (suc k) (formal_parameter_names (formal_parameter_sections fs)) (scope_marked f.marks)) (ordinal_after_names (suc k) (formal_parameter_names (formal_parameter_sections fs))) b
     → HasValueBetween edit w k (ordinal_after_procedure (suc k) (declares_procedure x fs b closing)) (constant_value_in_procedure (knowns f.marks) edit.constant (suc k) (declares_procedure x fs b closing)) → (args : List Argument)

@@ -116,7 +116,7 @@ pub record FrameIs {N : Type 0} (at : List ℕ) (f g : Frame N) : Type 0 where
   pub same_variables : StoreIs at f.store g.store
   pub same_bindings : EnvironmentIs at f.env g.env
 
--- holds if two frames are related after new variables were added to the list
+-- holds if two frames are related by the list `at` with new indexes at its end
 abbrev pub FrameGrown : {N : Type 0} → List ℕ → Frame N → Frame N → Type 0
 FrameGrown at f g = (others : List ℕ) × FrameIs (at ++ others) f g
 
@@ -238,7 +238,7 @@ module _ {N : Type 0} (naming : Naming N) where
       record { mean_same = λ x. object_for_statements-is at (newest_object (suffix_from_newest_binding naming env x)) (newest_object (suffix_from_newest_binding naming other x)) (newest_object-is at (suffix_from_newest_binding naming env x) (suffix_from_newest_binding naming other x) (suffix_from_newest_binding-is naming at env other x h)); are_written = λ x. refl }
       (known at env other h) t statements s u is
 
-  -- holds if two runs are related after new variables were added to the list
+  -- holds if two runs are related by the list `at` with new indexes at its end
   abbrev ProgressGrown : List ℕ → Progress → Progress → Type 0
   ProgressGrown at p q = (others : List ℕ) × ProgressIs (at ++ others) p q
 

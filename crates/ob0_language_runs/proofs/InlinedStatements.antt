@@ -31,7 +31,8 @@ unfolding designated_place
 designated_place-written meaning uses v w h store k x path u = λ i.
     object_place (meaning.object_for x) >>= (λ p. result_or_stuck (read_place store p) >>= (λ z. follow-inlined meaning store uses v w record { has_value = h.in_store store } k z path u i >>= (λ steps. succeeds_with record { variable = p.variable; path = p.path ++ steps })))
 
--- An expression that isn't a designator gives no place, and neither does a constant.
+-- `place_at` returns the place of an optional designator, or the end Stuck if there is no
+-- designator. `constant-no_place` states that a constant has no place.
 
 abbrev pub place_at : Meanings Name Place (List ParameterMode) → Store → Option (Name × Tree Name (items selector)) → Outcome Place
 place_at meaning store d = result_or_stuck d >>= (λ d. designated_place meaning store d.0 d.1)

@@ -30,8 +30,8 @@ get-set_other (y ∷ xs) zero zero new apart = absurd (apart refl)
 get-set_other (y ∷ xs) (suc n) (suc k) new apart = get-set_other xs n k new (λ e. apart (ap suc e))
 get-set_other _ _ _ new apart = refl
 
--- `NotAmong` holds if an index isn't in the list. `StoreIs` holds if the list has no repeats and gives the indexes of a
--- store's variables in a larger store.
+-- `NotAmong` holds if an index isn't in the list. `StoreIs` holds if the list gives, for each
+-- variable of a store, an index at which a larger store has the same value, and has no index twice.
 
 abbrev pub NotAmong : ℕ → List ℕ → Type 0
 NotAmong r [] = Unit {0}
@@ -92,7 +92,8 @@ variable-last [] [] large k h = refl
 variable-last (r ∷ at) (w ∷ small) large k h = variable-last at small large k h.2
 variable-last _ _ large k h = absurd h
 
--- The smaller store may drop its last variables while the larger one keeps all.
+-- If two stores still correspond after variables were added, they also correspond when only the
+-- smaller store drops these variables.
 pub variables-cut : (at others : List ℕ) (old new before after : Store) → StoreIs at old before → StoreIs (at ++ others) new after → StoreIs at (take (length old) new) after
 variables-cut [] others [] new before after h g = tt
 variables-cut (r ∷ at) others (v ∷ old) [] before after h g = absurd g
@@ -201,7 +202,7 @@ module _ {N P : Type 0} (here there : Meanings N Place P) (small large : Store) 
     follow-same v (more (index e) rest) = λ i.
         evaluate-same e i >>= (λ j. element_step v j >>= (λ s. result_or_stuck (value_at_step v s) >>= (λ w. follow-same w rest i >>= (λ steps. succeeds_with (s ∷ steps)))))
 
--- holds if the meanings of names are related in both stores, and fields are spelled alike
+-- holds if each name has related meanings in both stores, and the same spelling
 pub record NamesAre {N P : Type 0} (at : List ℕ) (here there : Meanings N Place P) : Type 0 where
   pub mean_same : (x : N) → MeaningIs at (here.object_for x) (there.object_for x)
   pub are_written : (x : N) → here.written x ≡ there.written x

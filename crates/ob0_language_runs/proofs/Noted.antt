@@ -1,5 +1,5 @@
--- Environments whose bindings also have the ordinals of their declarations. A binding can be looked
--- up by its name or by its ordinal; both find the same one.
+-- Defines environments whose bindings also have the ordinals of their declarations. A binding can
+-- be looked up by its name or by its ordinal; both find the same one.
 use Rattle.std.proofs.Common.{◌≡◌, ℕ, ◌<◌, ◌≤◌, true, false, List, [], ◌∷◌, Some, refl, le_of_lt, arith}
 use Rattle.ob0_language_names.specs.Names.{Label, Naming, naming_by_label, declared, same_ordinal_label}
 use Rattle.ob0_language_names.specs.BlockParts.{procedure_name}
@@ -67,7 +67,7 @@ by_name-from naming (b ∷ noted) x =
     elim (naming.same x b.name) as (λ v. (elim v [ true ↦ by_name (b ∷ noted) | false ↦ suffix_from_newest_binding naming (by_name noted) x ]) ≡ by_name (elim v [ true ↦ b ∷ noted | false ↦ noted_from naming noted x ]))
     [ true ↦ refl | false ↦ by_name-from naming noted x ]
 
--- The ordinal of a name is below the ordinals of all bindings newer than its own.
+-- If all ordinals of a noted environment are below `n`, no name in it is bound to the ordinal `n`.
 pub older_ordinal : {N : Type 0} (naming : Naming N) (n : ℕ) (noted : Noted N) (x : N) → Below n noted → same_ordinal_label (label_from_ordinal naming (ordinal_in_scope naming (scope_of noted) x) x) (declared n) ≡ false
 older_ordinal naming n [] x below = refl
 older_ordinal naming n (b ∷ noted) x below =

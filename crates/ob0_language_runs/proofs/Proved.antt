@@ -1,4 +1,5 @@
--- The proofs of the laws about runs.
+-- Proves that a module and its numbered tree have the same runs, and that renaming a declaration to
+-- a free name leaves the runs unchanged.
 use Rattle.std.proofs.Common.{sym, ap, ◌∙◌}
 use Rattle.ob0_language_names.specs.Names.{naming_by_spelling}
 use Rattle.ob0_language_names.specs.Scopes.{renamed}

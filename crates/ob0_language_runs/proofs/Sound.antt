@@ -80,7 +80,7 @@ pub negate-fits : (x z : Shape) (v : Value) → negation_type x ≡ Some z → H
 negate-fits boolean_shape z v e hv = of_some (λ z. OutcomeFits (λ u. HasShape u z) (apply_not v)) e (let (b, ev) = is_truth v hv in subst (λ v. OutcomeFits (λ u. HasShape u boolean_shape) (apply_not v)) (sym ev) tt)
 negate-fits _ z v e hv = absurd (cc)
 
--- If the left operand settles an operation, the operand has the type of the result.
+-- The left operand of an `AddOperator` or a `MultiplyOperator` has the type of the result.
 pub addition_type-first : (o : AddOperator) (x y z : Shape) → addition_type o x y ≡ Some z → Some x ≡ Some z
 addition_type-first add_operator.Add integer_shape integer_shape z e = e
 addition_type-first add_operator.Subtract integer_shape integer_shape z e = e
@@ -176,7 +176,7 @@ pub is_elements : (v : Value) (k n : ℕ) (s : Shape) → HasShape v (array_shap
 is_elements (elements vs) k n s h = (vs, refl)
 is_elements _ k n s h = absurd h
 
--- An index in range gives a step to an element.
+-- An index evaluates to a step to an element of the array, or ends the run with Index.
 pub index-fits : (vs : Values) (k n : ℕ) (s t : Shape) (i : ℤ) → value_count vs ≡ n → Some s ≡ Some t → OutcomeFits (λ step. shape_at_step (array_shape k n s) step ≡ Some t) (element_step (elements vs) (number i))
 index-fits vs k n s t (negsuc i) c e = λ e. cc
 index-fits vs k n s t (pos i) c e =

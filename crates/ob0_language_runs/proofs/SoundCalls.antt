@@ -79,7 +79,7 @@ environments-grow naming typing others [] [] h = tt
 environments-grow naming typing others (b ∷ checked) (d ∷ active) h = (h.0, binding-grows naming typing others checked b.0 b.1 d.1 h.1, environments-grow naming typing others checked active h.2)
 environments-grow naming typing others _ _ h = h
 
--- The first value of a variable has the variable's type.
+-- The initial value of a variable has the variable's type.
 
 pub copies-fit : (n : ℕ) (v : Value) (s : Shape) → HasShape v s → (value_count (copies n v) ≡ n) × EachElementHasShape (copies n v) s
 copies-fit zero v s h = (refl, tt)
@@ -169,7 +169,8 @@ types-run {N} naming typing checked active k (more (declares_type x u) cs) after
     let (d, ed, fit) = types-run naming typing ((x, a_type s) ∷ checked) ((x, a_type s) ∷ active) (k + constructor_count u) cs after (refl, refl, h) e₁ in
     (d, ap (option_and_then (λ s. declare_types naming ((x, a_type s) ∷ active) (k + constructor_count u) cs)) (denoted_type-same naming typing checked active h k u ∙ es) ∙ ed, fit)
 
--- holds if a frame fits a checked environment in a store that has at most grown
+-- holds if the frame's store has the types of the typing, possibly followed by others, and the
+-- frame's environment agrees with the checked one
 abbrev pub FrameFits : {N : Type 0} → Naming N → StoreTyping → TypeEnvironment N → Frame N → Type 0
 FrameFits naming typing checked f = (others : StoreTyping) × StoreHasTypes (typing ++ others) f.store × RunEnvironmentAgreesWithCheckedEnvironment naming (typing ++ others) checked f.env
 

@@ -257,7 +257,8 @@ choose_by_truth_value-fits typing s (truth true) yes' no' h hy hn = hy
 choose_by_truth_value-fits typing s (truth false) yes' no' h hy hn = hn
 choose_by_truth_value-fits typing s _ yes' no' h hy hn = absurd h
 
--- holds if a condition evaluates to a truth value in every store that has grown
+-- holds if a condition evaluates to a truth value, or ends the run other than stuck, in every store
+-- that has grown
 abbrev pub IsCondition : StoreTyping → (State → Outcome Value) → Type 0
 IsCondition typing condition = (others : StoreTyping) (s : State) → StoreHasTypes (typing ++ others) s.store → OutcomeFits (λ v. HasShape v boolean_shape) (condition s)
 

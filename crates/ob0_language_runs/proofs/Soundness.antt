@@ -1,4 +1,4 @@
--- The invariant in the proof that no run of a well-typed module gets stuck.
+-- Defines the invariant of the proof that no run of a well-typed module gets stuck.
 use Rattle.std.proofs.Common.{◌≡◌, ◌≢◌, List, ◌++◌, Some, Fits}
 use Rattle.ob0_language_types.specs.Expressions.{a_procedure}
 use Rattle.ob0_language_values.specs.Values.{Outcome, Stuck, ends_run_with, succeeds_with}
@@ -16,7 +16,8 @@ abbrev pub ProgressFits : StoreTyping → Progress → Type 0
 ProgressFits typing (running s) = (others : StoreTyping) × StoreHasTypes (typing ++ others) s.store
 ProgressFits typing (stopped e out) = e ≢ Stuck
 
--- holds if calls with arguments of the signature preserve the invariant, in every store that has grown since
+-- holds if calls with arguments that match the signature preserve the invariant, even if the store
+-- has grown
 abbrev pub CallsFit : {N : Type 0} → StoreTyping → TypeMeanings N → CallFunction N → Type 0
 CallsFit {N} typing checked enter =
     (x : N) (signature : Signature) → checked.object_for x ≡ Some (a_procedure signature) → (others : StoreTyping) (args : List Argument) (s : State)

@@ -1,4 +1,4 @@
--- Laws about edits that leave a module well-typed, with the same runs.
+-- States laws about edits that leave a module well-typed, with the same runs.
 -- Rule: none; states laws about edits and runs.
 use Rattle.std.specs.Prelude.{List, Some, ℕ, ℤ, ◌≡◌, ◌≢◌}
 use Rattle.ob0_tree.specs.Tree.{Tree, factor, module_text}

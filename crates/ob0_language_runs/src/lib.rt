@@ -1,4 +1,4 @@
-//! Definitions and laws of the run of a module (docs/LANGUAGE.md, Runs).
+//! Defines the run of a module (docs/LANGUAGE.md, Runs), and states laws about runs.
 #![tactic(auto)]
 
 pub mod laws;

@@ -53,7 +53,8 @@ same_known_shape-true (Some s) (Some t) e = (s, refl, ap Some (sym (same_shape-t
 same_known_shape-true None b e = absurd (cc)
 same_known_shape-true (Some s) None e = absurd (cc)
 
--- A variable's type is the type that its selectors select from the type of its name.
+-- If a designator may be assigned to and has type `s`, its name means a variable, and its selectors
+-- select `s` from the variable's type.
 pub variable-typed : {N : Type 0} (checked : TypeMeanings N) (x : N) (path : Tree N (items selector)) (s : Shape) → assignable_type checked (Some (x, path)) ≡ Some s → (t : Shape) × (checked.object_for x ≡ Some (a_variable t)) × (type_after_selectors checked t path ≡ Some s)
 unfolding assignable_type
 variable-typed checked x path s h = go (checked.object_for x) h
@@ -66,7 +67,7 @@ variable-typed checked x path s h = go (checked.object_for x) h
     go (Some (a_procedure t)) e = absurd (cc)
     go (Some (a_standard_procedure t)) e = absurd (cc)
 
--- A well-typed call calls a procedure.
+-- If a call is well-typed, the called procedure has a signature, and the arguments match it.
 pub call-typed : {N : Type 0} (checked : TypeMeanings N) (o : Option Signature) (es : List (Tree N expression)) → call_is_well_typed checked o es ≡ true → (signature : Signature) × (o ≡ Some signature) × (arguments_match_signature checked signature es ≡ true)
 unfolding call_is_well_typed
 call-typed checked None es h = absurd (cc)

@@ -13,7 +13,8 @@ then-gives (ends_run_with e) next b h = absurd (cc)
 pub then-goes : {A B : Type 0} (o : Outcome A) (next : A → Outcome B) (a : A) (b : B) → o ≡ succeeds_with a → next a ≡ succeeds_with b → o >>= next ≡ succeeds_with b
 then-goes o next a b e h = ap (λ o. o >>= next) e ∙ h
 
--- holds if the meanings of a run include the checker's constants, and fields are spelled alike
+-- holds if each name that means a constant in the checker means the same constant in the run, and
+-- each name has the same spelling in both
 abbrev pub HasConstants : {N V P Q : Type 0} → Meanings N V P → Meanings N Place Q → Type 0
 HasConstants {N} checked active =
     ((x : N) → checked.written x ≡ active.written x) × ((x : N) (w : Value) → value_of_constant_object (checked.object_for x) ≡ Some w → value_of_constant_object (active.object_for x) ≡ Some w)

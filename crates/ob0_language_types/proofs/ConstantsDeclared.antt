@@ -64,7 +64,7 @@ bound-first k n d xs ys b h =
     ∙ ap (or_else (object_of_ordinal xs d)) (ap (λ e. object_of_ordinal e d) (sym (append-nil ys)) ∙ bound-elsewhere k n d ys [] b h)
     ∙ or-none (object_of_ordinal xs d)
 
--- holds if no binding is a constant's
+-- holds if no name is bound to a constant
 abbrev pub AllPlain : TypeEnvironment Label → Type 0
 AllPlain [] = Unit {0}
 AllPlain (b ∷ env) = (value_of_constant_object (Some b.1) ≡ None) × AllPlain env
@@ -209,7 +209,8 @@ plain-parameters noted k (p ∷ ps) below =
     let own : TypeNoted Name = record { name = p.name; ordinal = k; object = o } ∷ noted in
     plain-then noted own (noted_parameters (suc k) ps own) k (p.name ∷ []) (typed_names ps) (plain-one noted k p.name o refl below) (plain-parameters own (suc k) ps (le_refl (suc k), below))
 
--- holds if declarations of types and variables make bindings of these names that aren't constants
+-- holds if `env` is the environment after the declarations of `names`, none of which declares a
+-- constant
 abbrev pub LeavesPlain : TypeNoted Name → ℕ → List Name → TypeEnvironment Label → Type 0
 LeavesPlain noted k names env = (after : TypeNoted Name) × (env ≡ typed_by_ordinal after) × Plain noted k names after
 
@@ -242,7 +243,8 @@ variables-bound noted j k below (more (declares_variable ns u) gs) env h =
     ((λ i. declare_typed_variables naming_by_label (j + constructor_count t) (relabel_variables naming_by_spelling (label_from_ordinal naming_by_spelling) (a.within.0 i) (ordinal_after_names k xs) gs) (bound i)) ∙ found.2) in
     (r.0, r.1, plain-then noted mid r.0 k xs (variable_names gs) a r.2)
 
--- The bindings of a heading have the ordinals of the procedure and its parameters.
+-- If the bindings of `env` have ordinals from `k` to `i - 1`, and parameters with ordinals from `i`
+-- are added, all bindings have ordinals from `k` to the last parameter's ordinal.
 listed-binds : (k i : ℕ) (ps : List (TypedParameter Name)) (env : TypeEnvironment Label) → k ≤ i → Binds k i env → Binds k (ordinal_after_names i (typed_names ps)) (bind_typed_parameters (label_typed i ps) env)
 listed-binds k i [] env l b = b
 listed-binds k i (p ∷ ps) env l b =
@@ -259,12 +261,14 @@ agree-second {X} {Y} {Z} p q P r s (a, e, e', holds) z h = go a holds (sym e' �
     go None holds h = absurd (cc)
     go (Some x) holds h = (x, holds, some_inverse h)
 
--- holds if bindings with ordinals from `k` to `n - 1` have the values of the constants
+-- holds if all bindings have ordinals from `k` to `n - 1`, and for each ordinal from `k`, `value`
+-- returns the constant in the ordinal's binding, or None
 pub record AreValuesBetween (k n : ℕ) (value : ℕ → Option Value) (bindings : TypeEnvironment Label) : Type 0 where
   pub binds : Binds k n bindings
   pub has_value_is : (d : ℕ) → k ≤ d → value d ≡ has_value bindings d
 
--- If one value is right below a bound and another value otherwise, the choice between them is right.
+-- If `x` equals `z` whenever `d` is below `n`, and `y` equals `z` otherwise, then the choice
+-- between `x` and `y` according to this comparison equals `z`.
 below-or : (d n : ℕ) (x y : Option Value) (z : Option Value) → (d < n → x ≡ z) → (n ≤ d → y ≡ z) → (if nat_lt d n then x else y) ≡ z
 below-or d n x y z h g = by (nat_lt d n) refl
   where
@@ -272,7 +276,8 @@ below-or d n x y z h g = by (nat_lt d n) refl
     by true e = h (ltb-true d n e)
     by false e = g (ltb-false d n e)
 
--- A well-typed block or procedure was declared part by part.
+-- If declaring a block's constants and types succeeds, declaring the constants succeeds, and
+-- declaring the types after them gives the same environment.
 firsts : (env : TypeEnvironment Label) (j : ℕ) (b : Tree Label block) (after : TypeEnvironment Label) → declare_constants_and_types naming_by_label env j b ≡ Some after
     → (mid : TypeEnvironment Label) × (declare_constants naming_by_label env (block_constants b) ≡ Some mid) × (declare_types naming_by_label mid j (block_types b) ≡ Some after)
 unfolding declare_constants_and_types
@@ -545,7 +550,8 @@ mutual
       (procedure-values known k x closing fs b rest (block_bindings naming_by_label (typed_by_ordinal e.inner) jb (relabel_block naming_by_spelling (label_from_ordinal naming_by_spelling) (typed_scope e.inner) m b)) (bind_typed_parameters f.listed (bind_procedure (declared k) f.listed []))
       (procedure_list_bindings naming_by_label (typed_by_ordinal e.own) jr (relabel_procedure_list naming_by_spelling (label_from_ordinal naming_by_spelling) (typed_scope e.own) q rest)) inside_block e.binds e.plain later)
 
--- The predeclared environments of both definitions give each name the same constant, or none.
+-- Replacing an object that isn't a constant by a placeholder leaves the result of
+-- `value_of_constant_object` unchanged.
 same_known : (o : Object Shape Signature) → value_of_constant_object (Some (constant_or_placeholder o)) ≡ value_of_constant_object (Some o)
 same_known (a_type s) = refl
 same_known (a_constant v) = refl
@@ -574,7 +580,8 @@ module-evaluates (forms_module x b closing) h d l =
     let w = block-evaluates predeclared_constants (typed_outermost naming_by_spelling) 0 7 (knows-all (typed_outermost naming_by_spelling)) predeclared-below b h in
     w.has_value_is d l ∙ sym (ap value_of_constant_object (bound-first 0 7 d (block_bindings naming_by_label (outermost_environment naming_by_label) 0 (relabel_block naming_by_spelling (label_from_ordinal naming_by_spelling) (typed_scope (typed_outermost naming_by_spelling)) 7 b)) (outermost_environment naming_by_label) outermost-binds (λ a z. omega (arith, l, z))))
 
--- In a well-typed module a constant's value is the value in the binding of its declaration.
+-- `constant_value_in_module` returns None for an ordinal below 7. In a well-typed module, it returns
+-- for any other ordinal the value of the constant that has it, or None if there is no such constant.
 pub predeclared-none : (m : Tree Name module_text) (d : ℕ) → d < 7 → None ≡ constant_value_in_module m d
 unfolding constant_value_in_module
 predeclared-none m d l = sym (ap (λ t. if t then None else constant_value_in_block predeclared_constants d 7 (module_block m)) (lt-ltb d 7 l))

@@ -169,7 +169,8 @@ module-has Q (forms_module x b closing) so well =
     first d o e true t binds = bound-elsewhere 7 (ordinal_after_block 7 b) d (block_bindings naming_by_label (outermost_environment naming_by_label) 0 (relabel_block naming_by_spelling (label_from_ordinal naming_by_spelling) (typed_scope (typed_outermost naming_by_spelling)) 7 b)) (outermost_environment naming_by_label) binds (λ a z. omega (arith, a, ltb-true d 7 t)) ∙ e
     first d o e false t binds = absurd (nothing o (sym (bound-none 0 7 d (outermost_environment naming_by_label) outermost-binds (λ a z. omega (arith, z, ltb-false d 7 t))) ∙ e))
 
--- If `Q` holds wherever a block is checked, it holds for the environment of each body.
+-- If `HoldsForBlockEnvironments` holds for `Q` and a block, `Q` holds for the environment of each
+-- body in the block.
 
 list_if_some-all : {A B : Type 0} (P : B → Type 0) (o : Option A) (list : A → List B) → ((a : A) → o ≡ Some a → All P (list a)) → All P (list_if_some o list)
 list_if_some-all P None list h = All-nil P

@@ -22,7 +22,8 @@ use Rattle.ob0_language_types.proofs.Literals.{some_inverse}
 use Rattle.ob0_language_types.proofs.Marks.{IsRight, Mark, Marks, OfProcedure, Sound, Sound-weaken, is_left, knowns, not-left, read, read_edited, scope_marked}
 use Rattle.std.proofs.lemmas.Bool.{and_parts}
 
--- Two continuations agree after one known value if they agree for that value.
+-- If `o'` equals `o`, and `g v` agrees with `h v` for the value `v` of `o`, then continuing `o`
+-- with `g` agrees with continuing `o'` with `h`.
 pub agree-known : {V X Y Z : Type 0} (p : X → Y) (q : X → Z) (P : X → Type 0) (g : V → Option Y) (h : V → Option Z) (o o' : Option V)
     → o' ≡ o → ((v : V) → o ≡ Some v → Agree p q P (g v) (h v)) → Agree p q P (option_and_then g o) (option_and_then h o')
 agree-known {V} p q P g h o o' e each =

@@ -65,7 +65,8 @@ outermost-sound edit w X seven = (
   ),
 )
 
--- An edit doesn't change marks with smaller ordinals than its constant.
+-- If the edited constant's ordinal is greater than the ordinals of all marks, the environments
+-- before and after the edit are the same.
 pub read_edited-below : {V P Q : Type 0} (edit : Edit) (w : Value) (X : Marks V P → Name → ℕ → P → Type 0) (q : ℕ → P → Q) (n : ℕ) (marks : Marks V P) → Sound edit w X n marks → n ≤ edit.constant → read_edited edit q marks ≡ read q marks
 read_edited-below edit w X q n [] s h = refl
 read_edited-below edit w X q n (b ∷ marks) s h =
@@ -109,7 +110,7 @@ seven-or-less m d w h =
     (elim (nat_lt d 7) as (λ v. nat_lt d 7 ≡ v → (if v then None else constant_value_in_block predeclared_constants d 7 (module_block m)) ≡ Some w → (7 ≤ d) × (constant_value_in_block predeclared_constants d 7 (module_block m) ≡ Some w))
     [ true ↦ λ e h. absurd (cc) | false ↦ λ e h. (ltb-false d 7 e, h) ]) refl h
 
--- holds if a use is bound to the constant, by its label
+-- holds if occurrence `j` isn't a use, or its label `l` has the constant's ordinal `d`
 
 abbrev pub IsBound : OccurrenceSet → ℕ → ℕ → Label → Type 0
 IsBound uses d j l = uses j ≡ true → label_ordinal l ≡ Some d
@@ -118,7 +119,8 @@ abbrev pub truth_name : Value → Name
 truth_name (truth true) = codes "TRUE"
 truth_name _ = codes "FALSE"
 
--- holds if a use whose literal is TRUE or FALSE has the predeclared constant's label
+-- If the value is TRUE or FALSE and occurrence `j` is a use, states that the label `l` has the
+-- ordinal of the predeclared constant with this value. Otherwise states nothing.
 abbrev pub IsShownAs : OccurrenceSet → Value → ℕ → Label → Type 0
 IsShownAs uses (truth true) j l = uses j ≡ true → label_ordinal l ≡ Some 2
 IsShownAs uses (truth false) j l = uses j ≡ true → label_ordinal l ≡ Some 3

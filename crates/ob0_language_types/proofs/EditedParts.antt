@@ -70,7 +70,8 @@ pub bind_names-append : {V P : Type 0} (xs ys : List Name) (o : Object V P) (env
 bind_names-append [] ys o env = refl
 bind_names-append (x ∷ xs) ys o env = bind_names-append xs ys o ((x, o) ∷ env)
 
--- Two lists of names can be bound one after the other.
+-- If `Left` holds for marks after binding the names `xs` and then `ys`, it holds for them after
+-- binding `xs ++ ys` at once.
 pub left-join : {V P : Type 0} (edit : Edit) (w : Value) (X : Marks V P → Name → ℕ → P → Type 0) (k : ℕ) (xs ys : List Name) (scope inner : Scope Name) (known between : ConstantEnvironment) (marks : Marks V P)
     → inner ≡ declare_names k xs scope → Some (bind_names xs non_constant_placeholder known) ≡ Some between
     → Left edit w X (ordinal_after_names (ordinal_after_names k xs) ys) (declare_names (ordinal_after_names k xs) ys inner) (Some (bind_names ys non_constant_placeholder between)) marks

@@ -90,7 +90,8 @@ unfolding body_is_well_typed
 body_is_well_typed-edited edit w lit n marks s j none here = refl
 body_is_well_typed-edited edit w lit n marks s j (one (begins statements)) here = sequence-leaf edit w lit n marks s j statements here
 
--- Binding variables of one type to names gives marks, before and after the edit.
+-- If none of the names is the edited constant, binding them as variables of one type gives the
+-- environment of their marks, both before and after the edit.
 pub typed-names : (edit : Edit) (w : Value) (k : ℕ) (xs : List Name) (shape : Shape) (marks : Marks Shape Signature) → Checked edit w k marks → 7 ≤ k → Outside edit k (ordinal_after_names k xs)
     → LeftTyped edit w (ordinal_after_names k xs) (declare_names k xs (scope_marked marks)) (Some (bind_names xs non_constant_placeholder (knowns marks))) (mark_all k (with_value shape xs) marks)
     × (bind_names xs (a_variable shape) (read as_signed marks) ≡ read as_signed (mark_all k (with_value shape xs) marks))
@@ -212,7 +213,7 @@ pub parameter_pairs-names : (ps : List (TypedParameter Name)) → names_of (para
 parameter_pairs-names [] = refl
 parameter_pairs-names (p ∷ ps) = λ i. p.name ∷ parameter_pairs-names ps i
 
--- The ordinals in a block and after it aren't below the block's first ordinal.
+-- The ordinal of a block's first procedure isn't below the block's first ordinal.
 pub procedures-below : (k : ℕ) (b : Tree Name block) → k ≤ first_procedure_ordinal k b
 procedures-below k b = le_trans (le-ordinal_after_names k (constant_names (block_constants b))) (types-below k b)
 

@@ -16,7 +16,7 @@ use Rattle.ob0_language_types.proofs.InlinedTypes.{IsConstant, type_after_select
 abbrev pub alone : Tree Name factor → Tree Name expression
 alone f = compares (sum None (product f end) end) none
 
--- An expression with more than one factor isn't a designator.
+-- An expression with a relation, or with more than one term or factor, isn't a designator.
 pub compared-no_designator : (f : Tree Name factor) (c : Tree Name (item comparison)) → lone_designator (compares (sum None (product f end) end) (one c)) ≡ None
 compared-no_designator (designator x path) c = refl
 compared-no_designator (integer n) c = refl

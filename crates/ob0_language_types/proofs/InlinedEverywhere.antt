@@ -25,11 +25,12 @@ use Rattle.ob0_tree.specs.declared.tree.Sign.TheVariants as sign
 use Rattle.ob0_tree.specs.declared.tree.AddOperator.TheVariants as add_operator
 use Rattle.std.proofs.lemmas.Bool.{cases_Bool}
 
--- holds if an occurrence is a use exactly if its label is the constant's
+-- holds if occurrence `j` is a use exactly when its label has the constant's ordinal `d`
 abbrev pub IsUseOf : OccurrenceSet → ℕ → ℕ → Label → Type 0
 IsUseOf uses d j l = (uses j ≡ true → label_ordinal l ≡ Some d) × (label_ordinal l ≡ Some d → uses j ≡ true)
 
--- the facts that the labels give about the occurrences at a place
+-- States that each use in the tree `t` is bound to the constant, that the literal's name is visible
+-- there, and that each occurrence bound to the constant is a use.
 abbrev pub IsLabelled : Edit → Value → Placed
 IsLabelled edit w s j scope t = Each (Writes edit w) j scope (occurrences t) × AllGiveWay edit.uses (IsOf edit.constant scope) j (occurrences t)
 
@@ -58,7 +59,8 @@ none-of-unshown edit w j scope [] e reported gives_way = tt
 none-of-unshown edit w j scope (x ∷ xs) e reported gives_way =
     (λ k. true≢false (sym (reported.0.1 (gives_way.0 k)) ∙ e), none-of-unshown edit w (suc j) scope xs e reported.1 gives_way.1)
 
--- If each use of the constant is a whole factor, no use remains after inlining everywhere.
+-- If each occurrence of the constant is a use and a whole factor, no name of the edited tree is
+-- bound to a removed declaration.
 pub here-everywhere : (edit : Edit) (w : Value) → Literal edit w → (s : Sort) (j : ℕ) (scope : Scope Name) (t : Tree Name s) → IsLabelled edit w s j scope t → UsesAreFactors edit.constant s j scope t → Here edit w s j scope t
 here-everywhere edit w lit s j scope t reported alone_there = (
   reported.0,
@@ -79,7 +81,7 @@ reported-from edit w j scope (x ∷ xs) both =
       (λ k. both.0.0.1 (label_ordinal-of naming_by_spelling scope x ∙ k), rest.1),
     )
 
--- The facts about an edit without uses hold.
+-- If an edit has no uses, `Writes` holds for each name.
 no_writes : (v : Tree Name factor) (d : ℕ) (w : Value) (j : ℕ) (scope : Scope Name) (xs : List Name) → Each (Writes (writing no_uses v d) w) j scope xs
 no_writes v d w j scope [] = tt
 no_writes v d w j scope (x ∷ xs) = ((λ e. absurd (true≢false (sym e)), λ e. absurd (true≢false (sym e))), no_writes v d w (suc j) scope xs)

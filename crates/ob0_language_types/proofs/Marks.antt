@@ -1,6 +1,6 @@
--- Environments in which bindings have the ordinals of their declarations, before and after an edit.
--- A mark is a name with an ordinal and an object. `read` returns the environment of marks before the edit, and
--- `read_edited` the environment after it.
+-- Defines marks, which give the environments before and after an edit. A mark is a name with an
+-- ordinal and an object. `read` returns the environment of marks before the edit, and `read_edited`
+-- the environment after it.
 use Rattle.std.proofs.Common.{Bool, List, None, Option, Some, [], ap, arith, eqb-true, false, if◌then◌else◌, le_of_lt, option_map, refl, sym, true, ℕ, ◌&&◌, ◌<◌, ◌==◌, ◌∙◌, ◌∷◌, ◌≡◌, ◌≤◌}
 use Rattle.ob0_language_names.specs.Names.{Name, naming_by_spelling, same_name}
 use Rattle.ob0_language_names.specs.Scopes.{Scope, ordinal_in_scope}
@@ -67,7 +67,8 @@ read-from q (b ∷ marks) x =
     elim (same_name x b.name) as (λ v. (elim v [ true ↦ read q (b ∷ marks) | false ↦ suffix_from_newest_binding naming_by_spelling (read q marks) x ]) ≡ read q (elim v [ true ↦ b ∷ marks | false ↦ marks_from marks x ]))
     [ true ↦ refl | false ↦ read-from q marks x ]
 
--- If the declaration of a name isn't removed, its first mark is also found after the edit.
+-- If the declaration of a name isn't removed, the name's newest binding is found at the same mark
+-- before and after the edit.
 pub not-left : (edit : Edit) (k : ℕ) → (edit.gone ≡ true → Some k ≡ Some edit.constant → ⊥) → is_left edit k ≡ false
 not-left edit k h = false_from_ne_true (is_left edit k) (λ t. let p = and_parts edit.gone (k == edit.constant) t in h p.0 (ap Some (eqb-true k edit.constant p.1)))
 
@@ -119,7 +120,8 @@ known-found (b ∷ marks) x =
     elim (same_name x b.name) as (λ v. newest_object (elim v [ true ↦ knowns (b ∷ marks) | false ↦ suffix_from_newest_binding naming_by_spelling (knowns marks) x ]) ≡ option_map (λ b. constant_or_placeholder b.object) (elim v [ true ↦ Some b | false ↦ found marks x ]))
     [ true ↦ refl | false ↦ known-found marks x ]
 
--- holds if the mark of the constant, of TRUE or of FALSE has its object
+-- States that a mark with the constant's ordinal has the constant with value `w` as its object, and
+-- that marks with the ordinals of TRUE and FALSE have these constants.
 pub record IsRight {V P : Type 0} (edit : Edit) (w : Value) (b : Mark V P) : Type 0 where
   pub has_value : b.ordinal ≡ edit.constant → b.object ≡ a_constant w
   pub yes_is : b.ordinal ≡ 2 → b.object ≡ a_constant (truth true)
@@ -132,7 +134,8 @@ OfProcedure X (a_constant v) = Unit {0}
 OfProcedure X (a_variable p) = Unit {0}
 OfProcedure X (a_standard_procedure p) = Unit {0}
 
--- Holds if newer marks have greater ordinals, all below `n`, and each has its object. `X` must hold for each procedure.
+-- Holds if newer marks have greater ordinals, all below `n`, and each mark satisfies `IsRight`. `X`
+-- must hold for each procedure.
 abbrev pub Sound : {V P : Type 0} → Edit → Value → (Marks V P → Name → ℕ → P → Type 0) → ℕ → Marks V P → Type 0
 Sound edit w X n [] = Unit {0}
 Sound edit w X n (b ∷ marks) = (b.ordinal < n) × IsRight edit w b × OfProcedure (X marks b.name b.ordinal) b.object × Sound edit w X b.ordinal marks
@@ -152,7 +155,8 @@ found-right edit w X n [] x s = tt
 found-right edit w X n (b ∷ marks) x s =
     elim (same_name x b.name) as (λ v. HoldsOf (IsRight edit w) (elim v [ true ↦ Some b | false ↦ found marks x ])) [ true ↦ s.1 | false ↦ found-right edit w X b.ordinal marks x s.3 ]
 
--- If the mark of the constant, of TRUE or of FALSE is found for a name, the name has its object.
+-- If the mark that is found for a name has the ordinal of the constant, of TRUE or of FALSE, the
+-- name means this constant.
 
 pub has_value-found : {V P Q : Type 0} (edit : Edit) (w : Value) (q : ℕ → P → Q) (o : Option (Mark V P)) → HoldsOf (IsRight edit w) o → option_map (λ b. b.ordinal) o ≡ Some edit.constant → option_map (object_of q) o ≡ Some (a_constant w)
 has_value-found edit w q None right e = absurd (cc)

@@ -61,7 +61,8 @@ designated_place-map f h meaning store x path = λ i.
 abbrev pub map_designator : {N M : Type 0} → (N → M) → (N → M) → N × Tree N (items selector) → M × Tree M (items selector)
 map_designator f h d = (f d.0, map_names f h d.1)
 
--- An expression under other names is only a designator exactly if the original expression is.
+-- An expression with mapped names is only a designator exactly if the original expression is. Then
+-- its designator is the original one with mapped names.
 pub lone_designator-map : {N M : Type 0} (f h : N → M) (e : Tree N expression) → lone_designator (map_names f h e) ≡ option_map (map_designator f h) (lone_designator e)
 lone_designator-map f h (compares (sum None (product (designator x path) end) end) none) = refl
 lone_designator-map f h _ = refl

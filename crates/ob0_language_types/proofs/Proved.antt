@@ -1,4 +1,5 @@
--- The proofs of the laws about types.
+-- Proves that type checks by names and by ordinals agree, and that two modules with the same
+-- numbered tree and consistent names are both well-typed or neither is.
 use Rattle.std.proofs.Common.{◌≡◌, IsTrue, sym, ap, ◌∙◌, subst}
 use Rattle.ob0_language_names.specs.Names.{naming_by_label, naming_by_spelling}
 use Rattle.ob0_language_types.specs.Laws.{NumberingKeepsTypeCheck, NumberedTreeDecidesTyping}

@@ -86,7 +86,7 @@ typed_meanings-agree naming n noted below x =
 abbrev pub TypedWithin : {N : Type 0} → ℕ → Scope N → TypeNoted N → Type 0
 TypedWithin n scope noted = (typed_scope noted ≡ scope) × TypedBelow n noted
 
--- Declarations and types have the same results by names and by ordinals.
+-- Written types and declarations have the same results whether names or ordinals are looked up.
 
 pub denoted_type-agrees : {N : Type 0} (naming : Naming N) (n : ℕ) (noted : TypeNoted N) → TypedBelow n noted → (j : ℕ) (t : Tree N written_type) → denoted_type (meanings naming_by_label (typed_by_ordinal noted)) j (relabel_uses naming (label_from_ordinal naming) (typed_scope noted) t) ≡ denoted_type (meanings naming (typed_by_name noted)) j t
 denoted_type-agrees naming n noted below j t =
@@ -136,7 +136,8 @@ pub noted_names-within : {N : Type 0} (k : ℕ) (xs : List N) (o : Object Shape 
 noted_names-within k [] o noted below = (refl, below)
 noted_names-within k (x ∷ xs) o noted below = noted_names-within (suc k) xs o (record { name = x; ordinal = k; object = o } ∷ noted) (le_refl (suc k), below)
 
--- Moves a fact along the scope and the environments to which names are added.
+-- If `Goal` holds for the scope and environments of a noted environment with the names `xs` added,
+-- it holds for the scope and environments to which these names are added directly.
 pub typed_moved : {N : Type 0} (naming : Naming N) (Goal : Scope N → TypeEnvironment N → TypeEnvironment Label → Type 0) (k : ℕ) (xs : List N) (o : Object Shape Signature) (noted : TypeNoted N) → TypedBelow k noted
     → Goal (typed_scope (noted_names k xs o noted)) (typed_by_name (noted_names k xs o noted)) (typed_by_ordinal (noted_names k xs o noted))
     → Goal (declare_names k xs (typed_scope noted)) (bind_names xs o (typed_by_name noted)) (bind_names (labels_of_declared_names (label_from_ordinal naming) k xs) o (typed_by_ordinal noted))
@@ -237,7 +238,8 @@ pub label_typed-formals : {N : Type 0} (k : ℕ) (ps : List (TypedParameter N)) 
 label_typed-formals k [] = refl
 label_typed-formals k (p ∷ ps) = λ i. p.formal ∷ label_typed-formals (suc k) ps i
 
--- Two tests agree after optional values that agree.
+-- If two optional values agree, and two tests agree for the values in them, `option_satisfies`
+-- returns the same for both.
 
 pub hold-agrees : {X Y Z : Type 0} (p : X → Y) (q : X → Z) (P : X → Type 0) (r : Option Y) (s : Option Z) (here : Y → Bool) (there : Z → Bool)
     → Agree p q P r s → ((x : X) → P x → there (q x) ≡ here (p x)) → option_satisfies s there ≡ option_satisfies r here

@@ -15,7 +15,7 @@ index_at_length-ends = refl
 pub negative_index-ends : element_step (elements (next_value (number (pos 4)) no_value)) (number (negsuc 0)) ≡ ends_run_with Index
 negative_index-ends = refl
 
--- (-7) DIV 3 and (-7) MOD 3
+-- (-7) DIV 3 is -3, and (-7) MOD 3 is 2.
 pub quotient-rounds_down : apply_multiply_operator multiply_operator.Divide (number (negsuc 6)) (number (pos 3)) ≡ succeeds_with (number (negsuc 2))
 quotient-rounds_down = refl
 

@@ -1,4 +1,5 @@
--- The selectors of a designator, and the results of operations with two optional operands.
+-- Defines the tree of a designator's selectors, and the result of an operation with two optional
+-- operands.
 -- Rule: none; used in contracts about designators and optional operands.
 use Rattle.std.specs.Prelude.{ℕ, Option, option_and_then}
 use Rattle.ob0_tree.specs.Tree.{Tree, items, selector}

@@ -1,4 +1,4 @@
--- Laws about edits that leave a module well-typed.
+-- States laws about edits that leave a module well-typed.
 -- Rule: none; states laws about edits and types.
 use Rattle.std.specs.Prelude.{All, IsTrue, Some, codes, false, true, ℕ, ◌≡◌, ◌≢◌}
 use Rattle.ob0_tree.specs.Tree.{Tree, factor, module_text}

@@ -1,4 +1,4 @@
--- The literal for a constant's value, which replaces a use of the constant.
+-- Defines the literal of a constant's value, which replaces a use of the constant.
 -- Rule: docs/PROTOCOL.md, Requests on documents 9.
 use Rattle.std.specs.Prelude.{suc, true, false, ℤ, pos, negsuc, if◌then◌else◌, nat_lt, Some, None, codes, Option}
 use Rattle.ob0_tree.specs.declared.tree.Sign.TheVariants as sign
