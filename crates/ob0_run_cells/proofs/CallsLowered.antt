@@ -29,12 +29,14 @@ use Rattle.ob0_run_cells.proofs.PlacedEnvironments.{from-placed, placement_seen_
 use Rattle.ob0_run_cells.proofs.Places.{store-size}
 use Rattle.ob0_run_cells.proofs.Variables.{variables_are_dropped}
 
--- a relation that holds without room, and after an activation with room, holds after any activation
+-- if `P` holds for `no_room`, and for the progress of `next` whenever the added cells have room, it
+-- holds for the progress of `run_with_added_cells`
 pub with-cells : (P : execution.MachineProgress → Type 0) (n : ℕ) (next : execution.MachineState → execution.MachineProgress) (s : execution.MachineState) → P execution.no_room → (length s.cells + n < 2 ^ 64 → P (next record s { cells = s.cells ++ execution.zeros n }))
     → P (execution.run_with_added_cells n next s)
 with-cells P n next s without each = grind (arith, common_steps)
 
--- both drop the call's variables
+-- if a run of the machine and a run of the module agree, they still agree after both drop the
+-- variables of a call
 pub drop_variables-represents : (typing now others : StoreTyping) (old : Store) (base : ℕ) (p : execution.MachineProgress) (q : Progress) → now ≡ typing ++ others → StoreHasTypes typing old → base ≡ length (cells_of_store old) → MachineProgressRepresentsProgress now p q → MachineProgressRepresentsProgress typing (execution.drop_variables base p) (keep_first_variables (length old) q)
 drop_variables-represents typing now others old base p q h1 h2 h3 h4 = grind (arith, common_steps, variables_are_dropped)
 
@@ -42,7 +44,7 @@ module _ {N : Type 0} (table : RoutineTable N) where
   abbrev pub body_of : ℕ → ℕ → StoreTyping → Levels → RunEnvironment N → BodyContext N
   body_of c t typing ls active = record { typing = typing; active = meanings_for_statements table.naming active; levels = ls; call_effect = call_freeing_variables table.naming c t active; lowered_call_effect = execution.call table.routines c t }
 
-  -- the facts about calls if c more may be open
+  -- states that lowered calls represent the module's calls if `c` more calls may be open
   abbrev pub CallsKnown : ℕ → ℕ → Type 0
   CallsKnown c t =
       (typing : StoreTyping) (ls : Levels) (checked : TypeEnvironment N) (placement : Placement N) (active : RunEnvironment N) → RunEnvironmentAgreesWithCheckedEnvironment table.naming typing checked active → PlacementMatchesActivation table typing ls checked placement active

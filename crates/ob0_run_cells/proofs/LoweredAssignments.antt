@@ -23,7 +23,7 @@ pub standard-is : (typing : StoreTyping) (q : StandardProcedure) (a : Option (Ob
 standard-is typing q (Some (a_standard_procedure p)) h = ap (λ q. Some (a_standard_procedure q)) (sym h)
 standard-is typing q _ h = absurd h
 
--- cells copied
+-- copying the cells of a place represents the assignment of its value to another place
 
 both-within : (a b c d : ℕ) → a ≤ b → c ≤ d → (nat_le a b && nat_le c d) ≡ true
 both-within a b c d h k = (λ i. le-leb a b h i && le-leb c d k i)
@@ -53,7 +53,8 @@ cells-cells_after_copy typing low s p q shape h fit_p fit_q =
       same_output = h.same_output;
     })
 
--- uses of what is evaluated in steps
+-- continuing a run with two evaluations in a row equals continuing it with the first and then with
+-- the second
 
 pub use-then : {A B : Type 0} (s : State) (w : Outcome A) (f : A → Outcome B) (j : B → Progress) → continue_with_result s (w >>= f) j ≡ continue_with_result s w (λ a. continue_with_result s (f a) j)
 use-then s (succeeds_with a) f j = refl

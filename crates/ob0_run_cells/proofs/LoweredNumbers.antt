@@ -16,7 +16,8 @@ pub each-then : {A B : Type 0} (o : Outcome A) (f g : A → Outcome B) → ((a :
 each-then (succeeds_with a) f g each = each a
 each-then (ends_run_with e) f g each = refl
 
--- an operator that its left side doesn't settle, and what follows it
+-- if a left operand never settles an operation, checking whether it does leaves the outcome
+-- unchanged
 pub unsettled : {A : Type 0} (o : Outcome Value) (is_settled : Value → Bool) (step : Value → Outcome Value) (next : Value → Outcome A) → ((x : Value) → is_settled x ≡ false)
     → ((o >>= step) >>= next) ≡ (o >>= (λ x. elim (is_settled x) [ true ↦ succeeds_with x | false ↦ step x ] >>= next))
 unsettled o is_settled step next never = grind (arith, common_steps)
@@ -32,7 +33,8 @@ module _ {N : Type 0} (checked : TypeMeanings N) (slots : N → Slot) where
   pub negative-means : (n : lowered.Number) (v : OutcomeByMoment N Value) → NumberHasOutcome checked slots n v → NumberHasOutcome checked slots (lowered.negative n) (λ z. v z >>= apply_sign (Some sign.Minus))
   negative-means n v hn z shown = grind (arith, common_steps)
 
-  -- where nothing is left
+  -- if the rest of a chain returns each value unchanged, a number that starts the chain has the
+  -- outcome of the whole chain
   pub number-whole : (n : lowered.Number) (rest : RestOfChain N Value) (whole : OutcomeByMoment N Value) → ((z : Moment N) (v : Value) → rest z v ≡ succeeds_with v) → NumberStartsChain checked slots n rest whole → NumberHasOutcome checked slots n whole
   number-whole n rest whole ends_here h z shown = grind (arith, common_steps)
 

@@ -30,12 +30,13 @@ pub stuck-then : {A B C : Type 0} (o : Option A) (f : A → Option B) (k : B →
 stuck-then None f k = refl
 stuck-then (Some a) f k = refl
 
--- a step of lowered code and one of the definition, and what follows each
+-- if a lowered step has the outcome of a step of the definition, and the steps after them have the
+-- same outcome for each value, both steps together have the same outcome
 pub outcome-then : {A B X Y : Type 0} (f : A → X) (g : B → Y) (o : machine.StepResult A) (w : Outcome X) (k : A → machine.StepResult B) (j : X → Outcome Y)
     → outcome_of f o ≡ w → ((a : A) → outcome_of g (k a) ≡ j (f a)) → outcome_of g (followed_by o k) ≡ (w >>= j)
 outcome-then f g o w k j h1 h2 = grind (arith, common_steps)
 
--- numbers of 32 bits
+-- the machine's checks of numbers and divisions have the same outcomes as the definition's checks
 
 range-same : (n : ℤ) (b : Bool) → outcome_of number (if b then machine.gives n else machine.ends machine.Overflow) ≡ (if b then succeeds_with (number n) else ends_run_with Overflow)
 range-same n true = refl
@@ -48,7 +49,8 @@ pub checked_division-same : (result : Option ℤ) → outcome_of number (machine
 checked_division-same None = refl
 checked_division-same (Some n) = checked_number-same n
 
--- operators between values, by those of lowered code
+-- states that a lowered operator has the same outcome on two numbers as an operator of the
+-- definition
 abbrev pub Operates : lowered.Operator → (Value → Value → Outcome Value) → Type 0
 Operates o op = (a b : ℤ) → outcome_of number (machine.apply_operator o a b) ≡ op (number a) (number b)
 
@@ -67,7 +69,7 @@ quotient-operates a b = checked_division-same (checked_division quotient a b)
 pub remainder-operates : Operates lowered.remainder (apply_multiply_operator multiply_operator.Modulo)
 remainder-operates a b = checked_division-same (checked_division remainder a b)
 
--- a sign `+`, as the sum with 0
+-- adding 0 to a number has the same outcome as applying the sign `+`
 pub plus-same : (a : ℤ) → outcome_of number (machine.apply_operator lowered.sum a (pos 0)) ≡ apply_sign (Some sign.Plus) (number a)
 plus-same a = grind (arith, common_steps)
 
@@ -75,7 +77,7 @@ pub compare-same : (r : Relation) (a b : ℤ) → succeeds_with (truth (machine.
 compare-same relation.Equal a b = refl
 compare-same _ a b = refl
 
--- addresses
+-- `add_offset` returns the sum of an address and an offset if the sum is below 2^64
 
 pub add_offset-same : (a offset : ℕ) → a + offset < 2 ^ 64 → machine.add_offset a offset ≡ a + offset
 add_offset-same a offset h = mod-eq_of_lt h
@@ -86,7 +88,8 @@ addresses typing w = w >>= (λ p. succeeds_with (address_of_place typing p))
 abbrev pub same : ℕ → ℕ
 same a = a
 
--- what a place of lowered code is, and what the definition's is
+-- states that `o` is the address of the place `w`, or both end the run in the same way, and that
+-- `w` has the type `s`
 pub record Led (typing : StoreTyping) (s : Shape) (o : machine.StepResult ℕ) (w : Outcome Place) : Type 0 where
   pub is_same : outcome_of same o ≡ addresses typing w
   pub is_place : PlaceOutcomeHasType typing s w
@@ -100,7 +103,8 @@ ended x = ends_run_with x
 pub ended-same : (x y : End) → ended x ≡ ended y → x ≡ y
 ended-same x y e = ap (λ o. elim o [ succeeds_with a ↦ y | ends_run_with z ↦ z ]) e
 
--- one step further from a place
+-- if `Led` holds for two evaluations, and for the evaluations that follow from each place, it holds
+-- for both together
 pub led-then : (typing : StoreTyping) (s t : Shape) (o : machine.StepResult ℕ) (w : Outcome Place) (k : ℕ → machine.StepResult ℕ) (j : Place → Outcome Place)
     → Led typing s o w → ((p : Place) → PlaceHasType typing p s → Led typing t (k (address_of_place typing p)) (j p)) → Led typing t (followed_by o k) (w >>= j)
 led-then typing s t o w k j h1 h2 = grind (arith, common_steps)

@@ -19,7 +19,8 @@ use Rattle.ob0_run_cells.proofs.LoweredNumbers.{each-then}
 use Rattle.ob0_run_cells.proofs.LoweredOutcomes.{Led, addresses, add_offset-same, given-same, gives-then, grouped-then, led-then, same, stuck-then, followed_by}
 use Rattle.ob0_run_cells.proofs.Places.{numbers_are_cells, parts_have_addresses, place-lies, places_are_slices, truths_are_cells}
 
--- what names mean in the run, by what they mean in the checked module
+-- if a name means a constant in the checked module, it means the same constant in the run; if it
+-- means a variable, it means a place of the variable's type
 
 pub constant-is : (typing : StoreTyping) (v : Value) (a : Option (Object Place (List ParameterMode))) → RunObjectAgreesWithCheckedObject typing (Some (a_constant v)) a → a ≡ Some (a_constant v)
 constant-is typing v (Some (a_constant w)) h = ap (λ v. Some (a_constant v)) (sym h)
@@ -29,7 +30,7 @@ pub variable-is : (typing : StoreTyping) (s : Shape) (a : Option (Object Place (
 variable-is typing s (Some (a_variable p)) h = (p, refl, h)
 variable-is typing s _ h = absurd h
 
--- what lies further on
+-- following two joined paths is following the first path and then the second
 
 and-then-twice : {A B C : Type 0} (o : Option A) (f : A → Option C) (g : B → Option C) (h : A → Option B) → ((a : A) → f a ≡ option_and_then g (h a)) → option_and_then f o ≡ option_and_then g (option_and_then h o)
 and-then-twice None f g h each = refl
@@ -49,7 +50,8 @@ then-some : {A : Type 0} (o : Option A) → option_and_then Some o ≡ o
 then-some None = refl
 then-some (Some a) = refl
 
--- selectors that are left, one step further
+-- after a place is extended by one step, the remaining selectors are evaluated in the value that
+-- this step selects
 pub left-extended_place : {N : Type 0} (z : Moment N) (p : Place) (s : PathStep) (rest : Tree N (items selector))
     → outcome_of_remaining_selectors rest z (extended_place p (s ∷ [])) ≡ (result_or_stuck (read_place z.store p) >>= (λ u. result_or_stuck (value_at_step u s) >>= (λ w. evaluate_selectors z.active z.store w rest >>= (λ steps. succeeds_with (extended_place p (s ∷ steps))))))
 left-extended_place z p s rest =
@@ -57,7 +59,7 @@ left-extended_place z p s rest =
     ∙ (stuck-then (read_place z.store p) (value_at_path (s ∷ [])) (λ w. evaluate_selectors z.active z.store w rest >>= (λ steps. succeeds_with (extended_place (extended_place p (s ∷ [])) steps)))
     ∙ (λ i. result_or_stuck (read_place z.store p) >>= (λ u. result_or_stuck (then-some (value_at_step u s) i) >>= (λ w. evaluate_selectors z.active z.store w rest >>= (λ steps. succeeds_with (extended_place-extended_place p s steps i))))))
 
--- the steps that a selector and the others make are those of the others after it
+-- extending a place after all steps are collected gives the same outcome as extending it at once
 pub step-first : (o : Outcome Value) (others : Value → Outcome (List PathStep)) (s : PathStep) (p : Place)
     → ((o >>= (λ w. others w >>= (λ steps. succeeds_with (s ∷ steps)))) >>= (λ steps. succeeds_with (extended_place p steps))) ≡ (o >>= (λ w. others w >>= (λ steps. succeeds_with (extended_place p (s ∷ steps)))))
 step-first o others s p = grind (arith, common_steps)
@@ -66,12 +68,12 @@ pub each-place : {B : Type 0} (typing : StoreTyping) (s : Shape) (w : Outcome Pl
 each-place typing s (succeeds_with p) f g h each = each p h
 each-place typing s (ends_run_with e) f g h each = refl
 
--- addresses of slots
+-- the address of a slot's place is the slot's address if this address is below 2^64
 
 pub slot-found : (ls : Levels) (cells : List ℤ) (slot : Slot) → slot_address ls slot < 2 ^ 64 → machine.place_address ls cells (slot_place slot) ≡ machine.gives (slot_address ls slot)
 slot-found ls cells slot h1 = grind (arith, common_steps)
 
--- addresses of parts
+-- two offsets can be added to an address in any order, or as one sum
 
 add_offset-twice : (a k j : ℕ) → machine.add_offset a (machine.add_offset k j) ≡ machine.add_offset (machine.add_offset a k) j
 add_offset-twice a k j = grind (arith, common_steps)
@@ -79,7 +81,7 @@ add_offset-twice a k j = grind (arith, common_steps)
 add_offset-swapped : (a k j : ℕ) → machine.add_offset (machine.add_offset a k) j ≡ machine.add_offset (machine.add_offset a j) k
 add_offset-swapped a k j = grind (arith, common_steps)
 
--- an element of an array that is somewhat further on is as much further on
+-- if an array begins `k` cells later, each of its elements also begins `k` cells later
 extended_place-element : (x : machine.StepResult ℕ) (y : machine.StepResult ℤ) (n s at k : ℕ)
     → followed_by x (λ a. followed_by y (machine.element_address (machine.add_offset a (machine.add_offset at k)) n s))
     ≡ followed_by (followed_by x (λ a. followed_by y (machine.element_address (machine.add_offset a at) n s))) (λ a. machine.gives (machine.add_offset a k))
@@ -89,7 +91,7 @@ extended_place-element x y n s at k = grind (arith, common_steps)
 pub value_at_step-address : (ls : Levels) (cells : List ℤ) (q : lowered.Place) (k : ℕ) → machine.place_address ls cells (place_at_offset q k) ≡ followed_by (machine.place_address ls cells q) (λ a. machine.gives (machine.add_offset a k))
 value_at_step-address ls cells q k = grind (arith, common_steps)
 
--- an element without an offset
+-- adding the offset 0 to an array's address doesn't change the address of its element
 from-start : (a : ℕ) (y : machine.StepResult ℤ) (n s : ℕ) → followed_by y (machine.element_address (machine.add_offset a 0) n s) ≡ followed_by y (machine.element_address a n s)
 from-start a y n s = grind (arith, common_steps)
 
@@ -97,7 +99,8 @@ pub element-address : (ls : Levels) (cells : List ℤ) (q : lowered.Place) (i : 
     → machine.place_address ls cells (lowered.element q i n s 0) ≡ followed_by (machine.place_address ls cells q) (λ a. followed_by (machine.number_value ls cells i) (machine.element_address a n s))
 element-address ls cells q i n s = grind (arith, common_steps)
 
--- one step further, at a moment
+-- adding the offset of a step to the address of a place gives the address of the place extended by
+-- this step
 
 pub step-alone : (s t : Shape) (step : PathStep) → shape_at_step s step ≡ Some t → path_offset (step ∷ []) s ≡ step_offset s step
 step-alone s t step e = grind (arith, common_steps)
@@ -112,7 +115,8 @@ step-led typing store fits few p s t step fit e =
     let bound : address_of_place typing p + step_offset s step < 2 ^ 64 = omega (arith, within, few, same_address) in
     record { is_same = ap succeeds_with (add_offset-same (address_of_place typing p) (step_offset s step) bound ∙ sym same_address); is_place = is }
 
--- an element, by an index that was evaluated
+-- if a lowered index has the outcome of an index, the lowered address of the element is the address
+-- of the element's place (`Led`)
 pub index-led : (typing : StoreTyping) (store : Store) → StoreHasTypes typing store → store_cell_count typing < 2 ^ 64 → (p : Place) (k n : ℕ) (t : Shape) → PlaceHasType typing p (array_shape k n t)
     → (o : machine.StepResult ℤ) (w : Outcome Value) → outcome_of number o ≡ w
     → Led typing t (followed_by o (machine.element_address (address_of_place typing p) n (shape_cell_count t))) (w >>= (λ x. result_or_stuck (read_place store p) >>= (λ u. element_step u x >>= (λ s. succeeds_with (extended_place p (s ∷ []))))))
@@ -132,7 +136,7 @@ index-led typing store fits few p k n t fit o w e =
     go vs counted (machine.gives (negsuc i)) = record { is_same = refl; is_place = tt }
     go vs counted (machine.ends x) = record { is_same = refl; is_place = tt }
 
--- a designator in an expression evaluates to what its place holds
+-- a designator in an expression evaluates to the value at its place
 
 pub value-there : {N : Type 0} (active : Meanings N Place (List ParameterMode)) (store : Store) (x : N) (path : Tree N (items selector)) (p : Place) → active.object_for x ≡ Some (a_variable p)
     → (object_value store (active.object_for x) >>= (λ v. evaluate_selectors active store v path >>= (λ steps. result_or_stuck (value_at_path steps v))))
@@ -173,7 +177,8 @@ truth-there typing store fits (machine.gives a) (succeeds_with p) h =
 truth-there typing store fits (machine.ends x) (ends_run_with y) h = ap (λ w. w >>= (λ a. ends_run_with y)) (h.is_same)
 truth-there typing store fits _ _ h = let e = h.is_same in absurd (cc)
 
--- an index and the selectors after it, from a place that holds something
+-- evaluating an index, extending the place by it and evaluating the other selectors has the same
+-- outcome as evaluating all these selectors from a place that exists
 pub index-left : {N : Type 0} (z : Moment N) (p : Place) (e : Tree N expression) (rest : Tree N (items selector)) (u : Value) → read_place z.store p ≡ Some u
     → ((value_of_expression e z >>= (λ x. result_or_stuck (read_place z.store p) >>= (λ u. element_step u x >>= (λ s. succeeds_with (extended_place p (s ∷ [])))))) >>= outcome_of_remaining_selectors rest z) ≡ outcome_of_remaining_selectors (more (index e) rest) z p
 unfolding evaluate_expression

@@ -14,7 +14,8 @@ use Rattle.ob0_run_machine.specs.LoweredSyntax as lowered
 use Rattle.ob0_run_cells.specs.LoweredExpressions.{OutcomeByMoment, Moment, NumberHasOutcome, RestOfChain, Slot, TruthStartsChain, TruthHasOutcome, outcome_of_remaining_addends, outcome_of_remaining_multipliers, outcome_of, comparator_of_relation, value_of_expression, value_of_factor, value_of_simple_expression, value_of_term}
 use Rattle.ob0_run_cells.proofs.LoweredOutcomes.{grouped-then}
 
--- a right side alone says what an operator gives that its left side doesn't settle
+-- if `op` returns each truth value unchanged, applying it leaves the outcome of a lowered truth
+-- unchanged
 pub right-alone : (op : Value → Outcome Value) (o : machine.StepResult Bool) (w : Outcome Value) → ((b : Bool) → op (truth b) ≡ succeeds_with (truth b)) → outcome_of truth o ≡ w → outcome_of truth o ≡ (w >>= op)
 right-alone op o w h1 h2 = grind (arith, common_steps)
 

@@ -24,11 +24,11 @@ use Rattle.ob0_run_cells.specs.LoweredExpressions.{in_module_activation}
 use Rattle.ob0_run_cells.proofs.CallsLowered.{body-represents, calls-known, with-cells}
 use Rattle.ob0_run_cells.proofs.PlacedDeclarations.{FramePlaced, block-placed}
 
--- a predeclared name is nowhere
+-- the bindings of a predeclared name agree, because it has no place in lowered code
 predeclared : {N : Type 0} {x : N} {Further : Type 0} → Further → FirstBindingsAgree x x x (Unit {0}) Further
 predeclared h = record { activation_name_agrees = refl; placement_name_agrees = refl; here = tt; further = h }
 
--- a run of lowered code that has room is this one
+-- states that the machine's progress has the result `r`, or is `no_room`
 abbrev pub ComesTo : execution.MachineProgress → Run → Type 0
 ComesTo p r = IfSome (execution.run_result p) (λ q. run_of q ≡ r)
 
@@ -64,7 +64,8 @@ run-freed {N} naming (forms_module x b closing) program c t input fits means =
     (λ room. run_result-same part.typing_now (runs_body low) statements
     (body-represents table c t (calls-known table c t) part.typing_now execution.module_levels after q.placement g.env part.frame.environment_fits part.frame.placing_fits (omega (arith, counted, total, room)) program.body (block_statements b) body_means low record start { store = g.store } represents)))
 
--- of the store that keeps every variable too: no run reads again what a call failed
+-- the run of a lowered program is also the run of its module in which the store keeps every
+-- variable
 pub run-lowered : {N : Type 0} (naming : Naming N) (m : Tree N module_text) (program : lowered.LoweredCode) (c t : ℕ) (input : List ℤ) → passes_type_check naming m ≡ true → ProgramMeansModule naming m program → IfSome (execution.run program input c t) (λ r. run_of r ≡ run_with_naming naming m input c t)
 run-lowered naming m program c t input fits means =
     subst (λ whole. IfSome (execution.run program input c t) (λ r. run_of r ≡ whole)) (freeing-keeps naming m input c t) (run-freed naming m program c t input fits means)

@@ -11,7 +11,7 @@ use Rattle.ob0_language_runs.proofs.Sound.{below_of}
 use Rattle.ob0_run_cells.specs.Cells.{cells_of, element_cells, field_offset, fields_cell_count, member_cells, path_offset, shape_cell_count, step_offset}
 use Rattle.ob0_run_cells.proofs.Splits.{Lies, lies-alone, lies-following, lies-first, lies-within}
 
--- how many cells
+-- a value has as many cells as its type
 
 mutual
   pub cells-size : (v : Value) (s : Shape) → HasShape v s → length (cells_of v) ≡ shape_cell_count s
@@ -30,7 +30,7 @@ mutual
   members-size (next_member x v rest) (next_field_shape y s others) h = grind (arith, common_steps, cells-size v s h.1, members-size rest others h.2)
   members-size _ _ h = absurd h
 
--- elements and members
+-- the cells of an element or a member lie in the cells of the elements or members
 
 pub element-lies : (vs : Values) (s : Shape) (i : ℕ) → i < value_count vs → EachElementHasShape vs s
     → (w : Value) × (nth_value vs i ≡ Some w) × HasShape w s × Lies element_cells vs w (with_nth_value vs i) (i * shape_cell_count s)
@@ -64,7 +64,8 @@ member-lies (next_member y v rest) (next_field_shape z s others) x t e h =
     ]) e
 member-lies _ _ x t e h = absurd h
 
--- cells of an array or a record are those of its parts
+-- if a part lies in the cells of elements or members, it also lies in the cells of the array or
+-- record
 pub lies-as : {X : Type 0} (cells : X → List ℤ) (make : X → Value) (whole : X) (old : Value) (write : Value → X) (a : ℕ)
     → ((x : X) → cells_of (make x) ≡ cells x) → Lies cells whole old write a → Lies cells_of (make whole) old (λ new. make (write new)) a
 lies-as cells make whole old write a same h = grind (arith, common_steps)
@@ -86,9 +87,10 @@ value_at_step-lies (number n) integer_shape step t h e = absurd (cc)
 value_at_step-lies (truth b) boolean_shape step t h e = absurd (cc)
 value_at_step-lies _ _ step t h e = absurd h
 
--- paths
+-- the value at the end of a path lies in the cells of the whole value
 
--- what lies at the end of a path, and what writing it makes of the whole
+-- states that a path leads to a value of the type `t`, and that this value lies in the cells of the
+-- whole value `v`, where it can be replaced
 abbrev pub PathLies : List PathStep → Value → Shape → Shape → Type 0
 PathLies path v s t =
     (w : Value) × (value_at_path path v ≡ Some w) × HasShape w t × (write : Value → Value) × ((new : Value) → with_value_at_path path new v ≡ Some (write new)) × Lies cells_of v w write (path_offset path s)

@@ -20,7 +20,7 @@ use Rattle.ob0_run_cells.proofs.LoweredOutcomes.{Led, grouped-then}
 use Rattle.ob0_run_cells.proofs.Places.{HoldsSlice, places_are_slices, store-size}
 use Rattle.ob0_run_cells.proofs.Represented.{truth_as_cell-same, number-in, place-in, truth-in}
 
--- both give what is related, or both end alike
+-- states that two outcomes have values that `R` relates, or end the run in the same way
 abbrev pub Both : {A B : Type 0} → (A → B → Type 0) → machine.StepResult A → Outcome B → Type 0
 Both R (machine.gives a) (succeeds_with b) = R a b
 Both R (machine.ends x) (ends_run_with y) = end_of x ≡ y
@@ -42,7 +42,8 @@ pub use-both : {A B : Type 0} (typing : StoreTyping) (R : A → B → Type 0) (l
     → ((a : A) (b : B) → R a b → MachineProgressRepresentsProgress typing (k a) (j b)) → MachineProgressRepresentsProgress typing (execution.continue_with_result low o k) (continue_with_result s w j)
 use-both typing R low s o w k j h1 h2 h3 = grind (arith, common_steps)
 
--- what was passed before, and what is after arguments
+-- states that the arguments `args` match the signature, and that passing them added their cells and
+-- addresses to `done`, which gave `p`
 pub record Passes (typing : StoreTyping) (fs : Signature) (done p : execution.CallArguments) (args : List Argument) : Type 0 where
   pub arguments_match : ArgumentsMatchSignature typing fs args
   pub cells_passed : p.cells ≡ done.cells ++ value_argument_cells args
@@ -59,7 +60,7 @@ addresses-joined typing (value_argument v) args = refl
 pub passes-on : (typing : StoreTyping) (f : FormalParameter) (fs : Signature) (done p q : execution.CallArguments) (a : Argument) (args : List Argument) → Passes typing (f ∷ []) done p (a ∷ []) → Passes typing fs p q args → Passes typing (f ∷ fs) done q (a ∷ args)
 passes-on typing f fs done p q a args h k = grind (arith, common_steps)
 
--- a block of cells that exist
+-- if all cells of a block exist, `block_or_zeros_at_address` returns them
 pub block-there : (cells : List ℤ) (from n : ℕ) → from + n ≤ length cells → execution.block_or_zeros_at_address cells from n ≡ take n (drop from cells)
 block-there cells from n h = grind (arith, common_steps)
 

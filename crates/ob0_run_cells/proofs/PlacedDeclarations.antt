@@ -33,14 +33,16 @@ pub store_cell_count-append : (typing : StoreTyping) (s : Shape) → store_cell_
 store_cell_count-append [] s = omega arith
 store_cell_count-append (t ∷ typing) s = let h = store_cell_count-append typing s in omega (arith, h)
 
--- a frame whose variables are placed: the cells of an activation are those from its base on
+-- states that the bindings of a frame have their places, and that the store ends with the
+-- activation's cells, which begin at the address `base`
 pub record FramePlaced {N : Type 0} (table : RoutineTable N) (typing : StoreTyping) (ls : Levels) (base : ℕ) (checked : TypeEnvironment N) (p : PlacementState N) (f : Frame N) : Type 0 where
   pub store_fits : StoreHasTypes typing f.store
   pub environment_fits : RunEnvironmentAgreesWithCheckedEnvironment table.naming typing checked f.env
   pub placing_fits : PlacementMatchesActivation table typing ls checked p.placement f.env
   pub cells_counted : base + p.cells ≡ store_cell_count typing
 
--- a frame with more variables, and their cells after those before
+-- states that a frame has variables in addition to the store `before`, and that their cells `added`
+-- follow the cells of this store
 pub record Extends {N : Type 0} (table : RoutineTable N) (typing : StoreTyping) (ls : Levels) (base : ℕ) (checked : TypeEnvironment N) (p : PlacementState N) (before : Store) (added : List ℤ) (g : Frame N) : Type 0 where
   pub typing_now : StoreTyping
   pub others : StoreTyping
@@ -48,7 +50,7 @@ pub record Extends {N : Type 0} (table : RoutineTable N) (typing : StoreTyping) 
   pub frame : FramePlaced table typing_now ls base checked p g
   pub cells_added : cells_of_store g.store ≡ cells_of_store before ++ added
 
--- names that are bound before others are sized if those are
+-- if `size_of` returns the sizes of all variables after names are bound, it also does before
 names-sized : {N : Type 0} (size_of : N → ℕ) (xs : List N) (s : Shape) (env : TypeEnvironment N) → ReturnsSizesOfVariables size_of (bind_names xs (a_variable s) env) → ReturnsSizesOfVariables size_of env
 names-sized size_of [] s env sized = sized
 names-sized size_of (x ∷ xs) s env sized = (names-sized size_of xs s ((x, a_variable s) ∷ env) sized).1
@@ -64,7 +66,7 @@ module _ {N : Type 0} (table : RoutineTable N) where
   pub extends-by : (typing : StoreTyping) (ls : Levels) (base : ℕ) (checked : TypeEnvironment N) (p : PlacementState N) (before : Store) (a b : List ℤ) (g : Frame N) → a ≡ b → Extends table typing ls base checked p before a g → Extends table typing ls base checked p before b g
   extends-by typing ls base checked p before a b g e h = subst (λ l. Extends table typing ls base checked p before l g) e h
 
-  -- constants and types
+  -- a placement still matches an activation after constants or types are declared in both
 
   pub constants-placed : (typing : StoreTyping) (ls : Levels) (cs : Tree N (items constant)) (checked after : TypeEnvironment N) (placement : Placement N) (active d : RunEnvironment N) → declare_constants table.naming checked cs ≡ Some after → declare_constants table.naming active cs ≡ Some d
       → PlacementMatchesActivation table typing ls checked placement active → PlacementMatchesActivation table typing ls after (add_names_without_place (constant_names cs) placement) d
@@ -84,7 +86,7 @@ module _ {N : Type 0} (table : RoutineTable N) where
       let (w, ew, e₂) = then_some (denoted_type (meanings table.naming active) k u) (λ s. declare_types table.naming ((x, a_type s) ∷ active) (k + constructor_count u) ds) d e' in
       types-placed typing ls (k + constructor_count u) ds ((x, a_type v) ∷ checked) after ((x, nowhere) ∷ placement) ((x, a_type w) ∷ active) d e₁ e₂ record { activation_name_agrees = refl; placement_name_agrees = refl; here = tt; further = h }
 
-  -- one variable more, at the end of the store
+  -- a frame is still placed after one variable is added at the end of its store
   pub variable-placed : (typing : StoreTyping) (ls : Levels) (base : ℕ) (checked : TypeEnvironment N) (p : PlacementState N) (f : Frame N) (x : N) (slot : Slot) (s : Shape) (n : ℕ) (v : Value) → n ≡ shape_cell_count s → slot_address ls slot ≡ base + p.cells → HasShape v s → FramePlaced table typing ls base checked p f
       → FramePlaced table (typing ++ s ∷ []) ls base ((x, a_variable s) ∷ checked) (record p { placement = (x, in_slot slot) ∷ p.placement; cells = p.cells + n }) (record { env = (x, a_variable record { variable = length f.store; path = [] }) ∷ f.env; store = f.store ++ v ∷ [] })
       × (cells_of_store (f.store ++ v ∷ []) ≡ cells_of_store f.store ++ cells_of v)
@@ -130,7 +132,8 @@ module _ {N : Type 0} (table : RoutineTable N) where
             (extends-then typing part.typing_now part.others ls base inner (place_variable_declarations at size_of gs q) f.store (add_variables_to_frame (names_in_list ns) (initial_value s) f).store (replicate m (pos 0)) (replicate n (pos 0)) g part.is_grown part.cells_added rest),
       )
 
-  -- procedures
+  -- a placement that matches an activation can be extended by declared procedures, so that the body
+  -- has correct code in it
 
   pub procedures-placed : (typing : StoreTyping) (ls : Levels) (k : ℕ) (code : lowered.InstructionList) (statements : Tree N (maybe body)) (ps : Tree N (items procedure)) (checked : TypeEnvironment N) (placement : Placement N) (active : RunEnvironment N) → RunEnvironmentAgreesWithCheckedEnvironment table.naming typing checked active
       → PlacementMatchesActivation table typing ls checked placement active → procedures_and_body_are_well_typed table.naming checked k statements ps ≡ true → RoutinesMeanProcedures table checked placement k code statements ps
@@ -146,7 +149,8 @@ module _ {N : Type 0} (table : RoutineTable N) where
       procedures-placed typing ls (k + procedure_constructor_count p) code statements rest (bind_procedure (procedure_name p) ps checked) ((procedure_name p, local_procedure_target i) ∷ placement) ((procedure_name p, a_procedure record { constructors_before = k; text = p }) ∷ active)
       (refl, (ps, first.are_typed, refl, both.0), env) record { activation_name_agrees = refl; placement_name_agrees = refl; here = (placement, h, first); further = h } both.1 others
 
-  -- a block: its frame, and its body
+  -- declaring a block that has correct code extends the frame by the block's variables, and the
+  -- block's body has correct code in the new placement
 
   pub block-placed : (typing : StoreTyping) (ls : Levels) (base : ℕ) (at : ℕ → Slot) → ((c : ℕ) → slot_address ls (at c) ≡ base + c) → (k cells : ℕ) (code : lowered.InstructionList) (b : Tree N block) (checked : TypeEnvironment N) (p : PlacementState N) (f : Frame N) → FramePlaced table typing ls base checked p f
       → block_is_well_typed table.naming checked k b ≡ true → CodeMeansBlock table at checked p k cells code b
@@ -185,7 +189,7 @@ module _ {N : Type 0} (table : RoutineTable N) where
         },
       )
 
--- parameters
+-- parameters that are bound to matching arguments get their places
 
 pub index-of_drop : (xs : List ℕ) (j y : ℕ) (ys : List ℕ) → drop j xs ≡ y ∷ ys → (slice_index_or xs j 0 ≡ y) × (drop (suc j) xs ≡ ys)
 index-of_drop (x ∷ xs) zero y ys e = (ap (λ l. slice_index_or l 0 0) e, ap (drop 1) e)

@@ -15,7 +15,8 @@ use Rattle.ob0_run_cells.specs.LoweredExpressions.{Slot, in_module_activation, s
 use Rattle.ob0_run_cells.proofs.Places.{addresses_stay}
 
 module _ {N : Type 0} (table : RoutineTable N) where
-  -- the bindings from a name's first on are placed too
+  -- a placement still matches an activation if both, and the environment, are cut to begin with the
+  -- newest binding of a name
   pub from-placed : (typing : StoreTyping) (ls : Levels) (checked : TypeEnvironment N) (placement : Placement N) (active : RunEnvironment N) (x : N) → PlacementMatchesActivation table typing ls checked placement active
       → PlacementMatchesActivation table typing ls (suffix_from_newest_binding table.naming checked x) (suffix_from_latest_binding table.naming placement x) (suffix_from_newest_binding table.naming active x)
   from-placed typing ls [] [] [] x h = tt
@@ -31,7 +32,7 @@ module _ {N : Type 0} (table : RoutineTable N) where
   slots-fit typing ls (b ∷ checked) (w ∷ placement) (d ∷ active) h p e = grind (arith, common_steps)
   slots-fit typing ls _ _ _ h p e = absurd h
 
-  -- stores grow
+  -- a placement still matches an activation after the store has grown
 
   grows-here : (typing others : StoreTyping) (ls : Levels) (checked : TypeEnvironment N) (Fits Grown : Levels → Placement N → Type 0) → ((ls : Levels) (placement : Placement N) → Fits ls placement → Grown ls placement) → (x : N) (o : Object Shape Signature) (w : BindingPlace) (r : Object Place (ProcedureText N))
       → BindingIsPlaced table typing ls checked Fits x o w r → BindingIsPlaced table (typing ++ others) ls checked Grown x o w r
@@ -50,7 +51,7 @@ module _ {N : Type 0} (table : RoutineTable N) where
   placement-grows typing others (b ∷ checked) [] ls [] h = absurd h
   placement-grows typing others _ _ ls _ h = absurd h
 
-  -- one activation further in
+  -- a placement that matches an activation also matches it as seen from one level deeper
 
   slot-placement_seen_one_level_deeper : (l : Level) (ls : Levels) (s : Slot) → slot_address (l ∷ ls) (slot_seen_one_level_deeper s) ≡ slot_address ls s
   slot-placement_seen_one_level_deeper l ls (in_module_activation at) = refl

@@ -16,7 +16,7 @@ store-size [] [] h = refl
 store-size (s ∷ typing) (v ∷ store) h = grind (arith, common_steps, length-append, cells-size, store-size typing store h.1)
 store-size _ _ h = absurd h
 
--- a variable lies after the older ones
+-- a variable lies in the cells of the store, after the cells of the older variables
 pub variable-lies : (typing : StoreTyping) (store : Store) (n : ℕ) (s : Shape) → StoreHasTypes typing store → slice_get typing n ≡ Some s
     → (v : Value) × (slice_get store n ≡ Some v) × HasShape v s × Lies cells_of_store store v (slice_set store n) (store_cell_count (take n typing))
 variable-lies [] [] n s h e = absurd (cc)
@@ -27,7 +27,8 @@ variable-lies (t ∷ typing) (v ∷ store) (suc n) s h e =
     (w, ew, hw, lies-following cells_of_store cells_of_store (v ∷ store) store w (slice_set (v ∷ store) (suc n)) (slice_set store n) (cells_of v) (shape_cell_count t) (store_cell_count (take n typing)) refl (λ new. refl) (cells-size v t h.0) l)
 variable-lies _ _ n s h e = absurd h
 
--- what lies at a place, and what writing it makes of the store
+-- states that a place holds a value of the type `s`, and that this value lies in the cells of the
+-- store at the place's address, where it can be replaced
 abbrev pub PlaceLies : StoreTyping → Store → Place → Shape → Type 0
 PlaceLies typing store p s =
     (v : Value) × (read_place store p ≡ Some v) × HasShape v s × (write : Value → Store) × ((new : Value) → write_place store p new ≡ Some (write new)) × ((new : Value) → HasShape new s → StoreHasTypes typing (write new))
@@ -50,7 +51,8 @@ place-lies typing store p s h e =
           (lies-within cells_of_store store v w (slice_set store p.variable) write (store_cell_count (take p.variable typing)) (path_offset p.path t) l k),
     )
 
--- a place holds a value of a type, whose cells are those of the store from the place's address on
+-- states that a place holds a value of the type `s`, whose cells are the store's cells that begin
+-- at the place's address
 pub record HoldsSlice (typing : StoreTyping) (store : Store) (p : Place) (s : Shape) : Type 0 where
   pub within : address_of_place typing p + shape_cell_count s ≤ store_cell_count typing
   pub value : Value
@@ -68,7 +70,8 @@ places_are_slices typing store p s h e =
       same_cells = split-at l.before (cells_of v) l.after (address_of_place typing p) (shape_cell_count s) l.begins (cells-size v s hv) ∙ ap (cells_at_address (address_of_place typing p) (shape_cell_count s)) (sym l.is_split);
     }
 
--- a place is written, and the store keeps its types; `cells` are those of the store then
+-- states that writing a value at a place succeeds, that the store keeps its types, and that its
+-- cells are then `cells`
 pub record WritesPlace (typing : StoreTyping) (store : Store) (p : Place) (new : Value) (cells : List ℤ) : Type 0 where
   pub after : Store
   pub is_written : write_place store p new ≡ Some after
@@ -84,7 +87,7 @@ writing_places_writes_slices typing store p s new h e hn =
       same_cells = l.is_written new ∙ (split-with l.before (cells_of v) (cells_of new) l.after (address_of_place typing p) l.begins (cells-size new s hn ∙ sym (cells-size v s hv)) ∙ ap (cells_after_overwrite (address_of_place typing p) (cells_of new)) (sym l.is_split));
     }
 
--- a value of one cell is read from it, and written to it
+-- a value that has one cell is read from this cell, and replaced by setting this cell
 pub one-read : (store : Store) (v : Value) (write : Value → Store) (a : ℕ) (n : ℤ) → Lies cells_of_store store v write a → cells_of v ≡ n ∷ [] → slice_get (cells_of_store store) a ≡ Some n
 one-read store v write a n l e = grind (arith, common_steps, slice_get, split-get)
 
@@ -109,7 +112,7 @@ truths_are_cells typing store p h e =
       λ c. record { after = write (truth c); is_written = made (truth c); store_fits = fits (truth c) tt; same_cells = one-written store v (truth c) write (address_of_place typing p) (truth_cell b) (truth_cell c) l (ap cells_of eb) refl },
     )
 
--- addresses
+-- the offset of two joined paths is the sum of their offsets
 
 pub shape-append : (path more : List PathStep) (s t u : Shape) → shape_at_path path s ≡ Some t → shape_at_path more t ≡ Some u
     → (shape_at_path (path ++ more) s ≡ Some u) × (path_offset (path ++ more) s ≡ path_offset path s + path_offset more t)
@@ -121,7 +124,7 @@ shape-append (step ∷ path) more s t u e e' =
     let there : unwrap_or (option_map (path_offset (path ++ more)) (shape_at_step s step)) 0 ≡ path_offset (path ++ more) r = ap (λ o. unwrap_or (option_map (path_offset (path ++ more)) o) 0) er in
     (ap (option_and_then (shape_at_path (path ++ more))) er ∙ is, omega (arith, adds, here, there))
 
--- a part of what a place holds has its offset after the place's address
+-- the address of a part of a place is the address of the place plus the part's offset
 pub parts_have_addresses : (typing : StoreTyping) (p : Place) (path : List PathStep) (s t : Shape) → PlaceHasType typing p s → shape_at_path path s ≡ Some t
     → PlaceHasType typing record { variable = p.variable; path = p.path ++ path } t × (address_of_place typing record { variable = p.variable; path = p.path ++ path } ≡ address_of_place typing p + path_offset path s)
 parts_have_addresses typing p path s t fit e =
@@ -136,6 +139,6 @@ taken-stays [] others n s e = absurd (cc)
 taken-stays (t ∷ typing) others zero s e = refl
 taken-stays (t ∷ typing) others (suc n) s e = ap (λ l. t ∷ l) (taken-stays typing others n s e)
 
--- an address stays where later variables are added
+-- an address stays the same when later variables are added
 pub addresses_stay : (typing others : StoreTyping) (p : Place) (s : Shape) → PlaceHasType typing p s → PlaceHasType (typing ++ others) p s × (address_of_place (typing ++ others) p ≡ address_of_place typing p)
 addresses_stay typing others p s fit = grind (arith, common_steps, then_some, slice_get, unwrap_or, option_map, taken-stays, slice_get-grows)

@@ -15,7 +15,8 @@ use Rattle.ob0_run_cells.specs.LoweredExpressions.{OutcomeByMoment, NumberHasOut
 use Rattle.ob0_run_cells.proofs.LoweredOutcomes.{Led}
 use Rattle.ob0_run_cells.proofs.Places.{numbers_are_cells, truths_are_cells}
 
--- an evaluation, and what comes of what it gives
+-- if two evaluations have the same outcome, and continuing with each value gives runs that agree,
+-- then continuing with the outcomes gives runs that agree
 
 pub use-represents : {A B : Type 0} (typing : StoreTyping) (f : A → B) (low : execution.MachineState) (s : State) (o : machine.StepResult A) (w : Outcome B) (k : A → execution.MachineProgress) (j : B → Progress) → MachineStateRepresentsState typing low s → outcome_of f o ≡ w
     → ((a : A) → o ≡ machine.gives a → MachineProgressRepresentsProgress typing (k a) (j (f a))) → MachineProgressRepresentsProgress typing (execution.continue_with_result low o k) (continue_with_result s w j)
@@ -29,14 +30,14 @@ pub choice-represents : (typing : StoreTyping) (low : execution.MachineState) (s
     → MachineProgressRepresentsProgress typing (k low) (i s) → MachineProgressRepresentsProgress typing (l low) (j s) → MachineProgressRepresentsProgress typing (execution.choose_by_truth low o k l) (continue_with_result s w (λ v. choose_by_truth_value s v i j))
 choice-represents typing low s o w k l i j h1 h2 h3 h4 = grind (arith, common_steps)
 
--- what follows in every state
+-- states that two steps from states that represent each other give runs that agree
 abbrev pub Follows : StoreTyping → (execution.MachineState → execution.MachineProgress) → (State → Progress) → Type 0
 Follows typing k j = (low : execution.MachineState) (s : State) → MachineStateRepresentsState typing low s → MachineProgressRepresentsProgress typing (k low) (j s)
 
 pub going-on : (typing : StoreTyping) (p : execution.MachineProgress) (q : Progress) (k : execution.MachineState → execution.MachineProgress) (j : State → Progress) → MachineProgressRepresentsProgress typing p q → Follows typing k j → MachineProgressRepresentsProgress typing (execution.continue_run p k) (continue_if_running q j)
 going-on typing p q k j h1 h2 = grind (arith, common_steps)
 
--- a condition that evaluates to the same in every state
+-- states that two conditions have the same outcome in states that represent each other
 abbrev pub SameConditions : StoreTyping → (execution.MachineState → machine.StepResult Bool) → (State → Outcome Value) → Type 0
 SameConditions typing c d = (low : execution.MachineState) (s : State) → MachineStateRepresentsState typing low s → outcome_of truth (c low) ≡ d s
 
@@ -61,7 +62,7 @@ pub truth_as_cell-same : (b : Bool) → machine.truth_as_cell b ≡ truth_cell b
 truth_as_cell-same true = refl
 truth_as_cell-same false = refl
 
--- what is stored
+-- storing a number or a truth value, reading a number and adding output give runs that agree
 
 pub number-stored : (typing : StoreTyping) (low : execution.MachineState) (s : State) (p : Place) (n : ℤ) → MachineStateRepresentsState typing low s → PlaceHasType typing p integer_shape
     → MachineProgressRepresentsProgress typing (execution.running (execution.store_in_cell low (address_of_place typing p) n)) (store_value_at_place s p (number n))
@@ -97,7 +98,7 @@ number-read typing low s p (n ∷ rest) h fit =
 pub put-represents : (typing : StoreTyping) (low : execution.MachineState) (s : State) (i : execution.OutputItem) → MachineStateRepresentsState typing low s → MachineProgressRepresentsProgress typing (execution.running (execution.append_output low i)) (running (append_output s (printed_item_of i)))
 put-represents typing low s i h = grind (arith, common_steps)
 
--- evaluations at a moment of a body
+-- lowered numbers, truths and places have the outcomes of their evaluations in each state of a body
 
 module _ {N : Type 0} (checked : TypeMeanings N) (slots : N → Slot) (targets : N → Target) (b : BodyContext N) (shown : IsBodyOfModule checked slots targets b) where
   pub number-in : (n : lowered.Number) (w : OutcomeByMoment N Value) → NumberHasOutcome checked slots n w → (low : execution.MachineState) (s : State) → MachineStateRepresentsState b.typing low s

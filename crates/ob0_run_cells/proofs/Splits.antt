@@ -8,7 +8,8 @@ use Rattle.std.proofs.lemmas.List.{append-nil, drop_at, take_at}
 use Rattle.ob0_language_values.specs.Values.{Value}
 use Rattle.ob0_run_cells.specs.Cells.{cells_at_address, cells_of, cells_after_overwrite}
 
--- what is written in a whole is the part `old`, which begins at an address
+-- states that the part `old` has its cells at the index `at` in the cells of `whole`, and that
+-- writing another value in the part replaces only these cells
 pub record Lies {X : Type 0} (cells : X → List ℤ) (whole : X) (old : Value) (write : Value → X) (at : ℕ) : Type 0 where
   pub before : List ℤ
   pub after : List ℤ
@@ -20,7 +21,7 @@ pub grouped : {A : Type 0} (a b c d e : List A) → a ++ ((b ++ (c ++ d)) ++ e) 
 grouped a b c d e =
     ap (λ l. a ++ l) (append_assoc b (c ++ d) e ∙ ap (λ l. b ++ l) (append_assoc c d e)) ∙ sym (append_assoc a b (c ++ (d ++ e)))
 
--- a part of a part
+-- a part of a part lies in the whole, at the sum of both indexes
 pub lies-within : {X : Type 0} (cells : X → List ℤ) (whole : X) (middle old : Value) (outer : Value → X) (inner : Value → Value) (a b : ℕ)
     → Lies cells whole middle outer a → Lies cells_of middle old inner b → Lies cells whole old (λ new. outer (inner new)) (a + b)
 lies-within cells whole middle old outer inner a b h k = record {
@@ -31,7 +32,7 @@ lies-within cells whole middle old outer inner a b h k = record {
   is_written = λ new. h.is_written (inner new) ∙ (ap (λ l. h.before ++ (l ++ h.after)) (k.is_written new) ∙ grouped h.before k.before (cells_of new) k.after h.after);
 }
 
--- after others
+-- a part of the rest lies in the whole, after the cells `first`
 pub lies-following : {X Y : Type 0} (cells : X → List ℤ) (others : Y → List ℤ) (whole : X) (rest : Y) (old : Value) (outer : Value → X) (inner : Value → Y) (first : List ℤ) (a b : ℕ)
     → cells whole ≡ first ++ others rest → ((new : Value) → cells (outer new) ≡ first ++ others (inner new)) → length first ≡ a → Lies others rest old inner b → Lies cells whole old outer (a + b)
 lies-following cells others whole rest old outer inner first a b e each n k = record {
@@ -42,16 +43,16 @@ lies-following cells others whole rest old outer inner first a b e each n k = re
   is_written = λ new. each new ∙ (ap (λ l. first ++ l) (k.is_written new) ∙ sym (append_assoc first k.before (cells_of new ++ k.after)));
 }
 
--- before others
+-- a part that comes first lies in the whole at the index 0
 pub lies-first : {X : Type 0} (cells : X → List ℤ) (whole : X) (old : Value) (write : Value → X) (others : List ℤ)
     → cells whole ≡ cells_of old ++ others → ((new : Value) → cells (write new) ≡ cells_of new ++ others) → Lies cells whole old write 0
 lies-first cells whole old write others e each = record { before = []; after = others; is_split = e; begins = refl; is_written = each }
 
--- the whole is a part
+-- a value lies in itself at the index 0
 pub lies-alone : (v : Value) → Lies cells_of v v (λ new. new) 0
 lies-alone v = record { before = []; after = []; is_split = sym (append-nil (cells_of v)); begins = refl; is_written = λ new. sym (append-nil (cells_of new)) }
 
--- slices of what is split
+-- the slice at the index of a part is the part, and overwriting this slice replaces only the part
 
 pub split-at : (before mine after : List ℤ) (a n : ℕ) → length before ≡ a → length mine ≡ n → mine ≡ cells_at_address a n (before ++ (mine ++ after))
 split-at before mine after a n ea en = sym (ap (take n) (drop_at before (mine ++ after) a ea) ∙ take_at mine after n en)
@@ -63,7 +64,7 @@ split-with before mine new after a ea en =
     let d : drop (a + length new) (before ++ (mine ++ after)) ≡ after = ap (drop (a + length new)) (sym (append_assoc before mine after)) ∙ drop_at (before ++ mine) after (a + length new) l in
     λ i. (sym t) i ++ (new ++ (sym d) i)
 
--- one cell
+-- a part that is one cell is read and set at its index
 
 pub split-get : (before : List ℤ) (n : ℤ) (after : List ℤ) (a : ℕ) → length before ≡ a → slice_get (before ++ ((n ∷ []) ++ after)) a ≡ Some n
 split-get [] n after a e = ap (slice_get (n ∷ after)) (sym e)

@@ -35,13 +35,14 @@ pub cells-append : (a b : Store) → cells_of_store (a ++ b) ≡ cells_of_store 
 cells-append [] b = refl
 cells-append (v ∷ a) b = ap (λ l. cells_of v ++ l) (cells-append a b) ∙ sym (append_assoc (cells_of v) (cells_of_store a) (cells_of_store b))
 
--- a type added is the one at the place of a variable added
+-- a store has as many cells as come before a variable that is added at its end
 pub taken-all : (typing : StoreTyping) (store : Store) (s : Shape) → StoreHasTypes typing store → store_cell_count (take (length store) (typing ++ s ∷ [])) ≡ store_cell_count typing
 taken-all [] [] s h = refl
 taken-all (t ∷ typing) (v ∷ store) s h = ap (λ n. shape_cell_count t + n) (taken-all typing store s h.1)
 taken-all _ _ s h = absurd h
 
--- a store with a variable more, whose cells come after those of all others, from the size of their types on
+-- states that a variable added at the end of a store has its cells after all other cells, and its
+-- address is the number of these cells
 pub record AddsVariable (typing : StoreTyping) (store : Store) (s : Shape) (v : Value) : Type 0 where
   pub store_fits : StoreHasTypes (typing ++ s ∷ []) (store ++ v ∷ [])
   pub cells_added : cells_of_store (store ++ v ∷ []) ≡ cells_of_store store ++ cells_of v
@@ -64,7 +65,8 @@ cut-split (t ∷ typing) others (v ∷ old) (w ∷ new) h k =
     let (rest, e) = cut-split typing others old new h.1 k.1 in (rest, ap (λ l. w ∷ l) e)
 cut-split _ others _ new h k = absurd h
 
--- a store cut back to the variables of an older one has as many cells as that
+-- if a store is cut back to the variables of an older one, its cells are cut back to the number of
+-- the older store's cells
 pub variables_are_dropped : (typing others : StoreTyping) (old new : Store) → StoreHasTypes typing old → StoreHasTypes (typing ++ others) new
     → StoreHasTypes typing (take (length old) new) × (cells_of_store (take (length old) new) ≡ take (length (cells_of_store old)) (cells_of_store new))
 variables_are_dropped typing others old new h k =

@@ -1,4 +1,5 @@
--- Chains: operations in a row, from left to right.
+-- Proves that applying the links of a chain one after another, from left to right, gives the
+-- chain's value.
 use Rattle.std.proofs.Common.{◌≡◌, ℕ, ℤ, List, [], ◌∷◌, drop, refl, sym, ap, ◌∙◌}
 use Rattle.ob0_run_machine.specs.declared.code.ChainLink.{ChainLink}
 use Rattle.ob0_run_machine.specs.declared.code.ChainLink as link
@@ -20,18 +21,19 @@ pub bind_assoc : {A B C : Type 0} (o : StepResult A) (f : A → StepResult B) (g
 bind_assoc (gives a) f g = refl
 bind_assoc (ends e) f g = refl
 
--- what a number becomes by the operations that are left
+-- returns the outcome of applying the remaining links of a chain to a number, from left to right
 abbrev pub continued : Levels → List ℤ → List ChainLink → ℤ → StepResult ℤ
 continued ls cells [] a = gives a
 continued ls cells (l ∷ rest) a = outcome_of_applied_link ls cells l a >>= continued ls cells rest
 
--- a variable is there, so an operation between it and a number ends as the number does
+-- evaluating a variable never ends the run, so an operation on it and a number ends the run if the
+-- number does, or if the operation on both values does
 after_variable : (ls : Levels) (cells : List ℤ) (o : lowered.Operator) (v : Variable) (right : lowered.Number)
     → number_value ls cells (lowered.operation o (lowered.cell (variable_of v)) right) ≡ (number_value ls cells right >>= (λ b. number_value ls cells (lowered.operation o (lowered.cell (variable_of v)) (lowered.literal b))))
 after_variable ls cells o (variable.InModule offset) right = refl
 after_variable ls cells o _ right = refl
 
--- an operation on a number is that on its value
+-- an operation on a number has the same outcome as the operation on the number's value
 pub applied_to : (ls : Levels) (cells : List ℤ) (left : lowered.Number) (l : ChainLink) → number_value ls cells (operation_with_link l left) ≡ (number_value ls cells left >>= outcome_of_applied_link ls cells l)
 applied_to ls cells left (link.SumWithLeftVariable v) = after_variable ls cells lowered.sum v left
 applied_to ls cells left (link.DifferenceWithLeftVariable v) = after_variable ls cells lowered.difference v left
@@ -44,7 +46,8 @@ chained ls cells left (l ∷ rest) = chained ls cells (operation_with_link l lef
     ∙ ap (λ o. o >>= continued ls cells rest) (applied_to ls cells left l)
     ∙ bind_assoc (number_value ls cells left) (outcome_of_applied_link ls cells l) (continued ls cells rest)
 
--- what was operated so far, with what is left, is the whole
+-- states that applying the links after the first `done` links to the result so far gives the
+-- outcome `whole` of the chain
 pub record Continuing (ls : Levels) (cells : List ℤ) (whole : StepResult ℤ) (links : List ChainLink) (done : ℕ) (left : ℤ) : Type 0 where
   pub so_far : whole ≡ continued ls cells (drop done links) left
 

@@ -1,4 +1,5 @@
--- Steps of statements: what is left of a statement, from one step of the machine to the next.
+-- Proves the effects of the machine's steps, and what remains of a statement to be executed after
+-- each step.
 use Rattle.std.proofs.Common.{◌≡◌, ℕ, zero, suc, arith, Bool, true, false, ℤ, ◌+◌, ◌-◌, ◌<◌, ◌≤◌, ◌≢◌, List, [], ◌∷◌, ◌++◌, map, length, get_or, drop, refl, sym, ap, ◌∙◌, subst, Ok, Err, None, Option, Some, Result}
 use Rattle.std.specs.Prelude.{option_map}
 use Rattle.std.proofs.lemmas.List.{drop_all, drop_more}
@@ -33,27 +34,30 @@ stopped_then None m p k h = h
 failed_then : (e : StopReason) (m : Machine) (p : MachineProgress) (k : MachineState → MachineProgress) → IsProgressAfterStep (Err e) m p → IsProgressAfterStep (Err e) m (continue_run p k)
 failed_then e = stopped_then (end_of_stop_reason e)
 
--- the exit of a `?`
+-- if a step with the error `e` has an effect, a step in which `?` returns this error has the same
+-- effect
 pub leaving : {post : CallPostcondition} {r : Result (Unit {0}) StopReason} {e : StopReason} {m m' : Machine} {f : CodeEffect} → (y : StopReason) × (r ≡ Err y) × (y ≡ e) → StepHasEffect post (Err e) m m' f → StepHasEffect post r m m' f
 leaving {post = post} {r = r} {m = m} {m' = m'} {f = f} q h = subst (λ r. StepHasEffect post r m m' f) (sym q.1) (subst (λ y. StepHasEffect post (Err y) m m' f) (sym q.2) h)
 
--- what is done ends the run so
+-- states that the effect `f` ends the run with the fault `e` and the output of the machine `m'`
 abbrev pub EndsRun : CallPostcondition → EvaluationFault → Machine → Machine → CodeEffect → Type 0
 EndsRun post e m m' f = (enters : CallEffect) → CallsHaveEffect post enters → f enters (state_of m) ≡ stopped (end_of e) (output_items m'.output.items)
 
--- the exit of a `?` at what ends the run
+-- if an effect ends the run with a fault, a step in which `?` returns the stop reason of this fault
+-- has this effect
 pub ending_by : {post : CallPostcondition} {r : Result (Unit {0}) StopReason} {m m' : Machine} {f : CodeEffect} (e : EvaluationFault) → (y : StopReason) × (r ≡ Err y) × (end_of_stop_reason y ≡ Some (end_of e))
     → EndsRun post e m m' f → StepHasEffect post r m m' f
 ending_by {m = m} {m' = m'} {f = f} e q h = leaving (q.0, q.1, refl) record { has_effect = λ enters p. subst (λ o. StopsRun o m' (f enters (state_of m))) (sym q.2) (h enters p) }
 
--- a truth that is known
+-- an evaluation that gives a truth value also gives any truth value equal to it
 pub settled : {a b : Bool} {o : StepResult Bool} → gives a ≡ o → a ≡ b → gives b ≡ o
 settled h e = sym (ap gives e) ∙ h
 
 pub does_statement : {post : CallPostcondition} {r : Result (Unit {0}) StopReason} {m m' : Machine} (t : ℕ) (ls : Levels) {a b : lowered.Instruction} → a ≡ b → StepHasEffect post r m m' (statement_effect t ls a) → StepHasEffect post r m m' (statement_effect t ls b)
 does_statement {post = post} {r = r} {m = m} {m' = m'} t ls e h = subst (λ a. StepHasEffect post r m m' (statement_effect t ls a)) e h
 
--- a statement that allocates nothing, with no call and no loop
+-- a step that runs a statement without calls and loops (`StepRunsStatement`) has the statement's
+-- effect
 
 stopped_is : (o : Option MachineEnd) (m : Machine) (p : MachineProgress) → option_map (λ e. stopped e (output_items m.output.items)) o ≡ Some p → StopsRun o m p
 stopped_is (Some x) m p h = sym (same_Some (stopped x (output_items m.output.items)) p h)
@@ -66,9 +70,10 @@ progress_is (Err s) m p h = stopped_is (end_of_stop_reason s) m p h
 pub step_is : {post : CallPostcondition} {r : Result (Unit {0}) StopReason} {m m' : Machine} (t : ℕ) (ls : Levels) {a b : lowered.Instruction} → a ≡ b → StepRunsStatement r m m' ls a → StepHasEffect post r m m' (statement_effect t ls b)
 step_is {r = r} {m' = m'} t ls e h = does_statement t ls e record { has_effect = λ enters p. progress_is r m' _ (h enters t) }
 
--- sequences
+-- a sequence is executed statement by statement
 
--- what was executed so far, with what is left, is the whole
+-- states that executing the statements after the first `k` in the state `now` gives the progress of
+-- the whole sequence from `start`
 pub record InSequence (post : CallPostcondition) (start now : Machine) (t : ℕ) (ls : Levels) (xs : List Instruction) (k : ℕ) : Type 0 where
   pub so_far : (enters : CallEffect) → CallsHaveEffect post enters → execute_sequence enters t ls (sequence_of xs) (state_of start) ≡ execute_sequence enters t ls (sequence_of (drop k xs)) (state_of now)
 
@@ -102,7 +107,7 @@ sequence_fails {now = now} {m = m} {t = t} {ls = ls} {xs = xs} {k = k} e x c les
 pub sequence_ends : {post : CallPostcondition} {start now : Machine} {t : ℕ} {ls : Levels} {xs : List Instruction} {k : ℕ} (u : Unit {0}) → InSequence post start now t ls xs k → length xs ≤ k → StepHasEffect post (Ok u) start now (sequence_effect t ls (sequence_of xs))
 sequence_ends {now = now} {t = t} {ls = ls} {xs = xs} {k = k} u c all = record { has_effect = λ enters p. c.so_far enters p ∙ execute-last enters t ls xs k (state_of now) all }
 
--- branches
+-- the branches of an IF are executed one after another, until a condition is TRUE
 
 abbrev pub from_branches : CallEffect → ℕ → Levels → Conditional → List Branch → MachineState → MachineProgress
 from_branches enters t ls i bs = execute_branches enters t ls (branches_of_list bs) (execute_sequence enters t ls (else_statements i))
@@ -151,7 +156,7 @@ branches_end {now = now} {m = m} {t = t} {ls = ls} {i = i} {xs = xs} {k = k} r s
       subst (IsProgressAfterStep r m) (sym (c.so_far enters p ∙ branch-last enters t ls i xs k (state_of now) all ∙ ap (λ ss. execute_sequence enters t ls (sequence_of ss) (state_of now)) (sym same))) (d.has_effect enters p);
 }
 
--- IF: its first condition
+-- an IF is executed according to the value of its first condition
 
 abbrev if_chosen : CallEffect → ℕ → Levels → Conditional → MachineState → StepResult Bool → MachineProgress
 if_chosen enters t ls i s o = choose_by_truth s o (execute_sequence enters t ls (sequence_of (out-Conditional i).body.items)) (elsifs_effect t ls (elsif_branches i) (else_statements i) enters)
@@ -173,7 +178,7 @@ pub if_passed : {post : CallPostcondition} {m m' : Machine} (t : ℕ) (ls : Leve
     → StepHasEffect post r m m' (elsifs_effect t ls (elsif_branches i) (else_statements i)) → StepHasEffect post r m m' (statement_effect t ls (conditional_of i))
 if_passed {m = m} {m' = m'} t ls i r h d = record { has_effect = λ enters p. subst (IsProgressAfterStep r m') (sym (if-goes enters t ls i (state_of m) (gives false) h)) (d.has_effect enters p) }
 
--- WHILE
+-- a WHILE is executed iteration by iteration
 
 abbrev pub turning : CallEffect → ℕ → ℕ → Levels → lowered.Truth → List Instruction → MachineState → MachineProgress
 turning enters left t ls w xs = execute_while left (λ s'. truth_value ls s'.cells w) (execute_sequence enters t ls (sequence_of xs))
@@ -185,7 +190,8 @@ pub while_begins : {post : CallPostcondition} {start : Machine} {t : ℕ} {ls : 
 unfolding execute
 while_begins = record { so_far = λ enters p. refl }
 
--- a turn more, or the bound
+-- executes one more iteration of a WHILE and then continues it; ends the run with TurnBound if no
+-- iteration is left
 pub once_more : CallEffect → ℕ → ℕ → Levels → lowered.Truth → List Instruction → MachineState → MachineProgress
 once_more enters zero t ls w xs s = stopped TurnBound s.output
 once_more enters (suc left) t ls w xs s = continue_run (execute_sequence enters t ls (sequence_of xs) s) (turning enters left t ls w xs)
@@ -239,7 +245,7 @@ while_body_fails {now = now} {m = m} {t = t} {ls = ls} {w = w} {xs = xs} {left =
       (failed_then x m (execute_sequence enters t ls (sequence_of ss) (state_of now)) (turning enters (left - 1) t ls w xs) (d.has_effect enters p));
 }
 
--- the statements of a counting loop: some, and one after them
+-- the statements of a counting loop are executed as a list of statements and one statement after it
 
 continued_running : (p : MachineProgress) (f : MachineState → MachineProgress) → ((s : MachineState) → f s ≡ running s) → continue_run p f ≡ p
 continued_running (running s) f h = h s
@@ -257,13 +263,13 @@ unfolding execute
 all-after enters t ls [] x s = continued_running (execute enters t ls (statement_of x) s) _ (λ s. refl)
 all-after enters t ls (y ∷ ys) x s = continued_twice (execute enters t ls (statement_of y) s) _ _ (execute enters t ls (statement_of x)) (all-after enters t ls ys x)
 
--- a list of a single IF without ELSIF parts
+-- executing a list that contains only an IF is executing this IF
 
 alone : (enters : CallEffect) (t : ℕ) (ls : Levels) (i : Conditional) (x : Instruction) (xs : List Instruction) (s : MachineState) → xs ≡ x ∷ [] → statement_of x ≡ conditional_of i → execute_sequence enters t ls (sequence_of xs) s ≡ execute enters t ls (conditional_of i) s
 unfolding execute
 alone enters t ls i x xs s only made = ap (λ xs. execute_sequence enters t ls (sequence_of xs) s) only ∙ continued_running (execute enters t ls (statement_of x) s) _ (λ s. refl) ∙ ap (λ a. execute enters t ls a s) made
 
--- the only item of a list
+-- a list with exactly one item consists of its item at the index 0
 pub only_item : (xs : List Instruction) (x : Instruction) → length xs < 2 → 0 < length xs → x ≡ get_or xs 0 x → xs ≡ x ∷ []
 only_item [] x few some is = absurd (omega (arith, some))
 only_item (y ∷ []) x few some is = ap (λ z. z ∷ []) (sym is)
@@ -283,7 +289,8 @@ pub only_if_passed : {xs : List Instruction} (m : Machine) (ls : Levels) (i : Co
 only_if_passed m ls i x ss only made h none same enters t = alone enters t ls i x _ (state_of m) only made ∙ if-goes enters t ls i (state_of m) (gives false) h
     ∙ branch-last enters t ls i (out-Conditional i).others.items 0 (state_of m) none ∙ ap (λ ss. execute_sequence enters t ls (sequence_of ss) (state_of m)) (sym same)
 
--- the statements that stand for a body run in its place
+-- if two lists of statements have the same effect, a step with the effect of one has the effect of
+-- the other
 pub does_chosen : {post : CallPostcondition} {r : Result (Unit {0}) StopReason} {m m' : Machine} (t : ℕ) (ls : Levels) (xs ss : List Instruction) → ((enters : CallEffect) (t : ℕ) → sequence_effect t ls (sequence_of xs) enters (state_of m) ≡ sequence_effect t ls (sequence_of ss) enters (state_of m))
     → StepHasEffect post r m m' (sequence_effect t ls (sequence_of ss)) → StepHasEffect post r m m' (sequence_effect t ls (sequence_of xs))
 does_chosen {r = r} {m' = m'} t ls xs ss h d = record { has_effect = λ enters p. subst (IsProgressAfterStep r m') (sym (h enters t)) (d.has_effect enters p) }
@@ -311,13 +318,14 @@ pub loop_as : {post : CallPostcondition} {r : Result (Unit {0}) StopReason} {m m
 loop_as {post = post} {r = r} {m = m} {m' = m'} t ls w u xs e h =
     subst (λ b. StepHasEffect post r m m' (statement_effect t ls (lowered.while_loop w (sequence_of (xs ++ Increase u b ∷ []))))) e h
 
--- Compares a variable at a known address with an expression of a known value.
+-- If a variable's address and an expression's value are known, comparing the cell at this address
+-- with this value gives the value of the comparison `<`.
 pub compared_at : (ls : Levels) (cells : List ℤ) (v : Variable) (a : ℕ) (n : lowered.Number) (x : ℤ) (b : Bool) → place_address ls cells (variable_of v) ≡ gives a → number_value ls cells n ≡ gives x → b ≡ compare lowered.less (cell_at cells a) x → gives b ≡ truth_value ls cells (variable_comparison relation.Less v n)
 compared_at ls cells v a n x b h k e =
     ap gives e ∙ ap (λ o. o >>= (λ y. gives (compare lowered.less (cell_at cells a) y))) (sym k)
     ∙ ap (λ o. (o >>= (λ a. gives (cell_at cells a))) >>= (λ z. number_value ls cells n >>= (λ y. gives (compare lowered.less z y)))) (sym h)
 
--- REPEAT
+-- a REPEAT is executed iteration by iteration
 
 abbrev pub turning_until : CallEffect → ℕ → ℕ → Levels → RepeatLoop → MachineState → MachineProgress
 turning_until enters left t ls r = execute_repeat left (λ s'. truth_value ls s'.cells (truth_of r.condition)) (execute_sequence enters t ls (sequence_of r.body.items))
@@ -333,7 +341,7 @@ pub again : CallEffect → ℕ → ℕ → Levels → RepeatLoop → MachineStat
 again enters zero t ls r s = stopped TurnBound s.output
 again enters (suc left) t ls r s = turning_until enters left t ls r s
 
--- after a turn
+-- continues a REPEAT after an iteration: evaluates its condition, and ends or repeats the loop
 abbrev pub turned : CallEffect → ℕ → ℕ → Levels → RepeatLoop → MachineState → MachineProgress
 turned enters left t ls r s = choose_by_truth s (truth_value ls s.cells (truth_of r.condition)) running (again enters left t ls r)
 
@@ -359,7 +367,8 @@ repeat_body_fails {now = now} {m = m} {t = t} {ls = ls} {r = r} {left = left} x 
       (failed_then x m (execute_sequence enters t ls (sequence_of ss) (state_of now)) (turned enters left t ls r) (d.has_effect enters p));
 }
 
--- a turn was made
+-- states that evaluating the condition and continuing the REPEAT in the state `now` gives the
+-- progress of the whole loop from `start`
 pub record Turned (post : CallPostcondition) (start now : Machine) (t : ℕ) (ls : Levels) (r : RepeatLoop) (left : ℕ) : Type 0 where
   pub so_far : (enters : CallEffect) → CallsHaveEffect post enters → execute enters t ls (repeat_of r) (state_of start) ≡ turned enters left t ls r (state_of now)
 
@@ -390,7 +399,7 @@ pub repeat_on : {post : CallPostcondition} {start now : Machine} {t : ℕ} {ls :
     → InRepeat post start now t ls r (left - 1)
 repeat_on {now = now} {t = t} {ls = ls} {r = r} {left = left} c h e = record { so_far = λ enters p. turned-chosen (gives false) c h enters p ∙ again-more enters left t ls r (state_of now) e }
 
--- calls
+-- a call passes its arguments and then enters its procedure
 
 pub call-goes : (t : ℕ) (ls : Levels) (c : call.ProcedureCall) (enters : CallEffect) (s : MachineState)
     → statement_effect t ls (call_of c) enters s ≡ continue_with_result s (pass_arguments ls s.cells (map argument_of c.arguments.items) (passed_arguments s.cells [])) (λ p. enters c.procedure (levels_in_call ls (length s.cells) c.up p) record s { cells = p.cells })
@@ -430,7 +439,8 @@ pub enters_as : {post : CallPostcondition} {m m' : Machine} {r : Result (Unit {0
     → ((enters : CallEffect) → CallsHaveEffect post enters → IsProgressAfterStep r m' (enters k inner (state_of m))) → StepHasEffect post r m m' (procedure_entry_effect k up ls base addresses)
 enters_as {m = m} {m' = m'} {r = r} k up base addresses ls inner seen done = record { has_effect = λ enters p. subst (λ seen. IsProgressAfterStep r m' (enters k seen (state_of m))) seen (done enters p) }
 
--- the levels of an activation that is made
+-- the levels of a new activation are the activation itself and the levels of the one that encloses
+-- it
 following : (o : _) → enclosing_levels (level.back-Level-enclosing o) ≡ levels_of_option o
 following None = refl
 following (Some l) = refl

@@ -1,4 +1,4 @@
--- Exits by `?`.
+-- Proves that an evaluation in which `?` returns a fault has the outcome of this fault.
 use Rattle.std.proofs.Common.{◌≡◌, ap, ◌∙◌, Err, Result}
 use Rattle.ob0_run_machine.specs.declared.stop_reasons.EvaluationFault.{EvaluationFault}
 use Rattle.ob0_run_machine.specs.StepOutcomes.{end_of, outcome_of_result}

@@ -1,4 +1,5 @@
--- Calls: the body of a procedure runs, and its cells are dropped.
+-- Proves the effects of calls, in which the body of a procedure runs and its cells are dropped, and
+-- of whole runs.
 use Rattle.std.proofs.Common.{◌≡◌, ◌≢◌, ℕ, zero, suc, arith, ◌+◌, ◌-◌, ◌<◌, ◌^◌, true, nat_lt, if◌then◌else◌, length, length-append, ℤ, pos, refl, sym, ap, ◌∙◌, subst, Ok, Err, List, [], ◌++◌, take, Option, None, Some, Result, IsErr}
 use Rattle.std.proofs.lemmas.List.{length-replicate}
 use Rattle.std.proofs.lemmas.Bool.{lt-ltb}
@@ -54,12 +55,13 @@ module _ (m m₂ : Machine) (program : LoweredCode) (c t k : ℕ) (l : level.Lev
   pub call_returns : (m₃ : Machine) (u v : Unit {0}) → StepHasEffect post (Ok u) m m₂ (activation_effect o t (levels_of l)) → state_of m₃ ≡ record (state_of m₂) { cells = take (innermost_level (levels_of l)).base m₂.cells.items } → IsProgressAfterCall (Ok v) m m₃ program c t k l
   call_returns m₃ u v d cut = goes ∙ ap (drop_variables (innermost_level (levels_of l)).base) (d.has_effect _ performs) ∙ ap running (sym cut)
 
--- the body
+-- the activation of a procedure adds its cells and runs its body; if there is no procedure, nothing
+-- happens
 pub activates_none : {post : CallPostcondition} {m : Machine} {o : Option Routine} (u : Unit {0}) (t : ℕ) (ls : Levels) → o ≡ None → StepHasEffect post (Ok u) m m (activation_effect o t ls)
 unfolding run_routine
 activates_none {m = m} u t ls e = record { has_effect = λ enters p. ap (λ o. run_routine enters t ls o (state_of m)) e }
 
--- existing cells have room
+-- if `n` cells were added to a list and its length is below 2^64, there was room for them
 pub has_room : (cells more : List ℤ) (n : ℕ) → more ≡ cells ++ zeros n → length more < 2 ^ 64 → nat_lt (length cells + n) (2 ^ 64) ≡ true
 has_room cells more n same few =
     let long : length more ≡ length cells + n = ap length same ∙ (length-append cells (zeros n) ∙ ap (λ k. length cells + k) (length-replicate n (pos 0))) in
@@ -82,14 +84,16 @@ activates {r = r} {m = m} {m₂ = m₂} {m' = m'} {o = o} t ls p e grown few mor
 pub leaving_steps : (r : Result (Unit {0}) StopReason) (e : StopReason) (m : Machine) (p : MachineProgress) → (y : StopReason) × (r ≡ Err y) × (y ≡ e) → IsProgressAfterStep (Err e) m p → IsProgressAfterStep r m p
 leaving_steps r e m p q h = subst (λ r. IsProgressAfterStep r m p) (sym q.1) (subst (λ y. IsProgressAfterStep (Err y) m p) (sym q.2) h)
 
--- the statements of a program
+-- if a step has the effect of a program's statements, its result is the progress after the
+-- program's body
 pub block_runs : (m m' : Machine) (program : LoweredCode) (c t : ℕ) (r : Result (Unit {0}) StopReason) (post : CallPostcondition) (inner : Levels) (xs : List Instruction) → CallsHaveEffect post (call (program_of program).procedures c t)
     → inner ≡ module_levels → xs ≡ program.body.items → StepHasEffect post r m m' (sequence_effect t inner (sequence_of xs)) → IsProgressAfterStep r m' (progress_after_body (program_of program) c t (state_of m))
 block_runs m m' program c t r post inner xs performs seen same d =
     subst (λ xs. IsProgressAfterStep r m' (sequence_effect t module_levels (sequence_of xs) (call (program_of program).procedures c t) (state_of m))) same
     (subst (λ inner. IsProgressAfterStep r m' (sequence_effect t inner (sequence_of xs) (call (program_of program).procedures c t) (state_of m))) seen (d.has_effect _ performs))
 
--- whole runs
+-- the run of a program has the output and the end of its body's progress; `state_with` returns the
+-- state with these cells, this input and this output
 abbrev pub state_with : List ℤ → List ℤ → List OutputItem → MachineState
 state_with cells input output = record { cells = cells; input = input; output = output }
 

@@ -1,4 +1,5 @@
--- Many truths in a row, between which `&` or `OR` is, from left to right.
+-- Proves that a list of truths joined by `&` or by OR, evaluated from left to right, has the value
+-- of the conjunction or disjunction.
 use Rattle.std.proofs.Common.{◌≡◌, ℕ, ℤ, Bool, true, false, List, [], ◌∷◌, drop, refl, sym, ap, ◌∙◌, if◌then◌else◌}
 use Rattle.ob0_run_machine.specs.declared.code.TruthList.{out-TruthList}
 use Rattle.ob0_run_machine.specs.declared.code.Truth.{Truth, All, Any, Row_of-Truth, end_of-Truth, more_of-Truth, items-the_row-Truth, items_hidden-the_row-Truth-0}
@@ -8,7 +9,7 @@ use Rattle.ob0_run_machine.specs.LoweredSyntax as lowered
 use Rattle.ob0_run_machine.specs.LoweredCodeViews.{conjunction_with_list, conjunction_of, conjunction_with_row, disjunction_with_list, disjunction_of, disjunction_with_row, truth_of}
 use Rattle.ob0_run_machine.proofs.Chains.{bind_assoc, bind_gives}
 
--- what a truth becomes by one more
+-- the type of a function that joins a truth value with the outcome of one more truth
 abbrev pub Joining : Type 0
 Joining = Bool → StepResult Bool → StepResult Bool
 
@@ -18,7 +19,7 @@ with_and a o = if a then o else gives false
 abbrev pub with_or : Joining
 with_or a o = if a then gives true else o
 
--- what a truth becomes by those that are left
+-- returns the outcome of joining a truth value with the remaining truths, from left to right
 abbrev pub joined : Joining → Levels → List ℤ → List Truth → Bool → StepResult Bool
 joined join ls cells [] a = gives a
 joined join ls cells (t ∷ ts) a = join a (truth_value ls cells (truth_of t)) >>= joined join ls cells ts
@@ -33,7 +34,8 @@ any_joined ls cells left [] = sym (bind_gives (truth_value ls cells left))
 any_joined ls cells left (t ∷ ts) = any_joined ls cells (lowered.either left (truth_of t)) ts
     ∙ bind_assoc (truth_value ls cells left) (λ a. with_or a (truth_value ls cells (truth_of t))) (joined with_or ls cells ts)
 
--- what was joined so far, with what is left, is the whole
+-- states that joining the result so far with the truths after the first `done` gives the outcome
+-- `whole` of the list
 pub record Joined (join : Joining) (ls : Levels) (cells : List ℤ) (whole : StepResult Bool) (ts : List Truth) (done : ℕ) (left : Bool) : Type 0 where
   pub so_far : whole ≡ joined join ls cells (drop done ts) left
 

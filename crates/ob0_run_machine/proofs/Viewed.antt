@@ -1,4 +1,4 @@
--- The lowered code of what the code makes, part by part.
+-- Proves which lowered code an `If`, a `While` and a `Repeat` are converted to, given their parts.
 use Rattle.std.proofs.Common.{◌≡◌, refl, sym, ◌∙◌, ap}
 use Rattle.ob0_run_machine.specs.declared.code.Instruction.{If, While, Repeat, Row_of-Instruction, end_of-Instruction, more_of-Instruction, items-the_row-Instruction, items_hidden-the_row-Instruction-0}
 use Rattle.ob0_run_machine.specs.declared.code.Instruction.TheBlock.{hidden-the_row-Instruction-0, items_shown-the_row-Instruction-0, hidden-the_row-Branch-1}
