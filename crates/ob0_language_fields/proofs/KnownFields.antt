@@ -38,7 +38,8 @@ element-integer : (s j u : Shape) → element_type s j ≡ Some u → element_ty
 element-integer (array_shape k n s) integer_shape u h = h
 element-integer _ _ u h = absurd (cc)
 
--- A name selects a field `x` of a record type. The property `D` holds for this record's ordinal and `x`.
+-- States that `s` is a record type with a field `x`, and that `D` holds for the record's ordinal
+-- and `x`.
 pub record Selection (D : ℕ → Name → Type 0) (s : Option Shape) (x : Name) : Type 0 where
   pub ordinal : ℕ
   pub declared : FieldShapes
@@ -47,14 +48,15 @@ pub record Selection (D : ℕ → Name → Type 0) (s : Option Shape) (x : Name)
   pub typed : named_field_shape declared x ≡ Some found
   pub known : D ordinal x
 
--- the property of a used name: `D` holds if it is a field
+-- states that `D` holds for the field that a name declares or selects; holds for a name that is no
+-- field
 abbrev pub KnownName : (ℕ → Name → Type 0) → UsedName Name → Type 0
 KnownName D (x, no_field) = Unit {0}
 KnownName D (x, declares_field k) = D k x
 KnownName D (x, selects_field s) = Selection D s x
 
 module _ (D : ℕ → Name → Type 0) where
-  -- The property holds for each field of a type.
+  -- States that `D` holds for each field of a type.
   abbrev mutual
     pub KnownShape : Shape → Type 0
     KnownShape integer_shape = Unit {0}
@@ -131,7 +133,7 @@ module _ (D : ℕ → Name → Type 0) where
   type-known (Some (a_procedure t)) s known h = absurd (cc)
   type-known (Some (a_standard_procedure t)) s known h = absurd (cc)
 
-  -- Names that are no fields have the property.
+  -- `KnownName` holds for each name that is no field.
   plain-listed : {N : Type 0} (f : N → Name) (xs : List (Role × N)) → KnownNames (map (beside_role (λ x. (f x, no_field))) xs)
   plain-listed f [] = tt
   plain-listed f (x ∷ xs) = (tt, plain-listed f xs)
@@ -139,7 +141,8 @@ module _ (D : ℕ → Name → Type 0) where
   plain-known : {s : Sort} (r : Role) (t : Tree Name s) → KnownNames (identifiers r (mark_all_names no_field t))
   plain-known r t = subst KnownNames (sym (identifiers-mapped_tree (λ x. (x, no_field)) (λ n. n) r t)) (plain-listed (λ x. x) (identifiers r t))
 
-  -- The fields that statements select have the property if the types of the names in them have it.
+  -- `D` holds for the fields that statements select if it holds for the fields in the types of all
+  -- names.
   module _ (objects : Name → Option (Object Shape Signature)) (known : KnownObjects objects) where
     abbrev selects : {s : Sort} → Option Shape → Tree Name s → List (Role × UsedName Name)
     selects o t = used_names (mark_selected_fields (named objects) o t)
@@ -279,7 +282,8 @@ module _ (D : ℕ → Name → Type 0) where
       else-known none h = tt
       else-known (one (else_branch statements)) h = sequence-known statements h
 
-  -- A type has the property if it is denoted by a written type whose declared fields have it.
+  -- `D` holds for the fields of a denoted type if it holds for the fields that the written type
+  -- declares.
 
   further-listed : (r : Role) (k : ℕ) (xs : Tree Name (items name_after_comma)) (s : Shape) (rest : FieldShapes) → KnownNames (identifiers r (mark_all_names (declares_field k) xs)) → KnownShape s → KnownFields k rest → KnownFields k (prepend_fields (map (λ x. x) (names_after_first xs)) s rest)
   further-listed r k end s rest h hs hr = hr
@@ -479,7 +483,8 @@ module _ (D : ℕ → Name → Type 0) where
         let has : KnownEnvironment inside = bind_parameters-known qs (bind_procedure x qs env) (formals-known env k fs qs h r₁.0 typed) (tt, h) in
         (tt, join F _ r₁.0 (join (used_names (mark_block marking_by_environment inside j b)) _ (block-known inside j b has r₂.0 e) (tt, tt)))
 
-  -- In a well-typed module the property holds for each field if it holds for the declared ones.
+  -- If `D` holds for each field that a well-typed module declares, it also holds for each field
+  -- that the module selects.
   pub module-known : (m : Tree Name module_text) → KnownNames (used_names (mark_module marking_declarations tt m)) → passes_type_check naming_by_spelling m ≡ true → KnownNames (used_names (marked_module m))
   unfolding passes_type_check
   module-known (forms_module x b closing) r e =

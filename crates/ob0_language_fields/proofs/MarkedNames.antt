@@ -154,7 +154,7 @@ without_marks t = mapped_tree (λ x. x.0) (λ n. n) t
 pub plain_without_marks : {N : Type 0} {s : Sort} (u : NameUse) (t : Tree N s) → without_marks (mark_all_names u t) ≡ t
 plain_without_marks u t = mapped_twice (λ x. x.0) (λ x. x.0) (λ n. n) (λ x. (x, u)) (λ x. (x, u)) (λ n. n) t ∙ map_names-id t
 
--- Renaming fields leaves a tree unchanged if it has none.
+-- Renaming fields leaves a tree unchanged if each of its names is marked as no field.
 pub plain_renamed : {s : Sort} (l : FieldRenaming) (t : Tree Name s) → rename_marked_fields l (mark_all_names no_field t) ≡ t
 plain_renamed l t = mapped_twice (rename_used_name l) (rename_used_name l) (λ n. n) (λ x. (x, no_field)) (λ x. (x, no_field)) (λ n. n) t ∙ map_names-id t
 
@@ -223,7 +223,7 @@ module _ {N E : Type 0} (marking : BodyMarking N E) (bodies : (e : E) (t : Tree 
   pub module_without_marks : (e : E) (m : Tree N module_text) → without_marks (mark_module marking e m) ≡ m
   module_without_marks e (forms_module x b closing) = λ i. forms_module x (block_without_marks e 0 b i) closing
 
--- the renaming that gives each field its present name, which changes no module
+-- the renaming that keeps the name of each field, so it changes no module
 abbrev pub bare : FieldRenaming
 bare owner x = x
 

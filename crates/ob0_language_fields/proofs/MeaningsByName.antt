@@ -1,5 +1,5 @@
--- The meanings that a function from names to objects gives, and the object that a name means in an
--- environment.
+-- Defines the meanings that a function from names to objects gives, and the object that a name
+-- means in an environment.
 use Rattle.std.specs.Prelude.{Option}
 use Rattle.ob0_language_names.specs.Names.{Name, naming_by_spelling}
 use Rattle.ob0_language_types.specs.Environments.{suffix_from_newest_binding, newest_object}

@@ -26,7 +26,7 @@ pub data NameUse : Type 0 where
 abbrev pub UsedName : Type 0 → Type 0
 UsedName N = N × NameUse
 
--- returns the tree with the use `u` of each name
+-- returns the tree in which each name is marked with the use `u`
 abbrev pub mark_all_names : {N : Type 0} {s : Sort} → NameUse → Tree N s → Tree (UsedName N) s
 mark_all_names u t = mapped_tree (λ x. (x, u)) (λ n. n) t
 
@@ -256,6 +256,6 @@ marking_by_meanings m = same_marking (λ t. mark_selected_fields m None t)
 abbrev pub marking_declarations : {N : Type 0} → BodyMarking N (Unit {0})
 marking_declarations = same_marking (λ t. mark_all_names no_field t)
 
--- returns a module with the use of each name
+-- returns the module in which each name is marked with its use
 abbrev pub marked_module : Tree Name module_text → Tree (UsedName Name) module_text
 marked_module m = mark_module marking_by_environment (outermost_environment naming_by_spelling) m

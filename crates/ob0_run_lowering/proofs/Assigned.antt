@@ -1,4 +1,4 @@
--- Assignments of what an expression is lowered to.
+-- Proves that assignments of numbers, truths, arrays and records are lowered to correct code.
 use Rattle.std.proofs.Common.{◌≡◌, ℕ, true, Some, sym, subst}
 use Rattle.ob0_tree.specs.Tree.{Tree, assigns, expression, items, selector}
 use Rattle.ob0_tree.specs.View.{expression_of}
@@ -47,7 +47,8 @@ module _ (checked : TypeMeanings Label) (slots : Label → Slot) (targets : Labe
   nothing c integer_shape h = absurd h
   nothing c _ h = absurd h
 
--- where an assignment fits, both sides have one type
+-- the code of an assignment is correct, because both sides of a well-typed assignment have the same
+-- type
 module _ (scene : Scene) (x : ℕ) (path : Tree ℕ (items selector)) (e : Expression) (l : TypedPlace) where
   abbrev target : Label
   target = label_at_token scene.resolved.now x

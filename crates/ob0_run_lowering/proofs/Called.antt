@@ -1,4 +1,4 @@
--- Calls, by what their names mean, and their arguments.
+-- Proves that calls and their arguments are lowered to correct code.
 use Rattle.std.proofs.Common.{◌≡◌, ℕ, ◌+◌, ◌<◌, min, true, false, List, [], ◌∷◌, ◌++◌, length, get_or, drop, map, slice_get, Some, None, Option, refl, sym, ap, ◌∙◌, subst, append-nil, length-drop, arith}
 use Rattle.std.proofs.lemmas.List.{drop_more}
 use Rattle.std.specs.declared.alloc.Global.{Global}
@@ -34,13 +34,14 @@ use Rattle.ob0_run_lowering.specs.declared.lowered_expression.TypedPlace.{TypedP
 use Rattle.ob0_run_lowering.specs.declared.scene.Scene.{Scene}
 use Rattle.ob0_run_lowering.specs.LoweredBodies.{LowersArguments, LowersStatement, arguments_or_empty_list}
 
--- what is called means something
+-- the name of a well-typed call means an object
 found : (checked : TypeMeanings Label) (x : Label) (es : List (Tree Label expression)) (o : Option (Object Shape Signature)) → checked.object_for x ≡ o → call_is_well_typed checked (signature_of o) es ≡ true → (p : Object Shape Signature) × (checked.object_for x ≡ Some p)
 unfolding call_is_well_typed
 found checked x es None e h = absurd (cc)
 found checked x es (Some p) e h = (p, e)
 
--- so it means what its declaration is
+-- in a scene that agrees with the checker, the name of a well-typed call means the object of its
+-- declaration
 module _ (scene : Scene) (x : Label) (es : Tree Label (maybe arguments)) (o : Option (Object Shape Signature)) (declared : object_of_label scene.types.now x ≡ o) where
   called_as : (checked : TypeMeanings Label) (slots : Label → Slot) (targets : Label → Target) → SceneAgreesWithChecker scene checked slots targets → statement_is_well_typed checked (calls x es) ≡ true → checked.object_for x ≡ o
   unfolding statement_is_well_typed
@@ -56,7 +57,8 @@ unfolding call_is_well_typed
 no_signature checked None es e h = cc
 no_signature checked (Some s) es e h = cc
 
--- what isn't a procedure isn't called
+-- any instruction is correct code for a call of a name that isn't a procedure, because such a call
+-- isn't well-typed
 pub uncallable : (scene : Scene) (x : Label) (es : Tree Label (maybe arguments)) (c : lowered.Instruction) → signature_of (object_of_label scene.types.now x) ≡ None → LowersStatement scene c (calls x es)
 uncallable scene x es c none_there checked slots targets sees fits =
     absurd (no_signature checked (signature_of (object_of_label scene.types.now x)) (call_arguments es) none_there (called_with scene x es (object_of_label scene.types.now x) refl checked slots targets sees fits))
@@ -65,7 +67,8 @@ signed : (checked : TypeMeanings Label) (signature : Signature) (es : List (Tree
 unfolding call_is_well_typed
 signed checked signature es h = h
 
--- a procedure, at its target
+-- a lowered call of a procedure's target, with correct code for the arguments, is correct code for
+-- the call
 pub called : (scene : Scene) (x : Label) (es : Tree Label (maybe arguments)) (signature : Signature) (cs : List lowered.LoweredArgument) (procedure up : ℕ) → object_of_label scene.types.now x ≡ Some (a_procedure signature) → LowersArguments scene signature cs (call_arguments es)
     → record { procedure = procedure; up = up } ≡ target_of_label scene x → LowersStatement scene (lowered.calls procedure up cs) (calls x es)
 called scene x es signature cs procedure up declared hs there checked slots targets sees fits =
@@ -74,12 +77,13 @@ called scene x es signature cs procedure up declared hs there checked slots targ
     let P : Target → Type 0 = λ t. CodeMeansStatement checked slots targets (lowered.calls t.procedure t.up cs) (calls x es) in
     subst P (sees.procedures x signature is_there ∙ sym there) (call-means checked slots targets x es signature cs is_there args)
 
--- arguments as they are written
+-- the arguments in a call's tree are the labelled expressions of the code's argument list
 pub given_listed : (r : Resolution) (given : Option (Vec Expression Global)) → call_arguments (tree_with_labels r (arguments_of given)) ≡ labelled_expressions r (arguments_or_empty_list given)
 given_listed r None = refl
 given_listed r (Some es) = all_listed r es.items
 
--- of one argument
+-- if the arguments match a single parameter, there is exactly one argument, and it matches the
+-- parameter
 one_fits : (checked : TypeMeanings Label) (r : Resolution) (f : FormalParameter) (es : List Expression) (e : Expression) → slice_get es 0 ≡ Some e → arguments_match_signature checked (f ∷ []) (labelled_expressions r es) ≡ true
     → (labelled_expressions r es ≡ tree_with_labels r (expression_of e) ∷ []) × (argument_matches_parameter checked f (tree_with_labels r (expression_of e)) ≡ true)
 unfolding arguments_match_signature
@@ -109,7 +113,7 @@ valued : (checked : TypeMeanings Label) (e : Tree Label expression) → argument
 unfolding argument_matches_parameter
 valued checked e h = let (s, hs, ht) = same_known_shape-true (Some integer_shape) (type_of_expression checked e) h in ht ∙ sym hs
 
--- the standard procedures
+-- calls of standard procedures are lowered to correct code
 module _ (scene : Scene) (x : Label) (given : Option (Vec Expression Global)) where
   abbrev written_arguments : Tree Label (maybe arguments)
   written_arguments = tree_with_labels scene.resolved.now (arguments_of given)
@@ -149,7 +153,8 @@ module _ (scene : Scene) (x : Label) (given : Option (Vec Expression Global)) wh
       let f : FormalParameter = record { mode = by_value; shape = integer_shape } in
       absurd (none_fits checked scene.resolved.now f (arguments_or_empty_list given) here (all_fit (a_standard_procedure write_procedure) (f ∷ []) refl declared checked slots targets sees fits))
 
--- arguments that are lowered one after the other
+-- arguments are lowered one after the other; `ArgumentsMade` states that the code of the first `n`
+-- arguments, followed by correct code for the others, is correct for all
 abbrev pub signature_in : Scene → List formal.FormalParameter → Signature
 signature_in scene fs = map (formal_parameter_view (shapes_of scene.types.now)) fs
 
@@ -182,7 +187,7 @@ arguments_go_on {scene = scene} {fs = fs} {es = es} {n = n} {made = made} f e a 
       subst R (sym (following made a cs)) (m.so_far (argument_of a ∷ cs) (subst P (sym left) (subst Q (sym right) (one_argument scene f (drop (n + 1) fs) e (drop (n + 1) es) a cs h hr))));
 }
 
--- where a parameter or an argument is left alone, they don't fit
+-- if there are no parameters or no arguments, an empty list is correct code for the arguments
 over : (scene : Scene) (fs : List formal.FormalParameter) (es : List Expression) → min (length fs) (length es) ≡ 0 → LowersArguments scene (signature_in scene fs) [] (labelled_expressions scene.resolved.now es)
 unfolding arguments_match_signature
 over scene [] [] h checked slots targets sees fits = tt

@@ -1,5 +1,5 @@
--- A loop over the items of a chain whose steps give something always: what the items so far give, and then those left, is what
--- all give.
+-- Proves that a loop over the items of a chain gives the result of the whole chain. Its invariant
+-- (`Folded`) is that the result so far, continued with the remaining items, gives this result.
 use Rattle.std.proofs.Common.{◌≡◌, ℕ, ◌+◌, ◌<◌, ◌≤◌, List, ◌∷◌, Option, length, get_or, drop, refl, sym, ap, ◌∙◌}
 use Rattle.std.proofs.lemmas.List.{drop_all, drop_more}
 use Rattle.ob0_tree.specs.Tree.{Tree, GrammarItem, addend, adds, item, items, end, field, index, more, multiplier, multiplies, selector}
@@ -34,7 +34,7 @@ pub fold_ends : {X A : Type 0} {i : GrammarItem} {chain : X → Tree Label (item
 fold_ends {chain = chain} {r = r} {f = f} {xs = xs} {done = done} {out = out} h c all =
     sym (h.ended out) ∙ sym (ap (λ ys. chain out (tree_with_labels r (items_of f ys))) (drop_all done xs all)) ∙ c.so_far
 
--- the chains of codes
+-- the codes of addends and multipliers, and the places of selectors, are computed item by item
 
 abbrev pub added_once : Scene → ExpressionCode → Tree Label (item addend) → ExpressionCode
 added_once scene c (adds o t) = addition_code o c (term_code scene t)

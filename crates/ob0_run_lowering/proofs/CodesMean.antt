@@ -1,4 +1,4 @@
--- Operations on codes mean the operations of expressions.
+-- Proves that operations on codes are correct code for the operations of expressions.
 use Rattle.std.proofs.Common.{◌≡◌, Some, None, Option, sym, refl, ◌∙◌, subst}
 use Rattle.ob0_tree.specs.declared.tree.Relation.{Relation}
 use Rattle.ob0_tree.specs.declared.tree.Relation.TheVariants as relation
@@ -23,7 +23,8 @@ use Rattle.ob0_run_cells.proofs.LoweredOutcomes.{difference-operates, product-op
 use Rattle.ob0_run_cells.proofs.LoweredTruths as truths
 use Rattle.ob0_run_lowering.specs.OperationCodes.{ExpressionCode, CodeHasOutcome, a_block, a_number, a_truth, addition_code, multiplication_code, negation_code, relation_code, signed_term_code}
 
--- a code so far, and what is left of a chain
+-- states that a code is correct for the first part of a chain with the type `s`; the remaining part
+-- `rest` completes the chain
 abbrev pub CodeLeads : TypeMeanings Label → (Label → Slot) → ExpressionCode → Shape → RestOfChain Label Value → OutcomeByMoment Label Value → Type 0
 CodeLeads checked slots (a_number n) integer_shape rest whole = NumberStartsChain checked slots n rest whole
 CodeLeads checked slots (a_truth t) boolean_shape rest whole = TruthStartsChain checked slots t rest whole
@@ -31,12 +32,12 @@ CodeLeads checked slots (a_block q n) (array_shape k m s) rest whole = (n ≡ sh
 CodeLeads checked slots (a_block q n) (record_shape k fs) rest whole = (n ≡ shape_cell_count (record_shape k fs)) × RestCompletesChain checked slots (PlaceHoldsValue checked slots q (record_shape k fs)) rest whole
 CodeLeads checked slots _ _ rest whole = ⊥
 
--- two codes with their variants, and a type
+-- a property of two codes and a type also holds for codes and a type that equal them
 two-codes : (P : ExpressionCode → ExpressionCode → Shape → Type 0) {c d c' d' : ExpressionCode} {z z' : Shape} → c ≡ c' → d ≡ d' → Some z' ≡ Some z → P c' d' z' → P c d z
 two-codes P {c = c} {d = d} {c' = c'} {d' = d'} {z = z} {z' = z'} ec ed ez h = subst (λ z. P c d z) (some_inverse ez) (subst (λ c. P c d z') (sym ec) (subst (λ d. P c' d z') (sym ed) h))
 
 module _ (checked : TypeMeanings Label) (slots : Label → Slot) where
-  -- the code of an INTEGER is a number, that of a BOOLEAN a truth
+  -- correct code of an INTEGER is a number, and correct code of a BOOLEAN is a truth
   pub number-code : (c : ExpressionCode) (value : OutcomeByMoment Label Value) → CodeHasOutcome checked slots c integer_shape value → (n : lowered.Number) × (c ≡ a_number n) × NumberHasOutcome checked slots n value
   number-code (a_number n) value h = (n, refl, h)
   number-code _ value h = absurd h
@@ -94,7 +95,7 @@ module _ (checked : TypeMeanings Label) (slots : Label → Slot) where
         two-codes (MultipliedLeads multiply_operator.And) et eu h (truths.both-leads checked slots t u f rest whole hu ht)
     multiplication_code-leads _ c d _ _ z h hc hd = absurd (cc)
 
-  -- a chain begins with its first operand
+  -- correct code of the first operand is correct code for the beginning of the chain
 
   value-begins : (q : lowered.Place) (s : Shape) (f : Tree Label factor) (rest : Tree Label (items multiplier)) → PlaceHoldsValue checked slots q s (value_of_factor f) → RestCompletesChain checked slots (PlaceHoldsValue checked slots q s) (outcome_of_remaining_multipliers rest) (value_of_term (product f rest))
   unfolding evaluate_expression
@@ -131,7 +132,8 @@ module _ (checked : TypeMeanings Label) (slots : Label → Slot) where
     sum-begins (Some sign.Minus) c integer_shape y h hc = let (n, en, hn) = number-code c (value_of_term e) hc in one-code (Some sign.Minus) c (a_number n) y integer_shape en h (numbers.minus-begins checked slots e rest n hn)
     sum-begins _ c _ y h hc = absurd (cc)
 
-  -- where nothing is left, what was found is the whole
+  -- if the rest of a chain changes no value, correct code for its beginning is correct for the
+  -- whole chain
 
   value-whole : (q : lowered.Place) (s : Shape) (rest : RestOfChain Label Value) (whole : OutcomeByMoment Label Value) → ((z : _) (v : Value) → rest z v ≡ succeeds_with v) → RestCompletesChain checked slots (PlaceHoldsValue checked slots q s) rest whole → PlaceHoldsValue checked slots q s whole
   value-whole q s rest whole ends_here h =
@@ -157,7 +159,8 @@ module _ (checked : TypeMeanings Label) (slots : Label → Slot) where
   unfolding evaluate_expression
   multipliers-end c x whole h = leads-end c x (outcome_of_remaining_multipliers end) whole (λ z v. refl) h
 
-  -- an expression without a relation is its sum, and what is in parentheses evaluates to the same
+  -- correct code of a simple expression is correct for the expression without a relation, and
+  -- correct code of an expression is correct for it in parentheses
 
   pub alone-means : (c : ExpressionCode) (s : Shape) (a : Tree Label simple) → CodeHasOutcome checked slots c s (value_of_simple_expression a) → CodeHasOutcome checked slots c s (value_of_expression (compares a none))
   unfolding evaluate_expression

@@ -1,4 +1,5 @@
--- In a well-typed module each binding is what the declaration of its ordinal is.
+-- Proves that in a well-typed module, each binding binds an ordinal to the object of its
+-- declaration.
 use Rattle.std.proofs.Common.{◌≡◌, ℕ, ◌==◌, Bool, true, false, cond, [], ◌∷◌, Some, refl, sym, ap, ◌∙◌, arith, eq-eqb, eqb-true}
 use Rattle.ob0_tree.specs.Tree.{Tree, module_text}
 use Rattle.ob0_language_names.specs.Names.{Label, Name, naming_by_label, declared}
@@ -14,7 +15,8 @@ use Rattle.ob0_language_types.proofs.DeclaredPlaces.{Includes, bound-none, modul
 use Rattle.ob0_language_types.proofs.TypesByOrdinal.{TypeNoted, TypedBelow, typed_by_ordinal}
 use Rattle.ob0_run_lowering.specs.DeclaredBindings.{BindingsAreDeclared, BlockBindingsAreDeclared, NewestIsBelow}
 
--- where ordinals descend, each binding is the one that is found
+-- if ordinals descend and a list includes an environment, it also includes the environment without
+-- its newest binding
 tail-included : (all : TypeEnvironment Label) (i : ℕ) (o : Object Shape Signature) (noted : TypeNoted Name) → TypedBelow i noted → Includes all ((declared i, o) ∷ typed_by_ordinal noted) → Includes all (typed_by_ordinal noted)
 tail-included all i o noted below st d p h = by (d == i) refl
   where
@@ -40,6 +42,6 @@ noted-declared all n (b ∷ noted) below st = (
   noted-declared all b.ordinal noted below.1 (tail-included all b.ordinal b.object noted below.1 st),
 )
 
--- all that a well-typed module binds
+-- in a well-typed module, the bindings of each environment are those of the declarations
 pub module-declared : (m : Tree Name module_text) → WellTyped m → BlockBindingsAreDeclared (object_of_ordinal (module_bindings naming_by_label (numbered m))) (outermost_environment naming_by_label) 0 (module_block (numbered m))
 module-declared m = module-has (BindingsAreDeclared (object_of_ordinal (module_bindings naming_by_label (numbered m)))) m (noted-declared (module_bindings naming_by_label (numbered m)))

@@ -24,7 +24,7 @@ use Rattle.ob0_run_lowering.specs.declared.scene.LoweredSite.TheVariants as site
 use Rattle.ob0_run_lowering.specs.PlacedNames.{AddsNames, AddsSite, FrameMatchesPlacement, GrowsTo, IsSiteOfNextVariable, SiteMatchesPlace, SitesEndAtNewestName, SitesMatchPlacement, add_declared_names_to_placement, place_of_first_binding, place_in_placement, place_parameter_sections, place_variable_declarations, variable_slot_at_depth}
 use Rattle.ob0_run_lowering.specs.declared.declaration_sites.Frame.{Frame}
 
--- growth
+-- a list grows to itself, and growing twice is growing once
 
 pub grows_itself : {A : Type 0} (xs : List A) → GrowsTo xs xs
 grows_itself xs = ([], sym (append-nil xs))
@@ -32,11 +32,12 @@ grows_itself xs = ([], sym (append-nil xs))
 pub grows_then : {A : Type 0} (xs ys zs : List A) → GrowsTo xs ys → GrowsTo ys zs → GrowsTo xs zs
 grows_then xs ys zs a b = (a.0 ++ b.0, b.1 ∙ ap (λ l. l ++ b.0) a.1 ∙ append_assoc xs a.0 b.0)
 
--- what was added is dropped
+-- a grown list that is cut back to the old length is the old list
 pub grows_back : {A : Type 0} (xs ys : List A) → GrowsTo xs ys → take (length xs) ys ≡ xs
 grows_back xs ys grows = ap (take (length xs)) grows.1 ∙ take-append-le (length xs) xs grows.0 (le_refl (length xs)) ∙ take-length xs
 
--- what is missing in a table is nowhere, and matches only what has no place
+-- sites still match their places after the table has grown; a missing site (`Nowhere`) matches only
+-- the place `nowhere`
 nowhere-reports : (d : ℕ) (w : BindingPlace) (s : LoweredSite) → SiteMatchesPlace d site.Nowhere w → SiteMatchesPlace d s w
 nowhere-reports d nowhere s h = tt
 nowhere-reports d (in_slot slot) s h = absurd (let e : ◌≡◌ {A = BindingPlace} nowhere (in_slot slot) = h.1 in cc)
@@ -57,7 +58,7 @@ holds_added sites now d placement j s w new grows put h = λ k. by k (k == j) re
     by k true same = subst (λ i. SiteMatchesPlace d (site_in_table now i) w) (sym (eqb-true k j same)) (subst (λ z. SiteMatchesPlace d z w) (sym put) new)
     by k false other = holds_grown sites now d placement grows h k
 
--- a site added at the end of a table
+-- adding a site at the end of a table satisfies `AddsSite`
 
 pub no_site_added : (s : LoweredSite) (sites : List LoweredSite) → AddsSite None s sites sites
 no_site_added s sites = record { grows = grows_itself sites; added = λ k is less. absurd (cc) }
@@ -77,7 +78,7 @@ ordinal-of_label : (o : Option ℕ) (name : Name) (k : ℕ) → label_from_ordin
 ordinal-of_label None name k h = absurd (cc)
 ordinal-of_label (Some j) name k h = cc
 
--- ordinals that descend
+-- if ordinals descend after names are added to a placement, they also descend before
 
 ordinal-same : (j k : ℕ) → declared j ≡ declared k → j ≡ k
 ordinal-same j k h = cc
@@ -113,7 +114,8 @@ ends_hidden sites (x ∷ xs) placement descend =
       here.1,
     )
 
--- a name with its place, added in front of a placement
+-- if a site is added to a table and matches a place, the table matches the placement with this
+-- place added
 pub name_placed : (w v : List LoweredSite) (d : ℕ) (placement : Placement Label) (o : Option ℕ) (name : Name) (s : LoweredSite) (place : BindingPlace)
     → AddsSite o s w v → SiteMatchesPlace d s place → SitesMatchPlacement w d placement → SitesEndAtNewestName w placement → OrdinalsDescend ((label_from_ordinal naming_by_spelling o name, place) ∷ placement)
     → SitesMatchPlacement v d ((label_from_ordinal naming_by_spelling o name, place) ∷ placement) × SitesEndAtNewestName v ((label_from_ordinal naming_by_spelling o name, place) ∷ placement)
@@ -125,7 +127,7 @@ name_placed w v d placement o name s place adds new h ends descend =
       (k, is, omega (arith, added.0)),
     )
 
--- one name
+-- adding the site of one parameter or variable adds its name to the frame and to a placement
 
 pub place-by_reference : (w v : List LoweredSite) (f g : Frame) (size_of : Label → ℕ) (o : Option ℕ) (name : Name) → AddsSite o (site.ByReference f.depth f.var_parameter_count) w v → g ≡ record f { var_parameter_count = f.var_parameter_count + 1 }
     → AddsNames w v f (add_name_to_placement (variable_slot_at_depth f.depth) by_place (label_from_ordinal naming_by_spelling o name) (size_of (label_from_ordinal naming_by_spelling o name))) g
@@ -203,15 +205,15 @@ in_ends {fold = fold} {xs = xs} {v = v} {g = g} {done = done} ended a all = reco
   has_no_fewer_cells = a.has_no_fewer_cells;
 }
 
--- no names
+-- if no names are added, the table and the frame are unchanged
 pub no_names : (w : List LoweredSite) (f : Frame) → AddsNames w w f (λ p. p) f
 no_names w f = record { placed = λ p descend h. h; sites = grows_itself w; depth = refl; has_no_fewer_cells = le_refl f.cells }
 
--- a step of an activation as deep
+-- if `AddsNames` holds for a step at a depth, it holds for the step at an equal depth
 pub as_deep : (w v : List LoweredSite) (f g : Frame) (m n : ℕ) (step : ℕ → PlacementState Label → PlacementState Label) → m ≡ n → AddsNames w v f (step m) g → AddsNames w v f (step n) g
 as_deep w v f g m n step same a = subst (λ k. AddsNames w v f (step k) g) same a
 
--- the names of a section, by how it is written
+-- placing a section of parameters places its names, each in the mode that the section's flag gives
 
 pub section_step : (r : Resolution) (at : ℕ → Slot) (size_of : Label → ℕ) (s : ParameterSection) (fs : Tree Label (items section_after_semicolon)) (p : PlacementState Label)
     → place_parameter_sections at size_of (more (semicolon_then_section (tree_with_labels r (parameter_section_of s))) fs) p ≡ place_parameter_sections at size_of fs (add_declared_names_to_placement at size_of (mode_from_flag s.by_reference) (names_in_list (tree_with_labels r (names_of s.names))) p)

@@ -1,4 +1,4 @@
--- What statements mean in a scene, production by production.
+-- Proves that a statement or body is lowered to correct code in a scene if its parts are.
 use Rattle.std.proofs.Common.{◌≡◌, ◌&&◌, true, Some, sym, ap, ◌∙◌}
 use Rattle.ob0_tree.specs.Tree.{Tree, begins, branches, else_branch, else_part, elsif_branch, elsif_part, empty, end, expression, statement_after_semicolon, items, maybe, more, none, one, repeat_loop, runs, sequence, statement, semicolon_then_statement, while_loop}
 use Rattle.ob0_tree.specs.View.{expression_of}
@@ -21,7 +21,7 @@ use Rattle.ob0_run_lowering.specs.declared.scene.Scene.{Scene}
 use Rattle.ob0_run_lowering.specs.LoweredBodies.{LowersBody, LowersCondition, LowersElse, LowersElsifs, LowersStatementsAfterFirst, LowersSequence, LowersStatement}
 
 module _ (scene : Scene) where
-  -- sequences, from the beginning
+  -- a sequence is lowered to correct code if its statements are
   pub none-left : LowersStatementsAfterFirst scene lowered.no_statement end
   none-left checked slots targets sees fits = control.sequence-ends checked slots targets
 
@@ -43,13 +43,13 @@ module _ (scene : Scene) where
   unfolding statement_is_well_typed execute_statement
   from-first a rest cs h checked slots targets sees fits = h checked slots targets sees fits
 
-  -- conditions
+  -- correct code of a BOOLEAN expression is correct code for a condition
   pub condition-lowers : (e : Expression) (t : Truth) → LowersTruth scene (expression_of e) t → LowersCondition scene (truth_of t) (tree_with_labels scene.resolved.now (expression_of e))
   unfolding condition_is_boolean
   condition-lowers e t h checked slots targets sees fits =
       let (s, hs, ht) = same_known_shape-true (Some boolean_shape) (type_of_expression checked (tree_with_labels scene.resolved.now (expression_of e))) fits in h checked slots targets sees (ht ∙ sym hs)
 
-  -- loops
+  -- a loop is lowered to correct code if its condition and its statements are
   pub while-lowers : (e : Tree Label expression) (a : Tree Label sequence) (t : lowered.Truth) (body : lowered.InstructionList) → LowersCondition scene t e → LowersSequence scene body a → LowersStatement scene (lowered.while_loop t body) (while_loop e a)
   unfolding statement_is_well_typed
   while-lowers e a t body ht ha checked slots targets sees fits =
@@ -62,7 +62,7 @@ module _ (scene : Scene) where
       let both = both_true (sequence_is_well_typed checked a) (condition_is_boolean checked e) fits in
       control.repeat-means checked slots targets e a t body (ht checked slots targets sees both.1) (ha checked slots targets sees both.0)
 
-  -- branches
+  -- an IF is lowered to correct code if its conditions and their statements are
   pub branches-lower : (e : Tree Label expression) (a : Tree Label sequence) (rest : Tree Label (items elsif_part)) (last : Tree Label (maybe else_part)) (t : lowered.Truth) (body : lowered.InstructionList) (bs : lowered.Branches) (otherwise : lowered.InstructionList)
       → LowersCondition scene t e → LowersSequence scene body a → LowersElsifs scene bs otherwise rest last → LowersStatement scene (lowered.chooses_branch (lowered.branch t body bs) otherwise) (branches e a rest last)
   unfolding statement_is_well_typed
@@ -96,7 +96,7 @@ module _ (scene : Scene) where
   pub no-else : LowersElse scene lowered.no_statement none
   no-else checked slots targets sees fits = control.no-else checked slots targets
 
-  -- bodies
+  -- a body is lowered to correct code if its statements are; a missing body has no code
   pub no-body : (cs : lowered.InstructionList) → cs ≡ lowered.no_statement → LowersBody scene cs none
   no-body cs e env placement sees fits = e
 

@@ -1,4 +1,5 @@
--- A number that is an operation, or a row of them, is no literal.
+-- Proves that the offset of an element is unknown if its index is an operation or a chain of
+-- operations.
 use Rattle.std.proofs.Common.{◌≡◌, ◌≢◌, ℕ, List, [], ◌∷◌, length, None, refl}
 use Rattle.ob0_run_machine.specs.declared.code.ChainLink.{ChainLink}
 use Rattle.ob0_run_machine.specs.declared.code.ChainLink as link

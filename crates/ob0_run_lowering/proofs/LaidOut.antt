@@ -1,4 +1,4 @@
--- The table of sizes, entry by entry.
+-- Proves that the layouts of a module's types are right, entry by entry of the table of types.
 use Rattle.std.proofs.Common.{◌≡◌, ℕ, zero, suc, ◌+◌, ◌<◌, ◌≤◌, List, [], ◌∷◌, ◌++◌, Some, None, Option, option_map, slice_get, slice_index_or, length, take, drop, get_or, sym, refl, ap, ◌∙◌, subst, arith, append_assoc, append-nil, if◌then◌else◌, true, false, Bool, zero-add, add-zero, add-one, ℤ, ◌⊎◌, inl, inr, option_and_then, nat_lt}
 use Rattle.std.proofs.lemmas.Bool.Decides.{nat_tests}
 use Rattle.std.proofs.lemmas.Option.{slice_get_past}
@@ -21,7 +21,7 @@ use Rattle.ob0_run_lowering.specs.declared.type_layouts.CellLayout.{CellLayout}
 use Rattle.ob0_run_lowering.specs.declared.type_layouts.CellLayout.TheVariants as layout
 use Rattle.ob0_run_lowering.specs.declared.type_layouts.RecordLayout.{RecordLayout}
 
--- what is read of an entry
+-- returns the number of cells in an array's layout; 0 for any other layout and for None
 
 abbrev pub array_size : Option CellLayout → ℕ
 array_size (Some (layout.Array cells)) = cells
@@ -38,7 +38,8 @@ array_size-at (s ∷ shapes) (l ∷ layouts) zero h = array-entry s l h.0
 array_size-at (s ∷ shapes) (l ∷ layouts) (suc i) h = array_size-at shapes layouts i h.1
 array_size-at _ _ i h = absurd h
 
--- the record of an entry
+-- states that a layout is right for the record type `s`; if it isn't the layout of a record, states
+-- that `s` is `faulty_shape`
 abbrev pub HasRecord : Option CellLayout → Shape → Type 0
 HasRecord (Some (layout.Record r)) s = (k : ℕ) × (fs : FieldShapes) × (s ≡ record_shape k fs) × IsLayoutOfFields fs r
 HasRecord _ s = s ≡ faulty_shape
@@ -54,13 +55,13 @@ record-there (s ∷ shapes) (l ∷ layouts) zero h = record-entry s l h.0
 record-there (s ∷ shapes) (l ∷ layouts) (suc i) h = record-there shapes layouts i h.1
 record-there _ _ i h = absurd h
 
--- one more entry
+-- right layouts are still right after a type and its layout are added
 pub one_more : (shapes : List Shape) (layouts : List CellLayout) (s : Shape) (l : CellLayout) → AreLayoutsOfTypes shapes layouts → IsLayoutOfType s l → AreLayoutsOfTypes (shapes ++ s ∷ []) (layouts ++ l ∷ [])
 one_more [] [] s l h more = (more, tt)
 one_more (t ∷ shapes) (m ∷ layouts) s l h more = (h.0, one_more shapes layouts s l h.1 more)
 one_more _ _ s l h more = absurd h
 
--- where a field begins
+-- the list of offsets has the offset of a field at the field's position
 
 further-listed : (b : Bool) (n k : ℕ) (o : Option ℕ) (f : ℕ) (xs : List ℕ) → ((i : ℕ) → o ≡ Some i → slice_index_or xs i 0 ≡ (n + k) + f) → (i : ℕ) → (if b then Some 0 else option_map suc o) ≡ Some i → slice_index_or (n ∷ xs) i 0 ≡ n + (if b then 0 else k + f)
 further-listed true n k o f xs later zero h = omega arith
@@ -79,7 +80,8 @@ pub offset-past : (fs : FieldShapes) (x : Name) → position_of_field fs x ≡ N
 offset-past no_field_shape x h = refl
 offset-past (next_field_shape y s rest) x h = further-past (same_name x y) (shape_cell_count s) (position_of_field rest x) (field_offset rest x) (fields_cell_count rest) (λ h. offset-past rest x h) h
 
--- the fields so far, and those that are left
+-- states that the cells and the offsets so far, continued with the remaining fields, are the cells
+-- and the offsets of all fields
 pub record LaidSoFar (shapes : List Shape) (fields : List Field) (done cells : ℕ) (offsets : List ℕ) : Type 0 where
   pub cells_left : cells + fields_cell_count (field_shapes shapes (drop done fields)) ≡ fields_cell_count (field_shapes shapes fields)
   pub offsets_left : offsets ++ consecutive_field_offsets cells (field_shapes shapes (drop done fields)) ≡ consecutive_field_offsets 0 (field_shapes shapes fields)
@@ -113,7 +115,7 @@ laid_ends {shapes} {fields} {done} {cells} {offsets} h all =
       sym (append-nil offsets) ∙ sym (ap (λ xs. offsets ++ consecutive_field_offsets cells (field_shapes shapes xs)) none) ∙ h.offsets_left,
     )
 
--- the types so far
+-- if the layouts so far and the layout of the next entry are right, they are right together
 pub table_goes_on : (entries : List code.TypeEntry) (done : ℕ) (layouts : List CellLayout) (x : code.TypeEntry) (next : CellLayout) (read layouts' : List CellLayout) → AreLayoutsOfTypes (append_shapes_of_entries [] (take done entries)) layouts → done < length entries → x ≡ get_or entries done x
     → read ≡ layouts → ((shapes : List Shape) → AreLayoutsOfTypes shapes read → IsLayoutOfType (entry_shape shapes x) next) → layouts' ≡ layouts ++ next ∷ [] → AreLayoutsOfTypes (append_shapes_of_entries [] (take (done + 1) entries)) layouts'
 table_goes_on entries done layouts x next read layouts' h less here same made pushed =
@@ -125,7 +127,8 @@ table_goes_on entries done layouts x next read layouts' h less here same made pu
 pub table_ends : (entries : List code.TypeEntry) (done : ℕ) (layouts : List CellLayout) (all : List code.TypeEntry) → AreLayoutsOfTypes (append_shapes_of_entries [] (take done entries)) layouts → length entries ≤ done → entries ≡ all → AreLayoutsOfTypes (append_shapes_of_entries [] all) layouts
 table_ends entries done layouts all h past same = subst (λ es. AreLayoutsOfTypes (append_shapes_of_entries [] es) layouts) (take_all done entries past ∙ same) h
 
--- where a field of a record begins
+-- a record's layout has the offset of the field that is found; if no field is found, the offset is
+-- the record's number of cells
 abbrev field_in : ℕ → ℕ → FieldId
 field_in k i = record { ordinal = k; index = i }
 
@@ -143,7 +146,7 @@ offset-found k fs x r f laid h = ap (λ os. slice_index_or os f.index 0) laid.of
 pub offset-missing : (k : ℕ) (fs : FieldShapes) (x : Name) (r : RecordLayout) → IsLayoutOfFields fs r → ◌≡◌ {A = Option FieldId} None (selected_field (record_shape k fs) x) → r.cells ≡ field_offset fs x
 offset-missing k fs x r laid h = laid.cells ∙ sym (offset-past fs x (missing k (position_of_field fs x) h))
 
--- what a look-up reads
+-- a look-up at an index below the length reads the item there, and any other look-up reads nothing
 
 below : (i n : ℕ) → true ≡ nat_lt i n → i < n
 below i n h = grind (arith, nat_tests)

@@ -1,4 +1,5 @@
--- A row of operations with one more.
+-- Proves that adding a link or a truth at the end of a list applies one more operation to the
+-- result.
 use Rattle.std.proofs.Common.{◌≡◌, List, [], ◌∷◌, ◌++◌, refl}
 use Rattle.ob0_run_machine.specs.LoweredSyntax as lowered
 use Rattle.ob0_run_machine.specs.declared.code.ChainLink.{ChainLink}

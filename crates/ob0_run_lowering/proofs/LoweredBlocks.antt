@@ -43,7 +43,7 @@ use Rattle.ob0_run_lowering.proofs.DeclaredBlocks.{module-declared}
 use Rattle.ob0_run_lowering.proofs.GrowingSites.{ends_hidden, groups-earlier, grows_back, grows_itself, grows_then, name_placed}
 use Rattle.ob0_run_lowering.proofs.Placings.{descends, first_match, groups_match, holds_hidden, holds_inward, matches_inward, parameters_match, sections_placed, sees, sizes_declared, typed_before}
 
--- one after the other
+-- `LowersProcedures` holds if nothing is lowered, and for two lowerings one after the other
 
 pub goes_itself : (t : DeclarationTableView) (w : Lowering) (d : ℕ) (ps : Tree Label (items procedure)) → LowersProcedures t w w d ps ps
 goes_itself t w d ps = record {
@@ -67,7 +67,8 @@ goes_then t w v u d ps qs rest a b = record {
   counted = b.counted ∙ a.counted;
 }
 
--- the procedures of a block, by the code's list
+-- if the first procedures of a block were lowered and the next one is, `LowersProcedures` holds for
+-- both together
 pub goes_on : (t : DeclarationTableView) (w v u : Lowering) (d : ℕ) (r : Resolution) (xs : List tree.Procedure) (done : ℕ) (x : tree.Procedure) (all : Tree Label (items procedure)) → LowersProcedures t w v d all (tree_with_labels r (items_of tree_procedure_of (drop done xs))) → done < length xs → x ≡ get_or xs done x
     → ((rest : Tree Label (items procedure)) → LowersProcedures t v u d (more (tree_with_labels r (tree_procedure_of x)) rest) rest) → LowersProcedures t w u d all (tree_with_labels r (items_of tree_procedure_of (drop (done + 1) xs)))
 goes_on t w v u d r xs done x all a less here b =
@@ -75,7 +76,7 @@ goes_on t w v u d r xs done x all a less here b =
     goes_then t w v u d all (tree_with_labels r (items_of tree_procedure_of (drop done xs))) rest a
     (subst (λ ys. LowersProcedures t v u d (tree_with_labels r (items_of tree_procedure_of ys)) rest) (sym (split done xs x less here)) (b rest))
 
--- the routines of one procedure more
+-- counting the routines of one more procedure leaves the total count unchanged
 pub count_on : (r : Resolution) (xs : List tree.Procedure) (done : ℕ) (x : tree.Procedure) (after inner next all : ℕ) → count_after_procedures after (tree_with_labels r (items_of tree_procedure_of (drop done xs))) ≡ all → done < length xs → x ≡ get_or xs done x
     → inner ≡ count_after_block after (tree_with_labels r (block_of (tree.out-Procedure x).block)) → next ≡ inner + 1 → count_after_procedures next (tree_with_labels r (items_of tree_procedure_of (drop (done + 1) xs))) ≡ all
 count_on r xs done x after inner next all h less here counted added =
@@ -107,9 +108,10 @@ get_pushed xs now x grows =
     ap (λ l. slice_get l (length xs)) grows.1
     ∙ get_grown (xs ++ x ∷ []) grows.0 (length xs) x (slice_get-get_or (xs ++ x ∷ []) (length xs) x less ∙ ap Some (get_or-append_seam xs x [] x))
 
--- procedures
+-- a procedure is lowered to a correct routine
 
--- a procedure in scope, its parameters placed, its block lowered, its names dropped and its code added
+-- states that a procedure was lowered: its name and its parameters were placed, its block was
+-- lowered, its names were dropped, and its routine was added
 pub record IsProcedure (t : DeclarationTableView) (w u after : Lowering) (depth index : ℕ) (o : Option ℕ) (fs : Tree Label (maybe formals)) (b : Tree Label block) (f : Frame) (entry : Routine) : Type 0 where
   pub headed : List LoweredSite
   pub first : Frame
@@ -186,7 +188,7 @@ procedure_goes t w u after depth index o name fs b closing rest f entry is =
       counted = ap (λ n. count_after_procedures n rest) (ap length is.added ∙ length-append u.routines.items (entry ∷ []) ∙ omega (arith, counted, is.index_is));
     }
 
--- blocks
+-- a block is lowered to correct code
 
 body-fits : (env : TypeEnvironment Label) (k : ℕ) (statements : Tree Label (maybe body)) → procedures_and_body_are_well_typed naming_by_label env k statements end ≡ true → IsTrue (body_is_well_typed naming_by_label env statements)
 unfolding block_is_well_typed
@@ -245,7 +247,7 @@ block_lowers t w inside v cs ts vs ps statements f own scene entry places unchan
   counted = goes.counted ∙ ap (λ l. count_after_procedures (length l) ps) unchanged;
 }
 
--- by the code's trees
+-- a block's tree is lowered to correct code if its variables, procedures and statements are
 
 pub block_means : (t : DeclarationTableView) (w inside v : Lowering) (b : tree_block.Block) (xs : List tree.Procedure) (done : ℕ) (f own : Frame) (scene : Scene) (entry : Routine) (r : Resolution)
     → AddsNames w.sites.items inside.sites.items f (place_variable_declarations (variable_slot_at_depth f.depth) (declared_size t) (section_variables (tree_with_labels r (variable_section_of (tree_block.out-Block b).variables)))) own → inside.routines.items ≡ w.routines.items
@@ -268,7 +270,7 @@ procedure_means t w u after depth index p r f entry rest is =
     subst (λ z. LowersProcedures t w after depth (more (tree_with_labels r z) rest) rest) (sym (procedure_parts p))
     (procedure_goes t w u after depth index (ordinal_in r.ordinals o.name) (token_text_at r.module_read.source o.name) (tree_with_labels r (formals_of o.formals)) (tree_with_labels r (block_of o.block)) (label_at_token r o.closing) rest f entry is)
 
--- the program of a module
+-- a well-typed module is lowered to a program that is correct code for it
 
 outermost-matches : PlacementMatchesEnvironment (outermost_environment naming_by_label) (outermost_placement naming_by_label)
 outermost-matches = (refl, tt, (refl, tt, (refl, tt, (refl, tt, (refl, tt, (refl, tt, (refl, tt, tt)))))))

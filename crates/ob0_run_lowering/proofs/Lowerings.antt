@@ -1,4 +1,4 @@
--- What the code makes of an expression means it, by the code that the tree has.
+-- Proves that code which equals the code of a tree (`TreeCodes`) is correct for this tree.
 use Rattle.std.proofs.Common.{◌≡◌, ℕ, zero, suc, ◌<◌, ◌≤◌, true, false, ℤ, pos, List, [], ◌∷◌, length, get_or, slice_get, Some, None, Option, option_map, sym, refl, ap, ◌∙◌, subst, arith}
 use Rattle.std.proofs.lemmas.Bool.Decides.{nat_tests}
 use Rattle.ob0_scan.specs.TextWithTokens.{IsScan, TextWithTokens}
@@ -39,7 +39,7 @@ use Rattle.ob0_run_lowering.specs.declared.lowered_expression.LoweredExpression.
 use Rattle.ob0_run_lowering.specs.declared.scene.Scene.{Scene}
 use Rattle.ob0_run_lowering.proofs.TreesMean.{expression-means, located-means}
 
--- expressions
+-- code that equals the code of an expression's tree is correct for the expression
 
 pub lowers-by : (scene : Scene) (e : Tree ℕ expression) (l : LoweredExpression) → expression_code_of l ≡ expression_code scene (tree_with_labels scene.resolved.now e) → LowersExpression scene e l
 lowers-by scene e l same checked slots targets sees s h =
@@ -53,7 +53,7 @@ pub truth-by : (scene : Scene) (e : Tree ℕ expression) (l : LoweredExpression)
 truth-by scene e (code.Truth u) t same h checked slots targets sees typed = subst (λ t. TruthHasOutcome checked slots (truth_of t) (value_of_expression (tree_with_labels scene.resolved.now e))) same (h checked slots targets sees boolean_shape typed)
 truth-by scene e _ t same h checked slots targets sees typed = absurd (h checked slots targets sees boolean_shape typed)
 
--- places
+-- the place that is found for a designator is correct code for it
 
 variable-typed : (checked : TypeMeanings Label) (x : Label) (path : Tree Label (items selector)) (s : Shape) (o : Option (Object Shape Signature)) → checked.object_for x ≡ o → assignable_type checked (Some (x, path)) ≡ Some s
     → (v : Shape) × (checked.object_for x ≡ Some (a_variable v)) × (type_after_selectors checked v path ≡ Some s)
@@ -91,7 +91,7 @@ nothing-typed checked s h = absurd (cc)
 pub alone-not : (scene : Scene) (e : Tree ℕ expression) (l : TypedPlace) → lone_designator (tree_with_labels scene.resolved.now e) ≡ None → LocatesLoneDesignator scene e l
 alone-not scene e l is checked slots targets sees s typed = absurd (nothing-typed checked s (ap (assignable_type checked) (sym is) ∙ typed))
 
--- arguments
+-- correct code of an expression or a place makes correct code for an argument
 
 agreed : (s : Shape) (o : Option Shape) → same_known_shape (Some s) o ≡ true → o ≡ Some s
 agreed s None h = absurd (cc)

@@ -1,4 +1,5 @@
--- Code that is made in a loop, from the beginning: with the code of what is left, what was made so far is the code of the whole.
+-- Proves that loops over statements and branches make correct code. Their invariant is that the
+-- code so far, followed by correct code for the remaining parts, is correct for the whole.
 use Rattle.std.proofs.Common.{◌≡◌, ℕ, ◌+◌, ◌<◌, ◌≤◌, List, [], ◌∷◌, ◌++◌, length, get_or, drop, Some, None, Option, option_map, option_to_list, refl, sym, ap, ◌∙◌, subst}
 use Rattle.std.proofs.lemmas.List.{drop_all, drop_more}
 use Rattle.std.specs.declared.alloc.Global.{Global}
@@ -21,7 +22,7 @@ use Rattle.ob0_run_lowering.specs.declared.scene.Scene.{Scene}
 use Rattle.ob0_run_lowering.specs.LoweredBodies.{LowersOptionalStatement, LowersCondition, LowersElse, LowersElsifs, LowersStatementsAfterFirst, LowersSequence, LowersStatement}
 use Rattle.ob0_run_lowering.proofs.HoldsIfWellTypedInScene.{branches-lower, else-lowers, elsif-lowers, empty-alone, empty-more, from-first, no-else, no-elsif, none-left, one-more}
 
--- statements, with code after them
+-- returns the lowered code of statements, followed by the code `cs`
 abbrev pub joined : List code.Instruction → lowered.InstructionList → lowered.InstructionList
 joined [] cs = cs
 joined (s ∷ ss) cs = lowered.next_statement (statement_of s) (joined ss cs)
@@ -30,7 +31,7 @@ joined-alone : (ss : List code.Instruction) → joined ss lowered.no_statement �
 joined-alone [] = refl
 joined-alone (x ∷ ss) = ap (lowered.next_statement (statement_of x)) (joined-alone ss)
 
--- branches, with branches after them
+-- returns the lowered code of branches, followed by the branches `bs`
 abbrev pub all_joined : List branch.Branch → lowered.Branches → lowered.Branches
 all_joined [] bs = bs
 all_joined (b ∷ rest) bs = lowered.branch (truth_of b.condition) (sequence_of b.body.items) (all_joined rest bs)
@@ -43,11 +44,13 @@ all_joined-alone : (made : List branch.Branch) → all_joined made lowered.no_br
 all_joined-alone [] = refl
 all_joined-alone (x ∷ made) = ap (lowered.branch (truth_of x.condition) (sequence_of x.body.items)) (all_joined-alone made)
 
--- the first statements of a sequence have code
+-- states that `made`, followed by correct code for the statements after the first `n`, is correct
+-- code for the sequence
 pub record SequenceMade (scene : Scene) (r : Resolution) (ss : List Statement) (n : ℕ) (made : List code.Instruction) : Type 0 where
   pub so_far : (cs : lowered.InstructionList) → LowersStatementsAfterFirst scene cs (tree_with_labels r (items_of statement_after_semicolon_of (drop n ss))) → LowersSequence scene (joined made cs) (tree_with_labels r (sequence_of_list ss))
 
--- the first branches of IF have code
+-- states that `made`, followed by correct code for the ELSIF parts after the first `n` and for the
+-- ELSE part, is correct code for the IF
 pub record BranchesMade (scene : Scene) (r : Resolution) (e : Tree Label expression) (a : Tree Label sequence) (parts : List Elsif) (n : ℕ) (made : List branch.Branch) : Type 0 where
   pub so_far : (bs : lowered.Branches) (otherwise : lowered.InstructionList) (last : Tree Label (maybe else_part)) → LowersElsifs scene bs otherwise (tree_with_labels r (items_of elsif_of (drop n parts))) last
       → LowersStatement scene (lowered.chooses_branch (all_joined made bs) otherwise) (branches e a (tree_with_labels r (items_of elsif_of parts)) last)
@@ -112,7 +115,7 @@ branches_end {scene = scene} {r = r} {e = e} {a = a} {parts = parts} {n = n} {ma
     let Q : lowered.Branches → Type 0 = λ code. LowersStatement scene (lowered.chooses_branch code otherwise) (branches e a (tree_with_labels r (items_of elsif_of parts)) last) in
     subst Q (all_joined-alone made) (f.so_far lowered.no_branch otherwise last (subst P (sym (drop_all n parts all)) (no-elsif scene last otherwise h)))
 
--- ELSE, where there is one
+-- the code of an ELSE part is correct; without an ELSE part there is no code
 pub none_otherwise : (scene : Scene) (r : Resolution) (o : Option (Vec Statement Global)) (made : List code.Instruction) → o ≡ None → made ≡ [] → LowersElse scene (sequence_of made) (tree_with_labels r (else_part_of o))
 none_otherwise scene r o made none_there none_made =
     let P : Option (Vec Statement Global) → Type 0 = λ o. LowersElse scene (sequence_of made) (tree_with_labels r (else_part_of o)) in
@@ -124,7 +127,7 @@ some_otherwise scene r o ss made there h =
     let P : Option (Vec Statement Global) → Type 0 = λ o. LowersElse scene (sequence_of made) (tree_with_labels r (else_part_of o)) in
     subst P (sym there) (else-lowers scene (tree_with_labels r (sequence_of_list ss.items)) (sequence_of made) h)
 
--- IF, made of its branches
+-- a `Conditional` is converted to the IF that has its condition, statements and branches
 pub if_rolled : (x : _) → if_of (roll-Conditional x) ≡ lowered.chooses_branch (lowered.branch (truth_of x.condition) (sequence_of x.body.items) (branches_of_list x.others.items)) (sequence_of x.otherwise.items)
 if_rolled x =
     let e = out-roll-Conditional x in

@@ -1,4 +1,5 @@
--- Where elements at literal indexes are.
+-- Proves that an element at a literal index has the same address as the array's place with an
+-- offset.
 use Rattle.std.proofs.Common.{◌≡◌, ℕ, ◌*◌, ◌%◌, ◌^◌, Bool, true, false, List, ℤ, pos, if◌then◌else◌, nat_lt, Some, None, sym, refl, ap, ◌∙◌}
 use Rattle.std.proofs.Math.Nat.{add-mod-mod}
 use Rattle.ob0_tree.specs.Tree.{Tree, items, selector}
@@ -14,7 +15,7 @@ use Rattle.ob0_run_cells.proofs.LoweredOutcomes.{followed_by, same}
 use Rattle.ob0_run_cells.proofs.LoweredPlaces.{element-address, value_at_step-address}
 use Rattle.ob0_run_lowering.specs.OperationCodes.{place_of_element, element_place_at_optional_offset}
 
--- two places that have the same address, in all activations and over all cells
+-- states that two places have the same address in all activations and over all cells
 pub record SamePlace (p q : lowered.Place) : Type 0 where
   pub same_address : (ls : Levels) (cells : List ℤ) → machine.place_address ls cells p ≡ machine.place_address ls cells q
 
@@ -33,7 +34,8 @@ at-index ls cells q _ n s = refl
 pub element-same : (q : lowered.Place) (i : lowered.Number) (n s : ℕ) → SamePlace (place_of_element q i n s) (lowered.element q i n s 0)
 element-same q i n s = record { same_address = λ ls cells. at-index ls cells q i n s }
 
--- what leads from a place leads from one with the same address
+-- if a place is correct code for the first part of a designator, so is a place with the same
+-- address
 pub leads-from : (checked : TypeMeanings Label) (slots : Label → Slot) (p q : lowered.Place) (s : Shape) (rest : Tree Label (items selector)) (whole : OutcomeByMoment Label Place)
     → SamePlace p q → PlaceStartsChain checked slots q s rest whole → PlaceStartsChain checked slots p s rest whole
 leads-from checked slots p q s rest whole e h =

@@ -1,4 +1,5 @@
--- Where what is in scope is placed, and what the code's table has of it.
+-- Proves that placements match environments, and that the table of sites has the places of the
+-- names in scope.
 use Rattle.std.proofs.Common.{◌≡◌, ℕ, suc, ◌+◌, ◌-◌, ◌≤◌, Bool, true, false, List, [], ◌∷◌, ◌++◌, map, Some, option_and_then, refl, sym, ap, ◌∙◌, subst, arith, eqb-true, true≢false}
 use Rattle.ob0_tree.specs.Tree.{Tree, block, constant, declares_constant, declares_type, declares_variable, end, section_after_semicolon, items, more, section, semicolon_then_section, type_definition, variable}
 use Rattle.ob0_language_names.specs.Names.{Label, naming_by_label, as_written, declared, same_ordinal_label}
@@ -35,7 +36,7 @@ pub holds_hidden : (sites : List LoweredSite) (d : ℕ) (xs : List Label) (place
 holds_hidden sites d [] placement h = h
 holds_hidden sites d (x ∷ xs) placement h = holds_hidden sites d xs ((x, nowhere) ∷ placement) (holds_nowhere sites d x placement h)
 
--- one activation further in
+-- sites that match a placement also match it as seen from one level deeper
 
 seen_inward : (d : ℕ) (s : LoweredSite) → depth_of_site s ≤ d → place_seen_from_depth (suc d) s ≡ binding_place_seen_one_level_deeper (place_seen_from_depth d s)
 seen_inward d (site.InActivation at offset) le = let e : suc d - at ≡ suc (d - at) = omega arith in ap (λ up. in_slot (in_activation up offset)) e
@@ -66,7 +67,7 @@ matches_inward [] [] m = tt
 matches_inward (b ∷ env) (w ∷ placement) m = (m.0, suits_inward b.1 w.1 m.1, matches_inward env placement m.2)
 matches_inward _ _ m = absurd m
 
--- names looked up
+-- the place of a name has the right kind for the name's object
 
 matches_found : (env : TypeEnvironment Label) (placement : Placement Label) → PlacementMatchesEnvironment env placement → (x : Label) (o : Object Shape Signature) → newest_object (suffix_from_newest_binding naming_by_label env x) ≡ Some o → PlaceMatchesObject o (place_in_placement placement x)
 matches_found [] [] m x o h = absurd (cc)
@@ -115,7 +116,7 @@ reports_slot d s w slot e h = (subst (SiteMatchesPlace d s) e h).1 ∙ sym e
 reports_target : (d : ℕ) (s : LoweredSite) (w : BindingPlace) (t : Target) → w ≡ at_target t → SiteMatchesPlace d s w → place_seen_from_depth d s ≡ w
 reports_target d s w t e h = (subst (SiteMatchesPlace d s) e h).1 ∙ sym e
 
--- a scene is right at a body whose names are known and whose placing is held
+-- a scene agrees with the checker if it has the object and the place of each name in scope
 pub sees : (scene : Scene) (env : TypeEnvironment Label) (placement : Placement Label) → BindingsAreDeclared (declared_object_in scene.types.now) env → PlacementMatchesEnvironment env placement → SitesMatchPlacement scene.sites.now scene.depth placement → SceneAgreesWithChecker scene (meanings naming_by_label env) (slot_in_placement naming_by_label placement) (target_in_placement naming_by_label placement)
 sees scene env placement known m h = record {
   bound = λ x o e. let f = declared_found (declared_object_in scene.types.now) env known x o e in ap (object_of_label scene.types.now) f.1 ∙ f.2;
@@ -132,7 +133,7 @@ sees scene env placement known m h = record {
       (target_found (suffix_from_latest_binding naming_by_label placement (declared f.0)) ∙ ap target_of_binding_place (sym (reports_target scene.depth (site_in_table scene.sites.now f.0) (place_in_placement placement (declared f.0)) suits.0 (ap (place_in_placement placement) (sym f.1) ∙ suits.1) (h f.0))));
 }
 
--- constants and types
+-- a placement still matches an environment after constants and types are declared
 
 constants_match : (cs : Tree Label (items constant)) (env inner : TypeEnvironment Label) (placement : Placement Label) → declare_constants naming_by_label env cs ≡ Some inner → PlacementMatchesEnvironment env placement → PlacementMatchesEnvironment inner (add_names_without_place (constant_names cs) placement)
 unfolding declare_constants
@@ -154,7 +155,8 @@ first_match b k env first placement h m =
     let f = then_some (declare_constants naming_by_label env (block_constants b)) (λ e. declare_types naming_by_label e k (block_types b)) first h in
     types_match (block_types b) k f.0 first (add_names_without_place (constant_names (block_constants b)) placement) f.2 (constants_match (block_constants b) env f.0 placement f.1 m)
 
--- names of one type
+-- `declared_size` returns the sizes of variables, and a placement still matches an environment
+-- after names of one type are added
 
 one_size : (t : DeclarationTableView) (x : Label) (s : Shape) → ((k : ℕ) × (x ≡ declared k) × (declared_object_in t k ≡ Some (a_variable s))) → declared_size t x ≡ shape_cell_count s
 one_size t x s f = ap (declared_size t) f.1 ∙ ap (λ o. optional_shape_size (type_of_object o)) f.2
@@ -175,7 +177,7 @@ names_match : (at : ℕ → Slot) (size_of : Label → ℕ) (mode : ParameterMod
 names_match at size_of mode [] s env p m = m
 names_match at size_of mode (x ∷ xs) s env p m = names_match at size_of mode xs s ((x, a_variable s) ∷ env) (add_name_to_placement at mode x (size_of x) p) (one_matches at mode x (size_of x) s env p m)
 
--- the variables of a block
+-- a placement still matches an environment after variables are declared
 
 pub groups_match : (at : ℕ → Slot) (size_of : Label → ℕ) (gs : Tree Label (items variable)) (k : ℕ) (env inner : TypeEnvironment Label) (p : PlacementState Label) → declare_typed_variables naming_by_label k gs env ≡ Some inner → PlacementMatchesEnvironment env p.placement → PlacementMatchesEnvironment inner (place_variable_declarations at size_of gs p).placement
 unfolding declare_typed_variables
@@ -184,7 +186,8 @@ groups_match at size_of (more (declares_variable ns u) gs) k env inner p h m =
     let f = then_some (denoted_type (meanings naming_by_label env) k u) (λ s. declare_typed_variables naming_by_label (k + constructor_count u) gs (bind_names (names_in_list ns) (a_variable s) env)) inner h in
     groups_match at size_of gs (k + constructor_count u) (bind_names (names_in_list ns) (a_variable f.0) env) inner (add_declared_names_to_placement at size_of by_value (names_in_list ns) p) f.2 (names_match at size_of by_value (names_in_list ns) f.0 env p m)
 
--- parameters
+-- parameters are placed by their names and sizes, and a placement still matches an environment
+-- after parameters are added
 
 pub typed_before : (objects : ObjectByOrdinal) (ps : List (TypedParameter Label)) (env : TypeEnvironment Label) → BindingsAreDeclared objects (bind_typed_parameters ps env) → BindingsAreDeclared objects env
 typed_before objects [] env a = a

@@ -1,4 +1,4 @@
--- The code of a tree means the tree, wherever the scene is right.
+-- Proves that the code of a tree is correct for it if the scene agrees with the checker.
 use Rattle.std.proofs.Common.{◌≡◌, ℕ, Bool, true, ℤ, pos, Some, None, Option, option_and_then, option_map, sym, refl, ap, ◌∙◌, subst}
 use Rattle.ob0_tree.specs.Tree.{Tree, addend, adds, compares, designator, end, expression, factor, field, index, integer, item, items, more, multiplier, multiplies, negation, none, one, parenthesised, product, relates, selector, simple, sum, term}
 use Rattle.ob0_tree.specs.TokenIndexLeaves.{token_value_at}
@@ -28,7 +28,7 @@ use Rattle.ob0_run_lowering.proofs.CodesMean.{CodeLeads, addition_code-leads, ad
 abbrev found_at : lowered.Place → Shape → PlaceWithShape
 found_at q s = record { place = q; shape = s }
 
--- a constant has no selectors
+-- a number or a truth value with a selector has no type
 
 integer-alone : {N P : Type 0} (meaning : Meanings N Shape P) (s : Tree N (item selector)) (rest : Tree N (items selector)) → type_after_selectors meaning integer_shape (more s rest) ≡ None
 unfolding type_of_expression
@@ -45,7 +45,7 @@ unfolding type_of_expression
 type-end meaning x s h = some_inverse h
 
 module _ (checked : TypeMeanings Label) (slots : Label → Slot) where
-  -- the code of a constant
+  -- the literal of a constant's value is correct code for the constant
 
   number-constant : (x : Label) (n : ℤ) (path : Tree Label (items selector)) (s : Shape) → checked.object_for x ≡ Some (a_constant (number n)) → type_after_selectors checked integer_shape path ≡ Some s
       → CodeHasOutcome checked slots (a_number (lowered.literal n)) s (value_of_factor (designator x path))
@@ -63,7 +63,7 @@ module _ (checked : TypeMeanings Label) (slots : Label → Slot) where
   constant-means x (truth b) path s e h = truth-constant x b path s e h
   constant-means x _ path s e h = absurd (cc)
 
-  -- what is at the place of a designator
+  -- the code of the value at a designator's place is correct for the designator
 
   place-means : (x : Label) (v : Shape) (path : Tree Label (items selector)) (q : lowered.Place) (s : Shape) → checked.object_for x ≡ Some (a_variable v) → PlaceHasOutcome checked slots q s (place_of_designator x path)
       → CodeHasOutcome checked slots (code_of_value_at_place q s) s (value_of_factor (designator x path))
@@ -72,7 +72,8 @@ module _ (checked : TypeMeanings Label) (slots : Label → Slot) where
   place-means x v path q (array_shape k n t) e h = (refl, places.block-designator checked slots q (array_shape k n t) x v path e h)
   place-means x v path q (record_shape k fs) e h = (refl, places.block-designator checked slots q (record_shape k fs) x v path e h)
 
-  -- one selector
+  -- a well-typed selector has a place, from which the remaining selectors lead to the whole
+  -- designator
 
   field-step : checked.written ≡ label_text → (q : lowered.Place) (z : Shape) (x : Label) (t : Shape) (rest : Tree Label (items selector)) (whole : OutcomeByMoment Label Place)
       → PlaceStartsChain checked slots q z (more (field x) rest) whole → field_type z (checked.written x) ≡ Some t
@@ -98,13 +99,13 @@ module _ (checked : TypeMeanings Label) (slots : Label → Slot) where
   element-step c q _ _ t e rest whole leads h hc = absurd (cc)
 
 module _ (scene : Scene) (checked : TypeMeanings Label) (slots : Label → Slot) (targets : Label → Target) (sees : SceneAgreesWithChecker scene checked slots targets) where
-  -- the place at the end of a path
+  -- states that well-typed selectors have a place, which is correct code for the whole designator
   abbrev Selected : Tree ℕ (items selector) → Type 0
   Selected path =
       (q : lowered.Place) (z s : Shape) (whole : OutcomeByMoment Label Place) → PlaceStartsChain checked slots q z (tree_with_labels scene.resolved.now path) whole → type_after_selectors checked z (tree_with_labels scene.resolved.now path) ≡ Some s
       → (p : lowered.Place) × (selected_place scene (Some (found_at q z)) (tree_with_labels scene.resolved.now path) ≡ Some (found_at p s)) × PlaceHasOutcome checked slots p s whole
 
-  -- the place of a variable with its selectors
+  -- a variable with well-typed selectors has a place, which is correct code for the designator
   variable-means : (x : Label) (path : Tree ℕ (items selector)) (s v : Shape) → Selected path → checked.object_for x ≡ Some (a_variable v) → type_after_selectors checked v (tree_with_labels scene.resolved.now path) ≡ Some s
       → (q : lowered.Place) × (selected_place scene (variable_place_of_label scene x) (tree_with_labels scene.resolved.now path) ≡ Some (found_at q s)) × PlaceHasOutcome checked slots q s (place_of_designator x (tree_with_labels scene.resolved.now path))
   variable-means x path s v selected e h =

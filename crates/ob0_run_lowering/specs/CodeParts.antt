@@ -16,8 +16,8 @@ abbrev pub IsNumberInCode : LoweredExpression → Number → Type 0
 IsNumberInCode (code.Number m) n = m ≡ n
 IsNumberInCode _ n = Unit {0}
 
--- States that `t` is the lowered condition, if the expression was lowered to a condition. Holds for
--- any other code.
+-- States that `t` is the truth in an expression's code, if this code is a truth. Claims nothing
+-- about other code.
 abbrev pub IsTruthInCode : LoweredExpression → Truth → Type 0
 IsTruthInCode (code.Truth u) t = u ≡ t
 IsTruthInCode _ t = Unit {0}
