@@ -282,8 +282,8 @@ module _ (D : ℕ → Name → Type 0) where
       else-known none h = tt
       else-known (one (else_branch statements)) h = sequence-known statements h
 
-  -- `D` holds for the fields of a denoted type if it holds for the fields that the written type
-  -- declares.
+  -- If `D` holds for the fields that a written type declares and for the fields of all named types,
+  -- it holds for the fields of the denoted type.
 
   further-listed : (r : Role) (k : ℕ) (xs : Tree Name (items name_after_comma)) (s : Shape) (rest : FieldShapes) → KnownNames (identifiers r (mark_all_names (declares_field k) xs)) → KnownShape s → KnownFields k rest → KnownFields k (prepend_fields (map (λ x. x) (names_after_first xs)) s rest)
   further-listed r k end s rest h hs hr = hr

@@ -165,8 +165,8 @@ pub add_variables_to_frame-places : (xs : List Name) (v : Value) (env : RunEnvir
 add_variables_to_frame-places [] v env store = refl
 add_variables_to_frame-places (x ∷ xs) v env store = add_variables_to_frame-places xs v ((x, a_variable record { variable = length store; path = [] }) ∷ env) (store ++ v ∷ [])
 
--- If none of the names is the edited constant, adding variables for them to the frames before and
--- after the edit gives the two frames of the same marks and store.
+-- If no name is the edited constant, adding variables for the names to the frames before and after
+-- the edit gives the two frames of the same marks and store.
 pub allocated : (edit : Edit) (w : Value) (k : ℕ) (xs : List Name) (v : Value) (f : MarkedFrame) → Run_sound edit w k f.marks → 7 ≤ k → Outside edit k (ordinal_after_names k xs)
     → LeftRun edit w (ordinal_after_names k xs) (declare_names k xs (scope_marked f.marks)) (Some (bind_names xs non_constant_placeholder (knowns f.marks))) (mark_all k (places xs v f.store) f.marks)
     × (add_variables_to_frame xs v (frame_before f) ≡ frame_before record { marks = mark_all k (places xs v f.store) f.marks; store = stored xs v f.store })

@@ -209,8 +209,7 @@ plain-parameters noted k (p ∷ ps) below =
     let own : TypeNoted Name = record { name = p.name; ordinal = k; object = o } ∷ noted in
     plain-then noted own (noted_parameters (suc k) ps own) k (p.name ∷ []) (typed_names ps) (plain-one noted k p.name o refl below) (plain-parameters own (suc k) ps (le_refl (suc k), below))
 
--- holds if `env` is the environment after the declarations of `names`, none of which declares a
--- constant
+-- holds if `env` is the environment after the declarations of `names`, which declare no constant
 abbrev pub LeavesPlain : TypeNoted Name → ℕ → List Name → TypeEnvironment Label → Type 0
 LeavesPlain noted k names env = (after : TypeNoted Name) × (env ≡ typed_by_ordinal after) × Plain noted k names after
 

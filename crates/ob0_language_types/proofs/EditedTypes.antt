@@ -90,7 +90,7 @@ unfolding body_is_well_typed
 body_is_well_typed-edited edit w lit n marks s j none here = refl
 body_is_well_typed-edited edit w lit n marks s j (one (begins statements)) here = sequence-leaf edit w lit n marks s j statements here
 
--- If none of the names is the edited constant, binding them as variables of one type gives the
+-- If no name is the edited constant, binding the names as variables of one type gives the
 -- environment of their marks, both before and after the edit.
 pub typed-names : (edit : Edit) (w : Value) (k : ℕ) (xs : List Name) (shape : Shape) (marks : Marks Shape Signature) → Checked edit w k marks → 7 ≤ k → Outside edit k (ordinal_after_names k xs)
     → LeftTyped edit w (ordinal_after_names k xs) (declare_names k xs (scope_marked marks)) (Some (bind_names xs non_constant_placeholder (knowns marks))) (mark_all k (with_value shape xs) marks)

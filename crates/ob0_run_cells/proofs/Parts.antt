@@ -90,7 +90,7 @@ value_at_step-lies _ _ step t h e = absurd h
 -- the value at the end of a path lies in the cells of the whole value
 
 -- states that a path leads to a value of the type `t`, and that this value lies in the cells of the
--- whole value `v`, where it can be replaced
+-- whole value `v` and can be replaced there
 abbrev pub PathLies : List PathStep → Value → Shape → Shape → Type 0
 PathLies path v s t =
     (w : Value) × (value_at_path path v ≡ Some w) × HasShape w t × (write : Value → Value) × ((new : Value) → with_value_at_path path new v ≡ Some (write new)) × Lies cells_of v w write (path_offset path s)

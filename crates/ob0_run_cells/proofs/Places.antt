@@ -28,7 +28,7 @@ variable-lies (t ∷ typing) (v ∷ store) (suc n) s h e =
 variable-lies _ _ n s h e = absurd h
 
 -- states that a place holds a value of the type `s`, and that this value lies in the cells of the
--- store at the place's address, where it can be replaced
+-- store at the place's address and can be replaced there
 abbrev pub PlaceLies : StoreTyping → Store → Place → Shape → Type 0
 PlaceLies typing store p s =
     (v : Value) × (read_place store p ≡ Some v) × HasShape v s × (write : Value → Store) × ((new : Value) → write_place store p new ≡ Some (write new)) × ((new : Value) → HasShape new s → StoreHasTypes typing (write new))

@@ -42,6 +42,6 @@ noted-declared all n (b ∷ noted) below st = (
   noted-declared all b.ordinal noted below.1 (tail-included all b.ordinal b.object noted below.1 st),
 )
 
--- in a well-typed module, the bindings of each environment are those of the declarations
+-- each binding in the environments of a well-typed module has the object of its declaration
 pub module-declared : (m : Tree Name module_text) → WellTyped m → BlockBindingsAreDeclared (object_of_ordinal (module_bindings naming_by_label (numbered m))) (outermost_environment naming_by_label) 0 (module_block (numbered m))
 module-declared m = module-has (BindingsAreDeclared (object_of_ordinal (module_bindings naming_by_label (numbered m)))) m (noted-declared (module_bindings naming_by_label (numbered m)))

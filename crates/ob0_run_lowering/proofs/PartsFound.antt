@@ -34,8 +34,8 @@ at-index ls cells q _ n s = refl
 pub element-same : (q : lowered.Place) (i : lowered.Number) (n s : ℕ) → SamePlace (place_of_element q i n s) (lowered.element q i n s 0)
 element-same q i n s = record { same_address = λ ls cells. at-index ls cells q i n s }
 
--- if a place is correct code for the first part of a designator, so is a place with the same
--- address
+-- if a place is correct code for the first part of a designator, any place with the same address is
+-- also correct code for it
 pub leads-from : (checked : TypeMeanings Label) (slots : Label → Slot) (p q : lowered.Place) (s : Shape) (rest : Tree Label (items selector)) (whole : OutcomeByMoment Label Place)
     → SamePlace p q → PlaceStartsChain checked slots q s rest whole → PlaceStartsChain checked slots p s rest whole
 leads-from checked slots p q s rest whole e h =
