@@ -579,8 +579,9 @@ module-evaluates (forms_module x b closing) h d l =
     let w = block-evaluates predeclared_constants (typed_outermost naming_by_spelling) 0 7 (knows-all (typed_outermost naming_by_spelling)) predeclared-below b h in
     w.has_value_is d l ∙ sym (ap value_of_constant_object (bound-first 0 7 d (block_bindings naming_by_label (outermost_environment naming_by_label) 0 (relabel_block naming_by_spelling (label_from_ordinal naming_by_spelling) (typed_scope (typed_outermost naming_by_spelling)) 7 b)) (outermost_environment naming_by_label) outermost-binds (λ a z. omega (arith, l, z))))
 
--- `constant_value_in_module` returns None for an ordinal below 7. In a well-typed module, it returns
--- for any other ordinal the value of the constant that has it, or None if there is no such constant.
+-- `constant_value_in_module` returns None for an ordinal below 7. In a well-typed module, it
+-- returns for any other ordinal the value of the constant that has it, or None if there is no such
+-- constant.
 pub predeclared-none : (m : Tree Name module_text) (d : ℕ) → d < 7 → None ≡ constant_value_in_module m d
 unfolding constant_value_in_module
 predeclared-none m d l = sym (ap (λ t. if t then None else constant_value_in_block predeclared_constants d 7 (module_block m)) (lt-ltb d 7 l))
