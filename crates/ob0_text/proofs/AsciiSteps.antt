@@ -1,12 +1,12 @@
 -- Proves that a pass preserves `PositionsCanBeCountedInRest` at a step over an ASCII byte, which is
 -- a character by itself.
-use Rattle.std.proofs.Common.{◌≡◌, ℕ, suc, ◌+◌, ◌<◌, ◌||◌, false, List, ◌∷◌, ◌++◌, length, drop, get_or, sym, ap, ◌∙◌, subst, eq-eqb, arith}
+use Rattle.std.proofs.lemmas.Grind.{common_steps}
+use Rattle.std.proofs.Common.{◌≡◌, ℕ, ◌+◌, ◌<◌, ◌||◌, false, List, ◌++◌, length, drop, get_or, subst, eq-eqb, arith}
 use Rattle.std.specs.Prelude.{◌==◌, encode_utf8}
 use Rattle.std.specs.Char.{len_utf8}
 use Rattle.std.specs.Str.{chars}
-use Rattle.std.proofs.Math.Seq.{drop-cons}
 use Rattle.std.proofs.lemmas.Bool.Decides.{nat_tests}
-use Rattle.std.proofs.lemmas.Str.{encode_ascii, len_utf8_ascii}
+use Rattle.std.proofs.lemmas.Str.{len_utf8_ascii}
 use Rattle.ob0_text.specs.declared.position_types.Unit.{Unit}
 use Rattle.ob0_text.specs.declared.position_types.Unit.TheVariants.{Utf16, Utf8}
 use Rattle.ob0_text.specs.Texts.{LF, CR, utf16_width}
@@ -29,13 +29,11 @@ module _ (u : Unit) (text : List ℕ) (offset line character : ℕ) (h : Positio
 
   begins : drop offset text ≡ encode_utf8 byte ++ drop (offset + 1) text
   unfolding byte
-  begins =
-      let up : suc offset ≡ offset + 1 = omega arith in
-      drop-cons text offset 0 inside ∙ ap (λ n. get_or text offset 0 ∷ drop n text) up ∙ sym (ap (λ bs. bs ++ drop (offset + 1) text) (encode_ascii (get_or text offset 0) low))
+  begins = grind (arith, common_steps)
 
   one_byte : offset + len_utf8 byte ≡ offset + 1
   unfolding byte
-  one_byte = ap (λ n. offset + n) (len_utf8_ascii (get_or text offset 0) low)
+  one_byte = grind (arith, common_steps)
 
   pub counted_past_lf : get_or text offset 0 ≡ LF → PositionsCanBeCountedInRest (width_of u) text (drop (offset + 1) text) (offset + 1) (line + 1) 0
   unfolding byte

@@ -1,5 +1,6 @@
 -- Proves that pieces of a line can be cut and joined.
-use Rattle.std.proofs.Common.{◌≡◌, ℕ, ◌+◌, ◌-◌, ◌≤◌, ◌++◌, List, [], length, take, drop, sym, ap, ◌∙◌, subst, arith, drop-drop, length-append, length-take-le, take-append-drop}
+use Rattle.std.proofs.lemmas.Grind.{common_steps}
+use Rattle.std.proofs.Common.{◌≡◌, ℕ, ◌+◌, ◌-◌, ◌≤◌, ◌++◌, List, length, take, drop, sym, ap, ◌∙◌, subst, arith, drop-drop, length-append, length-take-le}
 use Rattle.std.specs.List.{All}
 use Rattle.std.specs.Str.{IsUtf8, chars}
 use Rattle.std.proofs.Math.Seq.{take-add, take-append_seam}
@@ -24,19 +25,10 @@ joined_cut text from middle to low high =
     ∙ ap (λ t. take n (drop from text) ++ take m t) (drop-drop n from text ∙ ap (λ k. drop k text) here)
 
 pub as_piece : (width : ℕ → ℕ) (text : List ℕ) (from : ℕ) (s : Stretch) → IsStretch width text from s → IsPieceOfLine width text from s
-as_piece width text from s is = record { ordered = omega (arith, is.further); inside = is.inside; whole = is.whole; in_one_line = is.in_one_line }
+as_piece width text from s is = grind (arith, common_steps)
 
 pub empty_piece : (width : ℕ → ℕ) (text : List ℕ) (start : ℕ) (s : Stretch) → start ≤ length text → s.end ≡ start → s.units ≡ 0 → IsPieceOfLine width text start s
-empty_piece width text start s inside here none =
-    let none_long : s.end - start ≡ 0 = omega (arith, here) in
-    let nothing : cut text start s.end ≡ [] = ap (λ n. take n (drop start text)) none_long in
-    record {
-      ordered = omega (arith, here);
-      inside = omega (arith, here, inside);
-      whole = subst IsUtf8 (sym nothing) IsUtf8-nil;
-      in_one_line = subst (λ t. AreInOneLineWithUnits width (chars t) s.units) (sym nothing)
-          (subst (λ t. AreInOneLineWithUnits width t s.units) (sym chars-nil) (record { no_line_break = All-nil IsNotLineBreak; width_sum = sym none }));
-    }
+empty_piece width text start s inside here none = grind (arith, common_steps, IsUtf8-nil, chars-nil, All-nil)
 
 pub piece_joined : (width : ℕ → ℕ) (text : List ℕ) (start : ℕ) (s next whole : Stretch) → IsPieceOfLine width text start s → IsStretch width text s.end next → whole.end ≡ next.end → whole.units ≡ s.units + next.units → IsPieceOfLine width text start whole
 piece_joined width text start s next whole is more end units =
@@ -71,7 +63,7 @@ piece_cut width text start s less last is low high whole gone units =
     }
 
 shorter : (n m : ℕ) (xs : List ℕ) → n ≤ m → m ≤ length xs → take n (take m xs) ≡ take n xs
-shorter n m xs less hx = sym (take-append-le n (take m xs) (drop m xs) (omega (arith, length-take-le m xs hx, less))) ∙ ap (take n) (take-append-drop m xs)
+shorter n m xs less hx = grind (arith, common_steps)
 
 -- A piece that ends at or before an offset is still a piece if the text changes only after that
 -- offset.

@@ -1,13 +1,14 @@
 -- Proves that binary search finds the number of a table's starts before an offset.
+use Rattle.std.proofs.lemmas.Grind.{common_steps}
 use Rattle.std.proofs.Common.{◌≡◌, ℕ, ◌-◌, ◌+◌, ◌<◌, ◌≤◌, Bool, true, false, List, ◌++◌, length, get_or, refl, sym, ap, ◌∙◌, subst, length-append, arith}
 use Rattle.std.specs.Prelude.{nat_lt}
 use Rattle.std.proofs.lemmas.Bool.{ltb-true, ltb-false}
-use Rattle.std.proofs.lemmas.List.{get_or_append_left, get_or-append_right}
+use Rattle.std.proofs.lemmas.List.{get_or-append_right}
 use Rattle.ob0_text.specs.LineStarts.{AreAllBelow, AreAllAtLeast}
 
 module _ (xs front back : List ℕ) (n : ℕ) (is : xs ≡ front ++ back) (under : AreAllBelow n front) (from : AreAllAtLeast n back) where
   pub before : (i : ℕ) → i < length front → get_or xs i 0 < n
-  before i low = subst (λ v. v < n) (sym (ap (λ t. get_or t i 0) is ∙ get_or_append_left front back 0 i low)) (under i low)
+  before i low = grind (arith, common_steps)
 
   after : (i : ℕ) → length front ≤ i → i < length xs → n ≤ get_or xs i 0
   after i up inside =
@@ -16,18 +17,10 @@ module _ (xs front back : List ℕ) (n : ℕ) (is : xs ≡ front ++ back) (under
 
   -- A start below the offset is in the first part of the table.
   pub in_front : (i : ℕ) → i < length xs → get_or xs i 0 < n → i < length front
-  in_front i inside low = by_side (nat_lt i (length front)) refl
-    where
-      by_side : (b : Bool) → nat_lt i (length front) ≡ b → i < length front
-      by_side true e = ltb-true i (length front) e
-      by_side false e = absurd (omega (arith, low, after i (ltb-false i (length front) e) inside))
+  in_front i inside low = grind (arith, common_steps, ltb-true, after, ltb-false)
 
   pub not_in_front : (i : ℕ) → n ≤ get_or xs i 0 → length front ≤ i
-  not_in_front i up = by_side (nat_lt i (length front)) refl
-    where
-      by_side : (b : Bool) → nat_lt i (length front) ≡ b → length front ≤ i
-      by_side true e = absurd (omega (arith, up, before i (ltb-true i (length front) e)))
-      by_side false e = ltb-false i (length front) e
+  not_in_front i up = grind (arith, common_steps)
 
 -- At least as many starts are before a later offset as before an earlier one.
 pub more_later : (xs front back front' back' : List ℕ) (n m : ℕ) → xs ≡ front ++ back → AreAllBelow n front → AreAllAtLeast n back → xs ≡ front' ++ back' → AreAllBelow m front' → AreAllAtLeast m back' → n ≤ m → length front ≤ length front'

@@ -1,6 +1,7 @@
 -- Proves that a pass to an offset or a position may begin at the start of any line that isn't after
 -- it.
-use Rattle.std.proofs.Common.{◌≡◌, ℕ, zero, suc, ◌+◌, ◌-◌, ◌<◌, ◌≤◌, min, length-append, Bool, true, false, List, [], ◌∷◌, ◌++◌, length, get_or, take, drop, map, refl, sym, ap, ◌∙◌, subst, arith}
+use Rattle.std.proofs.lemmas.Grind.{common_steps}
+use Rattle.std.proofs.Common.{◌≡◌, ℕ, suc, ◌+◌, ◌-◌, ◌<◌, ◌≤◌, min, length-append, Bool, true, false, List, [], ◌∷◌, ◌++◌, length, get_or, take, drop, map, refl, sym, ap, ◌∙◌, subst, arith}
 use Rattle.std.specs.Prelude.{encode_utf8_all, ◌==◌}
 use Rattle.std.proofs.lemmas.Bool.{eqb-true}
 use Rattle.std.proofs.lemmas.Bool.Decides.{nat_tests}
@@ -26,8 +27,7 @@ abbrev AtEach : (ℕ → ℕ → Type 0) → ℕ → List ℕ → Type 0
 AtEach P line starts = (k : ℕ) → k < length starts → P (get_or starts k 0) (line + k)
 
 at_next : (P : ℕ → ℕ → Type 0) (line s : ℕ) (starts : List ℕ) → P s line → AtEach P (line + 1) starts → AtEach P line (s ∷ starts)
-at_next P line s starts here more zero h = subst (P s) (omega arith) here
-at_next P line s starts here more (suc k) h = subst (P (get_or starts k 0)) (omega arith) (more k (omega arith))
+at_next P line s starts h1 h2 h3 h4 = grind (arith, common_steps)
 
 module _ (width : ℕ → ℕ) (narrow : (c : ℕ) → width c ≤ len_utf8 c) (text : List ℕ) where
   abbrev pub StartsLine : ℕ → ℕ → Type 0

@@ -1,8 +1,9 @@
 -- Proves laws about a table of starts whose later part is counted from the text's end.
+use Rattle.std.proofs.lemmas.Grind.{common_steps}
 use Rattle.std.proofs.Common.{◌≡◌, ℕ, suc, ◌+◌, ◌-◌, ◌<◌, ◌≤◌, List, [], ◌∷◌, ◌++◌, length, take, drop, map, reverse, get_or, refl, sym, ap, ◌∙◌, subst, arith, append_assoc, length-append, length-drop}
 use Rattle.std.proofs.Math.Seq.{drop-append_seam, get_or-append_seam, take-append_seam}
 use Rattle.std.specs.Str.{IsUtf8, chars}
-use Rattle.std.proofs.lemmas.List.{drop-drop, drop-map, length-map, length-reverse, length-take-le, reverse-append, take-append-drop}
+use Rattle.std.proofs.lemmas.List.{drop-drop, drop-map, length-reverse, length-take-le, reverse-append, take-append-drop}
 use Rattle.ob0_text.specs.Texts.{LF}
 use Rattle.ob0_text.specs.LineStarts.{AreAllAtLeast, AreAllBelow, IsCountOfStartsBefore, line_starts, line_starts_after_bytes, starts_in_front_and_back}
 use Rattle.ob0_text.proofs.StartLaws.{following-from, following-under, table, table-split}
@@ -15,25 +16,18 @@ from_end len d = len - d
 
 -- The number of starts is the sum of the lengths of both parts.
 pub length-starts_in_front_and_back : (len : ℕ) (front back : List ℕ) → length (starts_in_front_and_back len front back) ≡ length front + length back
-length-starts_in_front_and_back len front back =
-    length-append front (map (from_end len) (reverse back)) ∙ ap (λ n. length front + n) (length-map (reverse back) (from_end len) ∙ length-reverse back)
+length-starts_in_front_and_back len front back = grind (arith, common_steps)
 
 flipped : (x : ℕ) (xs : List ℕ) → reverse (xs ++ (x ∷ [])) ≡ x ∷ reverse xs
 flipped x xs = reverse-append xs (x ∷ [])
 
 -- Moving a start from the front to the back changes no start.
 pub moved_left : (len : ℕ) (front back : List ℕ) (s d : ℕ) → d ≡ len - s → s ≤ len → starts_in_front_and_back len front (back ++ (d ∷ [])) ≡ starts_in_front_and_back len (front ++ (s ∷ [])) back
-moved_left len front back s d is within =
-    let again : len - d ≡ s = omega (arith, is, within) in
-    ap (λ xs. front ++ map (from_end len) xs) (flipped d back)
-    ∙ (ap (λ x. front ++ (x ∷ map (from_end len) (reverse back))) again
-    ∙ sym (append_assoc front (s ∷ []) (map (from_end len) (reverse back))))
+moved_left len front back s d is within = grind (arith, common_steps)
 
 -- Moving a start from the back to the front changes no start.
 pub moved_right : (len : ℕ) (front back : List ℕ) (d : ℕ) → starts_in_front_and_back len (front ++ ((len - d) ∷ [])) back ≡ starts_in_front_and_back len front (back ++ (d ∷ []))
-moved_right len front back d =
-    append_assoc front ((len - d) ∷ []) (map (from_end len) (reverse back))
-    ∙ ap (λ xs. front ++ map (from_end len) xs) (sym (flipped d back))
+moved_right len front back d = grind (arith, common_steps)
 
 -- The last start of the front is below the bound that all starts are below.
 pub last_within : (len bound : ℕ) (starts front back : List ℕ) (s : ℕ) → AreAllBelow bound starts → starts_in_front_and_back len (front ++ (s ∷ [])) back ≡ starts → s < bound
@@ -45,8 +39,7 @@ last_within len bound starts front back s under is =
 
 -- No start of a text is after its end.
 pub all_within : (bs : List ℕ) → IsUtf8 bs → AreAllBelow (length bs + 1) (line_starts (chars bs))
-all_within bs u =
-    subst (AreAllBelow (length bs + 1)) (sym (table bs u)) (following-under 0 (length bs + 1) (LF ∷ bs) [] (omega arith))
+all_within bs u = grind (arith, common_steps, table, following-under)
 
 -- Dropping the first starts of the back part is taking a prefix of its stored list.
 dropped_back : (back : List ℕ) (gone : ℕ) → gone ≤ length back → drop gone (reverse back) ≡ reverse (take (length back - gone) back)

@@ -1,5 +1,6 @@
 -- Proves that the byte offsets at which lines start can be found byte by byte.
-use Rattle.std.proofs.Common.{◌≡◌, ℕ, zero, suc, ◌+◌, ◌-◌, ◌<◌, ◌≤◌, Bool, true, false, not, ◌&&◌, ◌||◌, List, [], ◌∷◌, ◌++◌, length, get_or, take, drop, map, refl, sym, ap, ◌∙◌, subst, append_assoc, length-append, arith, eqb, add-one, drop-cons}
+use Rattle.std.proofs.lemmas.Grind.{common_steps}
+use Rattle.std.proofs.Common.{◌≡◌, ℕ, suc, ◌+◌, ◌-◌, ◌<◌, ◌≤◌, Bool, true, false, not, ◌&&◌, ◌||◌, List, [], ◌∷◌, ◌++◌, length, get_or, take, drop, map, refl, sym, ap, ◌∙◌, append_assoc, length-append, arith, eqb, add-one, drop-cons}
 use Rattle.std.specs.Prelude.{encode_utf8, encode_utf8_all, ◌==◌, nat_lt, if◌then◌else◌, option_to_list, slice_get}
 use Rattle.std.proofs.lemmas.Bool.{ltb-true, ltb-false}
 use Rattle.std.proofs.lemmas.List.{take-append-drop, length-take-le, drop_more}
@@ -15,8 +16,7 @@ use Rattle.ob0_text.proofs.FirstBytes.{lf_byte}
 use Rattle.ob0_text.proofs.PlaceSteps.{byte_len-cons}
 
 pub append_nil : (xs : List ℕ) → xs ++ [] ≡ xs
-append_nil [] = refl
-append_nil (x ∷ xs) = ap (λ t. x ∷ t) (append_nil xs)
+append_nil xs = grind (arith, common_steps)
 
 -- If the first byte ends a line, the offset after it is a start.
 pub following-starts : (at b : ℕ) (bs next : List ℕ) → ends_line b (bs ++ next) ≡ true → line_starts_after_bytes at (b ∷ bs) next ≡ at ∷ line_starts_after_bytes (suc at) bs next
@@ -72,8 +72,7 @@ following-moved at there to by (x ∷ xs) next up e =
 
 -- A list whose numbers are at least `suc at`, with `at` in front, has numbers of at least `at`.
 from_next : (at : ℕ) (ns : List ℕ) → AreAllAtLeast (suc at) ns → AreAllAtLeast at (at ∷ ns)
-from_next at ns more zero h = omega arith
-from_next at ns more (suc k) h = let here : suc at ≤ get_or ns k 0 = more k (omega arith) in omega (arith, here)
+from_next at ns h1 h2 h3 = grind (arith, common_steps)
 
 pub following-from : (at : ℕ) (xs next : List ℕ) → AreAllAtLeast at (line_starts_after_bytes at xs next)
 unfolding line_starts_after_bytes
@@ -85,8 +84,7 @@ following-from at (x ∷ xs) next =
     ]
 
 under_next : (at bound : ℕ) (ns : List ℕ) → at < bound → AreAllBelow bound ns → AreAllBelow bound (at ∷ ns)
-under_next at bound ns low more zero h = low
-under_next at bound ns low more (suc k) h = more k (omega arith)
+under_next at bound ns h1 h2 h3 h4 = grind (arith, common_steps)
 
 pub following-under : (at bound : ℕ) (xs next : List ℕ) → at + length xs ≡ bound → AreAllBelow bound (line_starts_after_bytes at xs next)
 unfolding line_starts_after_bytes
@@ -114,9 +112,7 @@ lf_first (b ∷ bs) = refl
 
 ends_line-encoded : (c : ℕ) (cs : List ℕ) → ends_line c (encode_utf8_all cs ++ []) ≡ ends_line c cs
 unfolding ends_line
-ends_line-encoded c cs =
-    let same : starts_with_lf (encode_utf8_all cs ++ []) ≡ starts_with_lf cs = ap starts_with_lf (append_nil (encode_utf8_all cs)) ∙ lf_first (encode_utf8_all cs) ∙ sym (lf_byte cs (encode_utf8_all cs) refl) in
-    ap (λ b. c == LF || (c == CR && not b)) same
+ends_line-encoded c cs = grind (arith, common_steps, append_nil, lf_first, lf_byte)
 
 -- Returns the byte offsets after each line ending of a text, found character by character.
 unfoldable pub following_ends : ℕ → List ℕ → List ℕ
@@ -144,31 +140,10 @@ high_bytes c k up l = by_low (nat_lt (get_or (encode_utf8 c) k 0) 128) refl
     by_low false e = ltb-false (get_or (encode_utf8 c) k 0) 128 e
 
 one_byte : (at c : ℕ) (cs : List ℕ) → c < 128 → line_starts_after_bytes (suc (at + len_utf8 c)) (encode_utf8_all cs) [] ≡ following_ends (at + len_utf8 c) cs → line_starts_after_bytes (suc at) (encode_utf8_all (c ∷ cs)) [] ≡ following_ends at (c ∷ cs)
-one_byte at c cs low more = by_end (ends_line c cs) refl
-  where
-    bytes : encode_utf8_all (c ∷ cs) ≡ c ∷ encode_utf8_all cs
-    bytes = ap (λ t. t ++ encode_utf8_all cs) (encode_ascii c low)
-
-    next : at + len_utf8 c ≡ suc at
-    next = ap (λ n. at + n) (len_utf8_ascii c low) ∙ omega arith
-
-    rest : line_starts_after_bytes (suc (suc at)) (encode_utf8_all cs) [] ≡ following_ends (at + len_utf8 c) cs
-    rest = ap (λ k. line_starts_after_bytes (suc k) (encode_utf8_all cs) []) (sym next) ∙ more
-
-    by_end : (b : Bool) → ends_line c cs ≡ b → line_starts_after_bytes (suc at) (encode_utf8_all (c ∷ cs)) [] ≡ following_ends at (c ∷ cs)
-    by_end true e =
-        ap (λ t. line_starts_after_bytes (suc at) t []) bytes ∙ following-starts (suc at) c (encode_utf8_all cs) [] (ends_line-encoded c cs ∙ e)
-        ∙ (λ i. sym next i ∷ rest i) ∙ sym (ends-here at c cs e)
-    by_end false e =
-        ap (λ t. line_starts_after_bytes (suc at) t []) bytes ∙ following-none (suc at) c (encode_utf8_all cs) [] (ends_line-encoded c cs ∙ e)
-        ∙ rest ∙ sym (ends-on at c cs e)
+one_byte at c cs low more = grind (arith, common_steps, encode_ascii, len_utf8_ascii, following-starts, ends_line-encoded, ends-here, following-none, ends-on)
 
 more_bytes : (at c : ℕ) (cs : List ℕ) → 128 ≤ c → line_starts_after_bytes (suc (at + len_utf8 c)) (encode_utf8_all cs) [] ≡ following_ends (at + len_utf8 c) cs → line_starts_after_bytes (suc at) (encode_utf8_all (c ∷ cs)) [] ≡ following_ends at (c ∷ cs)
-more_bytes at c cs up more =
-    let plain : (c == LF || c == CR) ≡ false = grind (arith, nat_tests) in
-    let long : suc at + length (encode_utf8 c) ≡ suc (at + len_utf8 c) = omega (arith, length-encode c) in
-    skipped (suc at) (encode_utf8 c) (encode_utf8_all cs) [] (λ k l. high_bytes c k up l)
-    ∙ ap (λ k. line_starts_after_bytes k (encode_utf8_all cs) []) long ∙ more ∙ sym (ends-on at c cs (no_line_end c cs plain))
+more_bytes at c cs up more = grind (arith, common_steps, nat_tests, length-encode, skipped, high_bytes, ends-on, no_line_end)
 
 pub ends-bytes : (at : ℕ) (cs : List ℕ) → line_starts_after_bytes (suc at) (encode_utf8_all cs) [] ≡ following_ends at cs
 unfolding line_starts_after_bytes following_ends
@@ -185,11 +160,7 @@ byte_len-append xs ys = ap length (encodes-append xs ys) ∙ length-append (enco
 
 longer_first : (at c : ℕ) (cs : List ℕ) (l l' : Line) (ls : List Line) → lines cs ≡ l ∷ ls → byte_len (line_with_ending l') ≡ len_utf8 c + byte_len (line_with_ending l) → line_starts_from (at + len_utf8 c) (lines cs) ≡ (at + len_utf8 c) ∷ following_ends (at + len_utf8 c) cs → line_starts_from at (l' ∷ ls) ≡ at ∷ following_ends (at + len_utf8 c) cs
 unfolding line_starts_from
-longer_first at c cs l l' ls is long more =
-    let both : line_starts_from (at + len_utf8 c) (l ∷ ls) ≡ (at + len_utf8 c) ∷ following_ends (at + len_utf8 c) cs = ap (line_starts_from (at + len_utf8 c)) (sym is) ∙ more in
-    let rest : line_starts_from (at + len_utf8 c + byte_len (line_with_ending l)) ls ≡ following_ends (at + len_utf8 c) cs = ap (drop 1) both in
-    let there : at + byte_len (line_with_ending l') ≡ at + len_utf8 c + byte_len (line_with_ending l) = omega (arith, long) in
-    ap (λ k. at ∷ line_starts_from k ls) there ∙ ap (λ t. at ∷ t) rest
+longer_first at c cs l l' ls is long more = grind (arith, common_steps)
 
 pub starts-lines : (at : ℕ) (cs : List ℕ) → line_starts_from at (lines cs) ≡ at ∷ following_ends at cs
 unfolding line_starts_from lines following_ends
@@ -238,21 +209,17 @@ table-split xs m within =
 
 -- At least one line starts before each place except 0.
 pub start_before : (bs next : List ℕ) (m : ℕ) → 0 < length (line_starts_after_bytes 0 (take (suc m) (LF ∷ bs)) next)
-start_before bs next m = subst (λ t. 0 < length t) (sym (following-starts 0 LF (take m bs) next (lf_ends LF (take m bs ++ next) refl))) (omega arith)
+start_before bs next m = grind (arith, common_steps, following-starts, lf_ends)
 
 -- The starts of a text with replaced bytes can be found in three parts: before, in and after the
 -- replaced bytes.
 module _ (bs new : List ℕ) (from to : ℕ) (inside : from < length (LF ∷ bs)) where
   mended_bytes : line_starts_after_bytes 0 (LF ∷ ((take from bs ++ new) ++ drop to bs)) [] ≡ line_starts_after_bytes 0 (take from (LF ∷ bs) ++ ((get_or (LF ∷ bs) from 0 ∷ new) ++ drop to bs)) []
-  mended_bytes =
-      let up : LF ∷ take from bs ≡ take from (LF ∷ bs) ++ (get_or (LF ∷ bs) from 0 ∷ []) = take-suc (LF ∷ bs) from 0 inside in
-      ap (λ t. line_starts_after_bytes 0 t []) (ap (λ t. (t ++ new) ++ drop to bs) up ∙ append_assoc (take from (LF ∷ bs) ++ (get_or (LF ∷ bs) from 0 ∷ [])) new (drop to bs) ∙ append_assoc (take from (LF ∷ bs)) (get_or (LF ∷ bs) from 0 ∷ []) (new ++ drop to bs))
+  mended_bytes = grind (arith, common_steps, take-suc, append_assoc)
 
   mended_front : line_starts_after_bytes 0 (take from (LF ∷ bs)) (((get_or (LF ∷ bs) from 0 ∷ new) ++ drop to bs) ++ []) ≡ line_starts_after_bytes 0 (take from (LF ∷ bs)) (drop from (LF ∷ bs))
   unfolding starts_with_lf
-  mended_front =
-      following-next 0 (take from (LF ∷ bs)) (((get_or (LF ∷ bs) from 0 ∷ new) ++ drop to bs) ++ []) (drop from (LF ∷ bs))
-      (sym (ap starts_with_lf (drop-cons (LF ∷ bs) from 0 inside)))
+  mended_front = grind (arith, common_steps, following-next, drop-cons)
 
   mended_back : line_starts_after_bytes (0 + length (take from (LF ∷ bs))) ((get_or (LF ∷ bs) from 0 ∷ new) ++ drop to bs) [] ≡ line_starts_after_bytes from (get_or (LF ∷ bs) from 0 ∷ new) (drop to bs) ++ map (λ s. s - to + (from + length new)) (line_starts_after_bytes (suc to) (drop to bs) [])
   mended_back =
@@ -265,28 +232,19 @@ module _ (bs new : List ℕ) (from to : ℕ) (inside : from < length (LF ∷ bs)
 -- The starts of a text with replaced bytes are the starts before them, the starts in the new bytes,
 -- and the starts after them.
 pub table-mended : (bs new : List ℕ) (from to : ℕ) → from ≤ length bs → line_starts_after_bytes 0 (LF ∷ ((take from bs ++ new) ++ drop to bs)) [] ≡ line_starts_after_bytes 0 (take from (LF ∷ bs)) (drop from (LF ∷ bs)) ++ (line_starts_after_bytes from (get_or (LF ∷ bs) from 0 ∷ new) (drop to bs) ++ map (λ s. s - to + (from + length new)) (line_starts_after_bytes (suc to) (drop to bs) []))
-table-mended bs new from to within =
-    let inside : from < length (LF ∷ bs) = omega arith in
-    mended_bytes bs new from to inside
-    ∙ following-append 0 (take from (LF ∷ bs)) ((get_or (LF ∷ bs) from 0 ∷ new) ++ drop to bs) []
-    ∙ (λ i. mended_front bs new from to inside i ++ mended_back bs new from to inside i)
+table-mended bs new from to within = grind (arith, common_steps, mended_bytes, following-append, mended_front, mended_back)
 
 -- For the loop that looks for starts, the next byte is enough to decide whether a line ends.
 module _ (found bytes next : List ℕ) (at last i : ℕ) (h : i < length bytes) where
   same_test : ends_line last (get_or bytes i 0 ∷ []) ≡ ends_line last (drop i bytes ++ next)
   unfolding ends_line starts_with_lf
-  same_test = ap (λ t. ends_line last (t ++ next)) (sym (drop_more bytes i 0 h))
+  same_test = grind (arith, common_steps)
 
   pub start_pushed : ends_line last (get_or bytes i 0 ∷ []) ≡ true → (found ++ at ∷ []) ++ line_starts_after_bytes (at + 1) (get_or bytes i 0 ∷ drop (i + 1) bytes) next ≡ found ++ line_starts_after_bytes at (last ∷ drop i bytes) next
-  start_pushed e =
-      append_assoc found (at ∷ []) _
-      ∙ ap (λ t. found ++ at ∷ t) (ap (λ k. line_starts_after_bytes k (get_or bytes i 0 ∷ drop (i + 1) bytes) next) (add-one at) ∙ ap (λ t. line_starts_after_bytes (suc at) t next) (sym (drop_more bytes i 0 h)))
-      ∙ ap (λ t. found ++ t) (sym (following-starts at last (drop i bytes) next (sym same_test ∙ e)))
+  start_pushed e = grind (arith, common_steps, append_assoc, add-one, drop_more, following-starts, same_test)
 
   pub start_passed : ends_line last (get_or bytes i 0 ∷ []) ≡ false → found ++ line_starts_after_bytes (at + 1) (get_or bytes i 0 ∷ drop (i + 1) bytes) next ≡ found ++ line_starts_after_bytes at (last ∷ drop i bytes) next
-  start_passed e =
-      ap (λ t. found ++ t) (ap (λ k. line_starts_after_bytes k (get_or bytes i 0 ∷ drop (i + 1) bytes) next) (add-one at) ∙ ap (λ t. line_starts_after_bytes (suc at) t next) (sym (drop_more bytes i 0 h))
-      ∙ sym (following-none at last (drop i bytes) next (sym same_test ∙ e)))
+  start_passed e = grind (arith, common_steps, add-one, drop_more, following-none, same_test)
 
 -- At the end of the bytes, the first following byte is enough to decide whether a line ends.
 pub last_test : (last : ℕ) (next : List ℕ) → ends_line last (option_to_list (slice_get next 0)) ≡ ends_line last next

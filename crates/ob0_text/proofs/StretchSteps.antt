@@ -1,11 +1,12 @@
 -- Proves that a step over all characters of a stretch preserves the invariants of passes.
-use Rattle.std.proofs.Common.{◌≡◌, ℕ, ◌+◌, ◌-◌, ◌≤◌, List, [], ◌∷◌, ◌++◌, length, take, drop, sym, ap, ◌∙◌, subst, append_assoc, arith, length-drop}
+use Rattle.std.proofs.lemmas.Grind.{common_steps}
+use Rattle.std.proofs.Common.{◌≡◌, ℕ, ◌+◌, ◌-◌, ◌≤◌, List, [], ◌∷◌, ◌++◌, length, take, drop, sym, ap, ◌∙◌, subst, append_assoc, arith}
 use Rattle.std.specs.Prelude.{encode_utf8, encode_utf8_all, sum_by}
 use Rattle.std.specs.List.{All}
 use Rattle.std.specs.Char.{len_utf8}
 use Rattle.std.specs.Str.{chars}
 use Rattle.std.proofs.lemmas.Bool.Decides.{nat_tests}
-use Rattle.std.proofs.lemmas.List.{length-take-le, take-append-drop, drop-drop}
+use Rattle.std.proofs.lemmas.List.{take-append-drop, drop-drop}
 use Rattle.std.proofs.lemmas.List.Sums.{sum_by-cons}
 use Rattle.std.proofs.lemmas.List.Elements.{All-head, All-tail}
 use Rattle.std.proofs.lemmas.Str.{encodes-chars}
@@ -30,7 +31,7 @@ module _ (width : ℕ → ℕ) (text : List ℕ) where
 
     long : length piece ≡ s.end - from
     unfolding piece
-    long = length-take-le (s.end - from) (drop from text) (omega (arith, length-drop from text, is.inside))
+    long = grind (arith, common_steps)
 
     split : drop from text ≡ encode_utf8_all (chars piece) ++ drop s.end text
     unfolding piece

@@ -1,8 +1,8 @@
 -- Proves that a character has at least one unit, and at most as many units as bytes in UTF-8.
+use Rattle.std.proofs.lemmas.Grind.{common_steps}
 use Rattle.std.proofs.Common.{ℕ, ◌<◌, ◌≤◌, arith}
 use Rattle.std.specs.Char.{len_utf8}
 use Rattle.std.proofs.lemmas.Bool.Decides.{nat_tests}
-use Rattle.std.proofs.lemmas.Str.{len_utf8_bounds}
 use Rattle.ob0_text.specs.declared.position_types.Unit.{Unit}
 use Rattle.ob0_text.specs.declared.position_types.Unit.TheVariants.{Utf16, Utf8}
 use Rattle.ob0_text.specs.Texts.{utf16_width}
@@ -20,5 +20,4 @@ narrow Utf16 c = narrow_utf16 c
 narrow Utf8 c = omega arith
 
 pub wide : (u : Unit) (c : ℕ) → 0 < width_of u c
-wide Utf16 c = wide_utf16 c
-wide Utf8 c = omega (arith, (len_utf8_bounds c).0)
+wide u c = grind (arith, common_steps)
