@@ -308,7 +308,7 @@ class Talk:
 
 
 def spread(taken: Iterable[float]) -> str:
-    """Formats the least, the median and the greatest of these seconds as milliseconds."""
+    """Formats the minimum, median and maximum of these times, given in seconds, as milliseconds."""
     taken = sorted(taken)
     return ", ".join(f"{1000 * taken[at]:.1f}" for at in (0, len(taken) // 2, -1))
 

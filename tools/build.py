@@ -321,7 +321,7 @@ class Work:
         os.makedirs(self.moved, exist_ok=True)
 
     def leave(self) -> None:
-        """Moves the proved work back to the crate's own folder, and removes the separate one."""
+        """Moves the folder with the kept proofs back to the crate's own folder, and removes the separate folder."""
         if os.path.isdir(self.moved):
             shutil.rmtree(self.out, ignore_errors=True)
             os.rename(self.moved, self.out)
@@ -475,7 +475,8 @@ class Plan:
 
 
 def prove_all(running: dict[str, Work], plan: Plan, came: list[int]) -> int:
-    """Proves the crates of a plan, until a signal arrives. Returns the exit status."""
+    """Proves the crates of a plan. Stops early if a signal arrives or, in a build, at the first failure. Returns the
+    exit status."""
     failed: list[str] = []
     ready, most, shown_at = plan.ready(running), lanes(), time.monotonic()
     plan.say(f"{len(plan.done)} of {len(plan.all)} crates are up to date")

@@ -86,8 +86,8 @@ class Said:
         return [line for line, at in errors if at and at[1].startswith(starts)]
 
     def refusing(self, symbol: str, proof: str) -> list[str]:
-        """Returns the goals because of which a function is refused: the unproved ones, and those whose answer in its
-        proof fails although all names in the answer exist."""
+        """Returns the goals that cause a function to be refused: those that aren't proved, and those whose written
+        answer in the proof fails, unless it fails because a name in it no longer exists."""
         found = self.goals(symbol)
         for line in self.proof_errors(symbol, proof):
             at = ERROR.match(line)

@@ -65,8 +65,8 @@ def interrupt(top: int) -> None:
 
 
 def end_tree(top: int) -> None:
-    """Kills a process that has adopted its orphans, and all its descendants. (The process is stopped first, so that it
-    starts no others.)"""
+    """Kills a process and all its descendants. The process must have called `adopt_orphans`, because otherwise
+    orphaned descendants aren't found. (It is stopped first, so that it starts no more processes.)"""
     with suppress(OSError):
         os.kill(top, signal.SIGSTOP)
     end_descendants(top)

@@ -83,7 +83,7 @@ class Mutants:
 
     @property
     def stale(self) -> List[str]:
-        """Returns the paths of the forms whose rows aren't current, in order."""
+        """Returns the paths of the mutants and right forms whose rows aren't current, sorted."""
         return [it for it in sorted(self.edits) if not self.is_current(it)]
 
     @property

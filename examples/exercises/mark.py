@@ -47,7 +47,7 @@ Lines = List[List[str]]
 
 
 class Refused(Exception):
-    """Raised if the inputs of the exercises can't be used."""
+    """Raised if the exercises' inputs or the program can't be used."""
 
 
 class Unprinted(Exception):

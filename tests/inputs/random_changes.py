@@ -254,8 +254,8 @@ def first_text(seed: int, chance: random.Random) -> str:
 
 
 def converse(seed: int) -> Counter[str]:
-    """Holds one conversation, and compares both servers after each change. Returns how many changes were of each kind
-    (`ways`), and how many texts were valid."""
+    """Holds one conversation, and after each change compares the server with one that reads the text for the first
+    time. Returns how often each kind of change (`ways`) and of error occurred, and how many texts were valid."""
     chance = random.Random(f"changes {seed}")
     edited = Edited(first_text(seed, chance), chance)
     found: Counter[str] = collections.Counter()

@@ -61,8 +61,8 @@ def is_module(text: str) -> bool:
 
 
 def changed_body(old: Lexed, new: Lexed) -> tuple[str, Optional[Body]]:
-    """Returns the kind of a change after which all tokens have the same kinds as before (REFUSED, BODY or
-    DECLARATIONS), and the changed body of the new text if the kind is BODY, otherwise None."""
+    """Classifies a change that leaves the kind of every token unchanged, as REFUSED, BODY or DECLARATIONS. Returns
+    that, and for BODY the changed body of the new text, otherwise None."""
     tree = tree_of(new)
     if tree is None:
         return REFUSED, None
@@ -134,8 +134,8 @@ NAMES = ("Duplicate", "Undeclared", "EndName")
 
 
 def faults_about(published: list[Message], text: str, body: Body) -> set[str]:
-    """Returns which errors a module has: for each, whether it is about names or types, and whether it is before, in or
-    after a body."""
+    """Returns the kinds of a module's errors, such as 'names before it': errors about names or about types, before,
+    in or after a body."""
     starts = [0]
     for line in text.splitlines(keepends=True):
         starts.append(starts[-1] + len(line))
